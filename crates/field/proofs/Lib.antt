@@ -1,0 +1,3 @@
+pub mod Solve
+pub mod Primes
+pub mod Inverse

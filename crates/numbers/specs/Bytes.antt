@@ -1,0 +1,46 @@
+-- Numbers in bytes (document 01: two-byte numbers are unsigned, low byte first).
+use Prim.Native.Nat.{ℕ, zero, suc, _+_, _*_, _/_, _%_}
+use mathlib.Core.Bool.{Bool, true, false, cond}
+use mathlib.Core.List.{List, [], _∷_}
+use lib.Dec.{eqb, leb, ltb}
+use lib.ListN.{length, getD, set}
+use Rattle.numbers.specs.Tables.{tab, firstFailing}
+use Rattle.numbers.specs.declared.Found.{Found}
+
+-- the two-byte number at an offset
+unfoldable pub wordAt : List ℕ → ℕ → ℕ
+wordAt bs at = getD bs at 0 + 256 * getD bs (at + 1) 0
+
+-- bytes that one number of a list takes
+abbrev pub width : ℕ
+width = 2
+
+-- above every number of a list
+abbrev pub limit : ℕ
+limit = 65536
+
+-- the numbers of a list that is lent as bytes; an odd byte at the end is none
+unfoldable pub numbers : List ℕ → List ℕ
+numbers bs = tab (λ i. wordAt bs (width * i)) (length bs / width)
+
+-- a list of numbers as bytes
+unfoldable pub bytesOf : List ℕ → List ℕ
+bytesOf [] = []
+bytesOf (x ∷ xs) = x % 256 ∷ x / 256 % 256 ∷ bytesOf xs
+
+-- whether these bytes are a list of k numbers
+unfoldable pub holdsCount : ℕ → List ℕ → Bool
+holdsCount k bs = eqb (length bs) (width * k)
+
+-- the bytes after number i is set to v; past the end nothing changes
+unfoldable pub stored : List ℕ → ℕ → ℕ → List ℕ
+stored bs i v = cond (leb (width * i + width) (length bs)) (set (set bs (width * i) (v % 256)) (width * i + 1) (v / 256 % 256)) bs
+
+-- the first number of a list that isn't below p
+unfoldable pub firstOver : ℕ → List ℕ → Found
+firstOver p xs = firstFailing (λ i. ltb (getD xs i 0) p) (length xs)
+
+-- whether every number of a list is below p
+unfoldable pub allBelow : ℕ → List ℕ → Bool
+allBelow p [] = true
+allBelow p (x ∷ xs) = cond (ltb x p) (allBelow p xs) false

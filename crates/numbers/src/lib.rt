@@ -1,0 +1,5 @@
+// What a search answers.
+pub enum Found {
+    At(usize),
+    Nothing,
+}

@@ -1,0 +1,5 @@
+pub mod Polys
+pub mod Interpolation
+pub mod Roots
+pub mod Deltas
+pub mod Shares
