@@ -1,0 +1,4 @@
+pub mod Refusals
+pub mod Plans
+pub mod File
+pub mod Coalitions

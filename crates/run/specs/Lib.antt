@@ -1,0 +1,4 @@
+pub mod Rounds
+pub mod Ideal
+pub mod Shares
+pub mod BenchCalls

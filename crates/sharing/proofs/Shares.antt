@@ -10,7 +10,8 @@ use Rattle.field.specs.Mod.{add, mul, sub}
 use Rattle.field.specs.Prime.{Prime, inv}
 use Rattle.sharing.specs.Poly.{eval, sumOf, scale, product, linear}
 use Rattle.sharing.specs.Interp.{All, Distinct, weights, dot, interpolate, delta}
-use Rattle.sharing.specs.Sharing.{pointsFrom, deal, mixture, matched}
+use Rattle.sharing.specs.Sharing.{deal, mixture, matched}
+use Rattle.numbers.specs.Tables.{tab}
 use Rattle.field.proofs.Solve.{Canon, below, add-canon, #, quote, solve, combine}
 use Rattle.field.proofs.Inverse.{pos, one-canon}
 use Rattle.sharing.proofs.Polys.{eval-canon, eval-sum, eval-scale, eval-product, length-sum, length-scale, length-product}
@@ -18,21 +19,28 @@ use Rattle.sharing.proofs.Interpolation.{interpolation}
 use Rattle.sharing.proofs.Roots.{through, through-values, length-through}
 use Rattle.sharing.proofs.Deltas.{delta-at-0, delta-at, length-delta}
 
--- ---- the points
-points-away : (p x a n : ℕ) → x < a → a + n ≤ p → All (λ y. y % p ≢ x % p) (pointsFrom a n)
-unfolding pointsFrom
-points-away p x a zero lt le = tt
-points-away p x a (suc n) lt le = (λ e. omega (arith, mod-eq-of-lt {n = a} {m = p} (omega arith), mod-eq-of-lt {n = x} {m = p} (omega arith)), points-away p x (suc a) n (omega arith) (omega arith))
+-- ---- the points a, a + 1, ..
+points-away : (p x a n : ℕ) (f : ℕ → ℕ) → ((k : ℕ) → f k ≡ a + k) → x < a → a + n ≤ p → All (λ y. y % p ≢ x % p) (tab f n)
+unfolding tab
+points-away p x a zero f is lt le = tt
+points-away p x a (suc n) f is lt le =
+    let e : f 0 ≡ a = omega (arith, is 0) in (
+      λ q. omega (arith, rw e at q, mod-eq-of-lt {n = a} {m = p} (omega arith), mod-eq-of-lt {n = x} {m = p} (omega arith)),
+      points-away p x (suc a) n (λ k. f (suc k)) (λ k. omega (arith, is (suc k))) (omega arith) (omega arith),
+    )
 
-pub points-distinct : (p a n : ℕ) → a + n ≤ p → Distinct p (pointsFrom a n)
-unfolding pointsFrom
-points-distinct p a zero le = tt
-points-distinct p a (suc n) le = (points-away p a (suc a) n (omega arith) (omega arith), points-distinct p (suc a) n (omega arith))
+distinct-from : (p a n : ℕ) (f : ℕ → ℕ) → ((k : ℕ) → f k ≡ a + k) → a + n ≤ p → Distinct p (tab f n)
+unfolding tab
+distinct-from p a zero f is le = tt
+distinct-from p a (suc n) f is le =
+    let e : f 0 ≡ a = omega (arith, is 0) in (
+      rw e (points-away p a (suc a) n (λ k. f (suc k)) (λ k. omega (arith, is (suc k))) (omega arith) (omega arith)),
+      distinct-from p (suc a) n (λ k. f (suc k)) (λ k. omega (arith, is (suc k))) (omega arith),
+    )
 
-pub length-points : (a n : ℕ) → length (pointsFrom a n) ≡ n
-unfolding pointsFrom
-length-points a zero = refl
-length-points a (suc n) = ap suc (length-points (suc a) n)
+-- 1 to n are distinct modulo p where n is below p
+pub points-distinct : (p n : ℕ) → n < p → Distinct p (tab suc n)
+points-distinct p n lt = distinct-from p 1 n suc (λ k. omega arith) (omega arith)
 
 -- ---- mixtures
 pub eval-mixture : (p : ℕ) (ws : List ℕ) (fs : List (List ℕ)) (x : ℕ) → eval p (mixture p ws fs) x ≡ dot p ws (map (λ f. eval p f x) fs)

@@ -1,18 +1,25 @@
--- Sharing: points, dealings, and what is made of them.
-use mathlib.Core.Path.{_≡_}
+-- Shamir's sharing (document 01, "Arithmetic, coins and shares"): dealings, opening, and the coins of a matched dealing.
 use mathlib.Core.List.{List, [], _∷_, map, tail}
-use Prim.Native.Nat.{ℕ, zero, suc}
+use Prim.Native.Nat.{ℕ, zero, suc, _+_}
+use lib.Dec.{eqb}
+use lib.ListN.{length, take, getD}
+use Rattle.numbers.specs.declared.Found.{Found}
+use Rattle.numbers.specs.Tables.{firstFailing}
 use Rattle.sharing.specs.Poly.{eval, sumOf, scale}
-use Rattle.sharing.specs.Interp.{delta}
+use Rattle.sharing.specs.Interp.{interpolate, delta}
 
--- n points from a on: a, a + 1, ..
-unfoldable pub pointsFrom : ℕ → ℕ → List ℕ
-pointsFrom a zero = []
-pointsFrom a (suc n) = a ∷ pointsFrom (suc a) n
-
--- the dealing of s with the given coins, to the points xs
+-- the dealing of s with the given coins: its shares at the points xs
 unfoldable pub deal : ℕ → ℕ → List ℕ → List ℕ → List ℕ
 deal p s coins xs = map (eval p (s ∷ coins)) xs
+
+-- the opening of a value from the shares at the first t + 1 points
+unfoldable pub opened : ℕ → ℕ → List ℕ → List ℕ → ℕ
+opened p t points shares = interpolate p 0 (take (t + 1) points) shares
+
+-- the first party, counted from 0, whose share isn't on the polynomial through the shares at the first t + 1 points
+unfoldable pub firstOff : ℕ → ℕ → List ℕ → List ℕ → Found
+firstOff p t points shares =
+    firstFailing (λ i. eqb (getD shares i 0) (interpolate p (getD points i 0) (take (t + 1) points) shares)) (length points)
 
 -- the weighted sum of polynomials
 unfoldable pub mixture : ℕ → List ℕ → List (List ℕ) → List ℕ
@@ -20,6 +27,6 @@ mixture p [] fs = []
 mixture p (w ∷ ws) [] = []
 mixture p (w ∷ ws) (f ∷ fs) = sumOf p (scale p w f) (mixture p ws fs)
 
--- the coins of the matched dealing, whose dealt value is d more: d times the coefficient of X^j of delta, added to coin j
+-- the coins of the matched dealing, whose dealt value is d more: d times delta's coefficient of X^j, added to coin j
 unfoldable pub matched : ℕ → List ℕ → ℕ → List ℕ → List ℕ
 matched p cs d coins = sumOf p coins (scale p d (tail (delta p cs)))

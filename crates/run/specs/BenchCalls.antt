@@ -1,0 +1,54 @@
+-- The bench as its caller sees it: the first refusal or none, the elements sent, and the lent buffer afterwards.
+use Prim.Native.Nat.{ℕ, _+_, _*_}
+use mathlib.Core.List.{List, [], _∷_, _++_}
+use lib.Dec.{eqb}
+use lib.ListN.{length}
+use Rattle.numbers.specs.Bytes.{numbers, bytesOf, holdsCount, firstOver}
+use Rattle.plan.specs.declared.Checked.{Checked}
+use Rattle.plan.specs.declared.Checked.the-variants.{Passed, Refused}
+use Rattle.plan.specs.declared.Refusal.the-variants as refusal
+use Rattle.plan.specs.Refusals.{firstOf, need, unlessFound}
+use Rattle.plan.specs.Plans.{Plan, partyCount, dealerCount, multiplies, inputCount, coinCount, ownInputCount, ownCoinCount, ownOutCount, sentCount}
+use Rattle.plan.specs.File.{planChecks, planOf}
+use Rattle.plan.specs.Coalitions.{members, setOk}
+use Rattle.party.specs.Calls.{unlessRefused}
+use Rattle.run.specs.Rounds.{view}
+
+-- the numbers of party i's view: inputs, coins, mail, results
+unfoldable pub viewCountOf : Plan → ℕ → ℕ
+viewCountOf plan i =
+    ownInputCount plan i + (ownCoinCount plan i
+    + ((inputCount plan + multiplies plan * dealerCount plan + partyCount plan * ownOutCount plan i) + ownOutCount plan i))
+
+-- of a coalition's view
+unfoldable pub viewCount : Plan → List ℕ → ℕ
+viewCount plan [] = 0
+viewCount plan (i ∷ is) = viewCountOf plan i + viewCount plan is
+
+-- refusals 9 to 13 and 19
+unfoldable pub runChecks : Plan → ℕ → List ℕ → List ℕ → ℕ → List Checked
+runChecks plan set xs coins room =
+    need refusal.Coalition (setOk plan set)
+    ∷ need refusal.InputCount (holdsCount (inputCount plan) xs)
+    ∷ unlessFound refusal.InputValue (firstOver (plan .p) (numbers xs))
+    ∷ need refusal.CoinCount (holdsCount (coinCount plan) coins)
+    ∷ unlessFound refusal.CoinValue (firstOver (plan .p) (numbers coins))
+    ∷ need refusal.BufferLength (eqb room (2 * viewCount plan (members set)))
+    ∷ []
+
+unfoldable pub benchAnswer : List ℕ → ℕ → List ℕ → List ℕ → ℕ → Checked
+benchAnswer bs set xs coins room = firstOf (planChecks bs ++ runChecks (planOf bs) set xs coins room)
+
+-- elements sent; a refusal counts 0
+unfoldable pub sentUnlessRefused : Checked → ℕ → ℕ
+sentUnlessRefused Passed sent = sent
+sentUnlessRefused (Refused r) sent = 0
+
+unfoldable pub benchSent : List ℕ → ℕ → List ℕ → List ℕ → ℕ → ℕ
+benchSent bs set xs coins room = sentUnlessRefused (benchAnswer bs set xs coins room) (sentCount (planOf bs))
+
+-- the lent buffer afterwards: the coalition's view of the run of separate calls
+unfoldable pub viewAfter : List ℕ → ℕ → List ℕ → List ℕ → List ℕ → List ℕ
+viewAfter bs set xs coins out =
+    unlessRefused (benchAnswer bs set xs coins (length out))
+    (bytesOf (view (planOf bs) (members set) (numbers xs) (numbers coins))) out
