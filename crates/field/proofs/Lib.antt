@@ -1,3 +1,5 @@
 pub mod Solve
 pub mod Primes
 pub mod Inverse
+pub mod Products
+pub mod Elements
