@@ -1,7 +1,7 @@
 -- The field's constructor and methods, in the code's terms.
 use mathlib.Core.Path.{_≡_, refl, sym, ap, _∙_}
 use mathlib.Core.Bool.{Bool, true, false, _&&_, cond}
-use Prim.Native.Nat.{ℕ, _+_, _-_, _*_, _/_, _%_, _≤_, _<_}
+use Prim.Native.Nat.{ℕ, _+_, _-_, _*_, _/_, _%_, _^_, _≤_, _<_}
 use native.Mathlib.Nat.{mod-lt, div-lt-self}
 use native.Mathlib.Omega.{arith}
 use borrow.Author.Needs.{needs}
@@ -59,7 +59,10 @@ sub-is-down p a b h k = record { eq = sym (sub-down p a b h k); lt = omega arith
 pub sub-is-over : (p a b : ℕ) → a < b → b < p → Is p (sub p a b) (a + p - b)
 sub-is-over p a b h k = record { eq = sym (sub-over p a b h k); lt = omega arith }
 
-pub ruleset methods = (needs, element-is, add-is, mul-is, sub-is-down, sub-is-over, made-above, made-field, made-refused)
+pub product-fits : (p a b : ℕ) → p < fieldLimit → a < p → b < p → a * b < 2 ^ 64
+product-fits p a b small l r = omega (arith, word a b (omega arith) (omega arith))
+
+pub ruleset methods = (needs, product-fits, element-is, add-is, mul-is, sub-is-down, sub-is-over, made-above, made-field, made-refused)
 
 -- ---- the loop of `inverse`: acc / r is the inverse
 pub record Inverting (p a acc r : ℕ) : Type 0 where
@@ -70,8 +73,8 @@ pub record Inverting (p a acc r : ℕ) : Type 0 where
 pub inverting-start : (p a : ℕ) → 1 < p → a < p → Inverting p a 1 a
 inverting-start p a above below = let pos : 0 < p = omega arith in record { quotient = above; rest = below; same = solve p (search (quote, inv-canon, # (inv p a))) (omega arith) }
 
-pub inverting-more : (p a acc r m t : ℕ) → Inverting p a acc r → 1 < r → Is p (sub p 0 (p / r)) m → Is p (mul p acc m) t → Inverting p a t (p % r)
-inverting-more p a acc r m t i lo em et =
+pub inverting-more : (p a acc r m t : ℕ) → Is p (mul p acc m) t → Is p (sub p 0 (p / r)) m → Inverting p a acc r → 1 < r → Inverting p a t (p % r)
+inverting-more p a acc r m t et em i lo =
     let pos : 0 < p = omega (arith, i .rest) in
     record {
       quotient = et .lt;
@@ -85,4 +88,7 @@ inverting-end p a acc r t i le e = record { eq = e .eq ∙ ap (mul p acc) (sym (
 pub quotient-below : (p r : ℕ) → 1 < p → 1 < r → p / r < p
 quotient-below p r h k = div-lt-self (omega arith) k
 
-pub ruleset inverting = (needs, inverting-start, inverting-more, inverting-end, quotient-below)
+pub rest-falls : (p r : ℕ) → 1 < r → p % r < r
+rest-falls p r h = mod-lt p (omega arith)
+
+pub ruleset inverting = (needs, rest-falls, inverting-start, inverting-more, inverting-end, quotient-below)

@@ -3,3 +3,4 @@ pub mod Primes
 pub mod Inverse
 pub mod Products
 pub mod Elements
+pub mod Worked

@@ -3,10 +3,11 @@ use mathlib.Core.Path.{_≡_, refl, sym, ap, _∙_}
 use mathlib.Core.Logic.{_≢_, _⊎_, inl, inr}
 use native.Mathlib.Decide.{decLe}
 use mathlib.Core.Bool.{Bool, true, false, _&&_}
-use Prim.Native.Nat.{ℕ, zero, suc, _+_, _-_, _*_, _/_, _%_, _≤_, _<_}
+use Prim.Native.Nat.{ℕ, zero, suc, _+_, _-_, _*_, _/_, _%_, _^_, _≤_, _<_}
 use native.Mathlib.Nat.{zero-mul, lt-of-mul-lt-mul-right, mul-le-mul-left, mul-le-mul-right, eq-or-lt-of-le, div-add-mod', mul-le-mul, mul-mod-left}
 use native.Mathlib.Numerals.{add-one}
 use native.Mathlib.Omega.{arith}
+use borrow.Author.Needs.{needs}
 use borrow.Author.Tests.{ltb-true, ltb-false, eqb-true, eqb-false, lt-ltb, le-ltb, eq-eqb, ne-eqb}
 use lib.Dec.{T, ltb, eqb, ltb→lt, lt→ltb}
 use Rattle.field.specs.declared.Divisor.{Divisor}
@@ -135,43 +136,69 @@ prime-complete p prime = and-join (ltb 1 p) (isNothing (divisorOf p)) (lt→ltb 
         let l : Least 2 p d = found-least p d e in
         absurd (prime .undivided-by d (l .from) (omega (arith, l .square, mul-le-mul-right d (l .from))) (l .divides))
 
--- ---- for the code
-pub divisor-begin : (p : ℕ) → divisorFrom (p + 2 - 2) 2 p ≡ divisorOf p
+-- ---- the loop of `least_divisor`: the search from d on gives the same as the search from 2 on
+pub record Searching (p d : ℕ) : Type 0 where
+  pub from : 2 ≤ d
+  pub word : d ≤ 65536
+  pub same : divisorFrom (p + 2 - d) d p ≡ divisorOf p
+
+pub searching-start : (p : ℕ) → Searching p 2
 unfolding divisorOf
-divisor-begin p = let q : p + 2 - 2 ≡ p = omega arith in rw q
-
-fuel : (d p : ℕ) → 2 ≤ d → d * d ≤ p → p + 2 - d ≡ suc (p + 2 - (d + 1))
-fuel d p l h = omega (arith, mul-le-mul-right d l)
-
-pub divisor-hit : (d p : ℕ) → 2 ≤ d → d * d ≤ p → p % d ≡ 0 → divisorFrom (p + 2 - d) d p ≡ Found d
-divisor-hit d p l h e = rw (fuel d p l h) (divisor-here (p + 2 - (d + 1)) d p h e)
-
-pub divisor-miss : (d p : ℕ) → 2 ≤ d → d * d ≤ p → p % d ≢ 0 → divisorFrom (p + 2 - (d + 1)) (d + 1) p ≡ divisorFrom (p + 2 - d) d p
-divisor-miss d p l h e = rw (fuel d p l h, divisor-later (p + 2 - (d + 1)) d p h e, add-one d)
+searching-start p = let q : p + 2 - 2 ≡ p = omega arith in record { from = omega arith; word = omega arith; same = rw q }
 
 -- a candidate whose square does not pass p
-pub root-below : (d p : ℕ) → 2 ≤ d → d * d ≤ p → d ≤ p
+root-below : (d p : ℕ) → 2 ≤ d → d * d ≤ p → d < p
 root-below d p l h = omega (arith, mul-le-mul-right d l)
 
-pub root-small : (d p : ℕ) → p < 4294967296 → d * d ≤ p → d < 65536
-root-small d p small sq = pick (decLe 65536 d)
+root-word : (d p : ℕ) → p < 2 ^ 32 → d * d ≤ p → d < 65536
+root-word d p small sq = pick (decLe 65536 d)
   where
     pick : Dec (65536 ≤ d) → d < 65536
     pick (yes le) = absurd (omega (arith, mul-le-mul le le))
     pick (no lt) = omega arith
 
-pub below-two : (p : ℕ) → p < 2 → false ≡ isPrime p
-unfolding isPrime
-below-two p lt = rw (le-ltb 1 p (omega arith))
+fuel : (d p : ℕ) → 2 ≤ d → d * d ≤ p → p + 2 - d ≡ suc (p + 2 - (d + 1))
+fuel d p l h = omega (arith, root-below d p l h)
 
-pub found-not-prime : (p d : ℕ) → Found d ≡ divisorOf p → false ≡ isPrime p
+pub searching-fits : (p d : ℕ) → Searching p d → d * d < 2 ^ 64
+searching-fits p d s = omega (arith, mul-le-mul (s .word) (s .word))
+
+pub searching-past : (p d : ℕ) → Searching p d → p < d * d → Nothing ≡ divisorOf p
+searching-past p d s h = sym (divisor-past (p + 2 - d) d p h) ∙ s .same
+
+pub searching-found : (p d : ℕ) → Searching p d → d * d ≤ p → p % d ≡ 0 → Found d ≡ divisorOf p
+searching-found p d s h e = sym (rw (fuel d p (s .from) h) (divisor-here (p + 2 - (d + 1)) d p h e)) ∙ s .same
+
+pub searching-later : (p d : ℕ) → p < 2 ^ 32 → Searching p d → d * d ≤ p → p % d ≢ 0 → Searching p (d + 1)
+searching-later p d small s h e = record {
+  from = omega (arith, s .from);
+  word = omega (arith, root-word d p small h);
+  same = sym (rw (fuel d p (s .from) h, divisor-later (p + 2 - (d + 1)) d p h e, add-one d)) ∙ s .same;
+}
+
+pub searching-next-fits : (p d : ℕ) → p < 2 ^ 32 → d * d ≤ p → d + 1 < 2 ^ 64
+searching-next-fits p d small h = omega (arith, root-word d p small h)
+
+pub searching-falls : (p d : ℕ) → Searching p d → d * d ≤ p → p - (d + 1) < p - d
+searching-falls p d s h = omega (arith, root-below d p (s .from) h)
+
+pub ruleset searching = (needs, searching-start, searching-fits, searching-past, searching-found, searching-later, searching-next-fits, searching-falls)
+
+-- ---- the answers of `is_prime`
+pub small-not-prime : (p : ℕ) → p < 2 → false ≡ isPrime p
 unfolding isPrime
-found-not-prime p d e = rw (← e) (pick (ltb 1 p))
+small-not-prime p lt = rw (le-ltb 1 p (omega arith))
+
+pub found-not-prime : (p d : ℕ) (o : Divisor) → o ≡ divisorOf p → o ≡ Found d → false ≡ isPrime p
+unfolding isPrime
+found-not-prime p d o e f = rw (← e, f) (pick (ltb 1 p))
   where
     pick : (b : Bool) → false ≡ (b && false)
     pick true = refl
     pick false = refl
 
-pub nothing-prime : (p : ℕ) → 2 ≤ p → Nothing ≡ divisorOf p → true ≡ isPrime p
+pub nothing-prime : (p : ℕ) (o : Divisor) → 2 ≤ p → o ≡ divisorOf p → o ≡ Nothing → true ≡ isPrime p
 unfolding isPrime
-nothing-prime p lo e = rw (lt-ltb 1 p lo, ← e)
+nothing-prime p o lo e f = rw (lt-ltb 1 p lo, ← e, f)
+
+pub ruleset deciding = (needs, small-not-prime, found-not-prime, nothing-prime)
