@@ -42,27 +42,27 @@ made-prime p f h = pick (ltb p fieldLimit) (isPrime p) refl refl h
     pick false c e q h = let z : _≡_ {A = ℕ} 0 1 = cc in absurd (omega arith)
 
 -- ---- the methods
-pub element-is : (p x : ℕ) → 0 < p → Is p (x % p) (x % p)
-element-is p x pos = record { eq = refl; lt = mod-lt x pos }
+pub is-element : (p x : ℕ) → 0 < p → Is p (x % p) (x % p)
+is-element p x pos = record { eq = refl; lt = mod-lt x pos }
 
-pub add-is : (p a b : ℕ) → 1 < p → Is p (add p a b) ((a + b) % p)
+pub is-add : (p a b : ℕ) → 1 < p → Is p (add p a b) ((a + b) % p)
 unfolding add
-add-is p a b h = element-is p (a + b) (omega arith)
+is-add p a b h = is-element p (a + b) (omega arith)
 
-pub mul-is : (p a b : ℕ) → 1 < p → Is p (mul p a b) (a * b % p)
+pub is-mul : (p a b : ℕ) → 1 < p → Is p (mul p a b) (a * b % p)
 unfolding mul
-mul-is p a b h = element-is p (a * b) (omega arith)
+is-mul p a b h = is-element p (a * b) (omega arith)
 
-pub sub-is-down : (p a b : ℕ) → b ≤ a → a < p → Is p (sub p a b) (a - b)
-sub-is-down p a b h k = record { eq = sym (sub-down p a b h k); lt = omega arith }
+pub is-sub-down : (p a b : ℕ) → b ≤ a → a < p → Is p (sub p a b) (a - b)
+is-sub-down p a b h k = record { eq = sym (sub-down p a b h k); lt = omega arith }
 
-pub sub-is-over : (p a b : ℕ) → a < b → b < p → Is p (sub p a b) (a + p - b)
-sub-is-over p a b h k = record { eq = sym (sub-over p a b h k); lt = omega arith }
+pub is-sub-over : (p a b : ℕ) → a < b → b < p → Is p (sub p a b) (a + p - b)
+is-sub-over p a b h k = record { eq = sym (sub-over p a b h k); lt = omega arith }
 
 pub product-fits : (p a b : ℕ) → p < fieldLimit → a < p → b < p → a * b < 2 ^ 64
 product-fits p a b small l r = omega (arith, word a b (omega arith) (omega arith))
 
-pub ruleset methods = (needs, product-fits, element-is, add-is, mul-is, sub-is-down, sub-is-over, made-above, made-field, made-refused)
+pub ruleset methods = (needs, product-fits, is-element, is-add, is-mul, is-sub-down, is-sub-over, made-above, made-field, made-refused)
 
 -- ---- the loop of `inverse`: acc / r is the inverse
 pub record Inverting (p a acc r : ℕ) : Type 0 where
