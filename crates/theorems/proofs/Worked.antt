@@ -4,7 +4,7 @@ use mathlib.Core.List.{List, [], _∷_, _++_, map, flatMap}
 use Rattle.numbers.specs.Tables.{tab, firstFrom, firstFailing, countWhere}
 use Rattle.numbers.specs.Bytes.{wordAt, numbers, bytesOf, holdsCount, firstOver, allBelow}
 use Rattle.field.specs.Mod.{add, mul, sub}
-use Rattle.field.specs.Prime.{isPrime, undivided, inv, invert}
+use Rattle.field.specs.Prime.{isPrime, divisorFrom, divisorOf, inv, invert}
 use Rattle.sharing.specs.Poly.{eval, sumOf, scale, linear}
 use Rattle.sharing.specs.Interp.{factor, weight, weights, dot, interpolate, delta}
 use Rattle.sharing.specs.Sharing.{matched, opened, firstOff}
@@ -27,7 +27,7 @@ body : List ℕ
 body = 1 ∷ 0 ∷ 1 ∷ 0 ∷ 0 ∷ 0 ∷ 1 ∷ 0 ∷ 2 ∷ 0 ∷ 0 ∷ 0 ∷ 5 ∷ 0 ∷ 0 ∷ 0 ∷ 1 ∷ 0 ∷ 2 ∷ 0 ∷ 2 ∷ 0 ∷ 0 ∷ 0 ∷ 3 ∷ 3 ∷ 0 ∷ []
 
 k-passes : planCheck (header 3 1 11 0 ++ body) ≡ Passed
-unfolding header body planCheck firstOf andThen planChecks need unlessFound firstFailing firstFrom magic sameBytes between gateOf gateAt outAt gateOk outOk layoutOk wordAt isPrime undivided
+unfolding header body planCheck firstOf andThen planChecks need unlessFound firstFailing firstFrom magic sameBytes between gateOf gateAt outAt gateOk outOk layoutOk wordAt isPrime divisorOf divisorFrom
 k-passes = refl
 
 p3 : view (planOf (header 3 1 11 0 ++ body)) (3 ∷ []) (4 ∷ 5 ∷ []) (2 ∷ 3 ∷ 1 ∷ 5 ∷ 7 ∷ []) ≡ 7 ∷ 10 ∷ 3 ∷ 7 ∷ 4 ∷ 7 ∷ 10 ∷ 7 ∷ 4 ∷ 2 ∷ []
