@@ -1,3 +1,6 @@
 pub mod Tables
 pub mod Searches
 pub mod Counts
+pub mod Bytes
+pub mod Below
+pub mod Fills
