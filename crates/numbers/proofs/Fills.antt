@@ -63,7 +63,8 @@ module _ (f : ℕ → ℕ) where
       room = h .room;
       long = ap length to ∙ length-stored d i v ∙ h .long;
       front = rw (to, take-stored d i v (omega (arith, h .room, h .long)), h .front, is, tab-next, bytesOf-append);
-      rest = rw (to, drop-stored) (later 2 d d₀ i (h .rest)) }
+      rest = rw (to, drop-stored) (later 2 d d₀ i (h .rest));
+    }
 
     stood : n ≤ i → i ≡ n
     stood l = omega (arith, h .within)
@@ -103,7 +104,8 @@ module _ (f : ℕ → ℕ) where
           room = h .room;
           long = ap length to ∙ length-stored d i v ∙ h .long;
           front = rw (to, numbers-stored d i v m) (fill-next f i (numbers d) v w is (h .front));
-          rest = rw (to, numbers-stored d i v m, drop-set-lt (i + 1) (numbers d) i v (omega arith)) behind }
+          rest = rw (to, numbers-stored d i v m, drop-set-lt (i + 1) (numbers d) i v (omega arith)) behind;
+        }
 
     reached : n ≤ i → i ≡ n
     reached l = omega (arith, h .within)

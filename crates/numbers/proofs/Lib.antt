@@ -4,3 +4,4 @@ pub mod Counts
 pub mod Bytes
 pub mod Below
 pub mod Fills
+pub mod Ways

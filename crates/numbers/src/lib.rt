@@ -4,7 +4,6 @@ ghost use mathlib.Core.Path.{_≡_};
 ghost use Prim.Native.Nat.{_<_, _+_};
 ghost use lib.ListN.{length, getD, drop};
 ghost use Rattle.numbers.specs.Bytes.{wordAt, limit, numbers, holdsCount, stored, firstOver, allBelow};
-ghost use Rattle.numbers.specs.Reads.{IsByte, IsWord, IsNumber};
 
 // What a search answers.
 pub enum Found {
@@ -13,14 +12,14 @@ pub enum Found {
 }
 
 fn wide(b: u8) -> u64
-    ensures { λ r. ⌜ (r ≡ b) × (r < 256) ⌝ }
+    ensures { λ r. ⌜ record { eq : r ≡ b; lt : r < 256 } ⌝ }
 {
     b as u64
 }
 
 // The byte at an offset.
 fn byte(s: &[u8], at: usize) -> u64
-    ensures { λ r. ⌜ IsByte (now (s .entry)) at r ⌝ }
+    ensures { λ r. ⌜ record { eq : r ≡ getD (now (s .entry)) at 0; lt : r < 256 } ⌝ }
 {
     if at < s.len() {
         return wide(s[at]);
@@ -30,7 +29,7 @@ fn byte(s: &[u8], at: usize) -> u64
 
 // The two-byte number at an offset.
 pub fn word(s: &[u8], at: usize) -> u64
-    ensures { λ r. ⌜ IsWord (now (s .entry)) at r ⌝ }
+    ensures { λ r. ⌜ record { eq : r ≡ wordAt (now (s .entry)) at; lt : r < limit } ⌝ }
 {
     if at < s.len() {
         return byte(s, at) + 256 * byte(s, at + 1);
@@ -40,7 +39,7 @@ pub fn word(s: &[u8], at: usize) -> u64
 
 // Number i of a list.
 pub fn read(s: &[u8], i: usize) -> u64
-    ensures { λ r. ⌜ IsNumber (now (s .entry)) i r ⌝ }
+    ensures { λ r. ⌜ record { eq : r ≡ getD (numbers (now (s .entry))) i 0; lt : r < limit } ⌝ }
 {
     if i < s.len() / 2 {
         return word(s, 2 * i);
