@@ -7,7 +7,7 @@ use mathlib.Core.Path.{_≡_, refl, sym, ap, ap₂, _∙_, fun-ext}
 use mathlib.Core.Logic.{_≢_}
 use mathlib.Core.Bool.{true}
 use mathlib.Core.List.{List, [], _∷_, _++_, map}
-use Prim.Native.Nat.{ℕ, zero, suc, _+_, _-_, _%_, _≤_, _<_, max, min}
+use Prim.Native.Nat.{ℕ, zero, suc, _+_, _%_, _≤_, _<_}
 use native.Mathlib.Decide.{decLe}
 use native.Mathlib.Nat.{mod-eq-of-lt}
 use native.Mathlib.Omega.{arith}
@@ -16,7 +16,6 @@ use lib.Seq.{getD-drop}
 use Rattle.numbers.specs.Bytes.{allBelow}
 use Rattle.numbers.proofs.Below.{allBelow-at}
 use Rattle.field.specs.Mod.{add, mul}
-use Rattle.field.specs.Prime.{Prime}
 use Rattle.field.proofs.Solve.{Canon, mul-canon, #, quote, solve}
 use Rattle.field.proofs.Inverse.{pos}
 use Rattle.sharing.specs.Poly.{eval, sumOf, scale}
