@@ -1,0 +1,5 @@
+pub mod Sound
+pub mod Openings
+pub mod Below
+pub mod Tables
+pub mod Wires
