@@ -6,13 +6,12 @@ use native.Mathlib.Nat.{mod-lt, div-lt-self}
 use native.Mathlib.Omega.{arith}
 use borrow.Author.Needs.{needs}
 use borrow.Author.Tests.{ltb-true, lt-ltb, le-ltb}
-use lib.Dec.{T, ltb}
+use lib.Dec.{ltb}
 use Rattle.field.specs.declared.Field.{Field}
-use Rattle.field.specs.declared.Made.{Made}
 use Rattle.field.specs.declared.Made.the-variants as made
 use Rattle.field.specs.Mod.{add, mul, sub}
 use Rattle.field.specs.Prime.{isPrime, Prime, inv}
-use Rattle.field.specs.Field.{fieldLimit, madeOf, Below1, Below2, Is}
+use Rattle.field.specs.Field.{fieldLimit, madeOf, Is}
 use Rattle.field.proofs.Solve.{sub-down, sub-over, #, quote, solve}
 use Rattle.field.proofs.Primes.{prime-sound}
 use Rattle.field.proofs.Inverse.{inv-canon, inv-step, inv-small}
