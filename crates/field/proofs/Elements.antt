@@ -6,30 +6,29 @@ use native.Mathlib.Nat.{mod-lt, div-lt-self}
 use native.Mathlib.Omega.{arith}
 use borrow.Author.Needs.{needs}
 use borrow.Author.Tests.{ltb-true, lt-ltb, le-ltb}
-use lib.Dec.{T, ltb}
+use lib.Dec.{ltb}
 use Rattle.field.specs.declared.Field.{Field}
-use Rattle.field.specs.declared.Made.{Made}
 use Rattle.field.specs.declared.Made.the-variants as made
 use Rattle.field.specs.Mod.{add, mul, sub}
 use Rattle.field.specs.Prime.{isPrime, Prime, inv}
-use Rattle.field.specs.Field.{fieldLimit, madeOf, Below1, Below2, Is}
+use Rattle.field.specs.Field.{fieldLimit, madeOf, Is}
 use Rattle.field.proofs.Solve.{sub-down, sub-over, #, quote, solve}
 use Rattle.field.proofs.Primes.{prime-sound}
 use Rattle.field.proofs.Inverse.{inv-canon, inv-step, inv-small}
 use Rattle.field.proofs.Products.{word}
 
 -- ---- the constructor
-pub made-above : (p : ℕ) → 65536 ≤ p → made.Refused ≡ madeOf p
+pub made-above : (p : ℕ) → fieldLimit ≤ p → made.Refused ≡ madeOf p
 unfolding madeOf
-made-above p h = rw (le-ltb p 65536 h)
+made-above p h = rw (le-ltb p fieldLimit h)
 
-pub made-field : (p : ℕ) (b : Bool) → p < 65536 → b ≡ isPrime p → b ≡ true → made.Field (record { p = p }) ≡ madeOf p
+pub made-field : (p : ℕ) (b : Bool) → p < fieldLimit → b ≡ isPrime p → b ≡ true → made.Field (record { p = p }) ≡ madeOf p
 unfolding madeOf
-made-field p b h e t = rw (lt-ltb p 65536 h, ← e, t)
+made-field p b h e t = rw (lt-ltb p fieldLimit h, ← e, t)
 
-pub made-refused : (p : ℕ) (b : Bool) → p < 65536 → b ≡ isPrime p → b ≡ false → made.Refused ≡ madeOf p
+pub made-refused : (p : ℕ) (b : Bool) → p < fieldLimit → b ≡ isPrime p → b ≡ false → made.Refused ≡ madeOf p
 unfolding madeOf
-made-refused p b h e t = rw (lt-ltb p 65536 h, ← e, t)
+made-refused p b h e t = rw (lt-ltb p fieldLimit h, ← e, t)
 
 -- a field that was made has a prime below the limit
 pub made-prime : (p : ℕ) (f : Field) → madeOf p ≡ made.Field f → (f .p ≡ p) × Prime p × (p < fieldLimit)
