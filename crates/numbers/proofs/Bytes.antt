@@ -11,7 +11,7 @@ use Prim.Native.Nat.{ℕ, zero, suc, _+_, _-_, _*_, _/_, _%_, _<_, _≤_, min}
 use native.Mathlib.Nat.{mod-eq-of-lt}
 use native.Mathlib.Numerals.{add-one}
 use native.Mathlib.Omega.{arith}
-use borrow.Author.Tests.{leb-true, leb-false, ltb-true, ltb-false, eqb-true, eqb-false, le-leb, lt-leb}
+use borrow.Author.Tests.{leb-true, leb-false, ltb-true, ltb-false, eqb-true, eqb-false, eq-eqb, le-leb, lt-leb}
 use lib.Dec.{leb, ltb, eqb}
 use lib.ListN.{length, getD, take, drop, set, length-append, length-take, length-drop, length-set, List·getD-eq-default}
 use lib.Seq.{ext-getD, getD-take, getD-drop, getD-set-same, getD-set-other, set-out, take-suc-set, drop-set-lt}
@@ -55,7 +55,19 @@ numbers-cons a b bs =
     ∙ ap (λ (l : List ℕ). (a + 256 * b) ∷ l)
     (tab-ext (λ k. wordAt (a ∷ b ∷ bs) (2 * suc k)) (λ k. wordAt bs (2 * k)) (length bs / 2) (λ k l. word-shift a b bs k))
 
--- numbers of a part of the bytes
+-- ---- a list of k numbers
+pub holds-length : (k : ℕ) (bs : List ℕ) → holdsCount k bs ≡ true → length bs ≡ 2 * k
+unfolding holdsCount
+holds-length k bs h = eqb-true (length bs) (2 * k) h
+
+pub length-holds : (k : ℕ) (bs : List ℕ) → length bs ≡ 2 * k → holdsCount k bs ≡ true
+unfolding holdsCount
+length-holds k bs e = eq-eqb (length bs) (2 * k) e
+
+pub holds-numbers : (k : ℕ) (bs : List ℕ) → holdsCount k bs ≡ true → length (numbers bs) ≡ k
+holds-numbers k bs h = omega (arith, numbers-length bs, holds-length k bs h)
+
+-- ---- numbers of a part of the bytes
 pub word-part : (bs : List ℕ) (a k j : ℕ) → j < k → wordAt (take (2 * k) (drop (2 * a) bs)) (2 * j) ≡ wordAt bs (2 * (a + j))
 unfolding wordAt
 word-part bs a k j l =
