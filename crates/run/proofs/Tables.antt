@@ -1,7 +1,7 @@
 -- Document 01's sums P1 to P3, read off the table of shares of plan K.
 -- Assumes nothing.
 use mathlib.Core.Path.{_≡_, refl}
-use mathlib.Core.List.{List, [], _∷_, map, flatMap}
+use mathlib.Core.List.{List, [], _∷_, map}
 use Prim.Native.Nat.{ℕ}
 use Rattle.numbers.specs.Tables.{tab}
 use Rattle.field.specs.Mod.{add, mul, sub}
