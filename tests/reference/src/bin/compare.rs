@@ -1,0 +1,739 @@
+//! Compares the product's static library with the reference on random, extreme and damaged cases.
+//!
+//! Every case is one call over the C interface. The answer, every written buffer, the bytes around it and the
+//! buffers that are only read must afterwards be as with the reference. Where a case is damaged on purpose, the
+//! reference's own answer must be the earliest damage's refusal.
+
+use reference::field::Field;
+use reference::library::{Interface, LIBRARY, LINKED, REFERENCE};
+use reference::plan::{bytes, number, plan_file, Gate, Out, Plan};
+use reference::program::program;
+use reference::random::{self, Random};
+use reference::run::{ideal, run_by_calls, Step};
+use std::fmt::Write as _;
+use std::io::Write as _;
+use std::process::{Command, ExitCode, Stdio};
+use std::time::Instant;
+
+/// One call over the C interface; a written buffer is given as it stands before the call.
+#[derive(Clone, PartialEq)]
+enum Case {
+    Check { plan: Vec<u8> },
+    Call { plan: Vec<u8>, seat: u16, figures: Vec<u8>, coins: Vec<u8>, state: Vec<u8>, mail: Vec<u8>, out: Vec<u8> },
+    Bench { plan: Vec<u8>, set: u16, figures: Vec<u8>, coins: Vec<u8>, view: Vec<u8> },
+    Match { plan: Vec<u8>, set: u16, first: Vec<u8>, second: Vec<u8>, coins: Vec<u8>, matched: Vec<u8> },
+    SeatSize { plan: Vec<u8>, seat: u16, call: u16, what: u16 },
+    RunSize { plan: Vec<u8>, set: u16, what: u16 },
+}
+
+const NAMES: [&str; 6] = ["plan check", "seat call", "bench", "matching", "seat size", "run size"];
+
+/// A lent buffer between two odd stretches of guard bytes.
+struct Lent(Vec<u8>);
+
+impl Lent {
+    const GUARD: [u8; 17] = [0xa5; 17];
+
+    fn new(bytes: &[u8]) -> Lent {
+        Lent([&Lent::GUARD, bytes, &Lent::GUARD].concat())
+    }
+
+    fn slice(&mut self) -> &mut [u8] {
+        let end = self.0.len() - 17;
+        &mut self.0[17..end]
+    }
+}
+
+impl Case {
+    fn kind(&self) -> usize {
+        match self {
+            Case::Check { .. } => 0,
+            Case::Call { .. } => 1,
+            Case::Bench { .. } => 2,
+            Case::Match { .. } => 3,
+            Case::SeatSize { .. } => 4,
+            Case::RunSize { .. } => 5,
+        }
+    }
+
+    fn plan(&mut self) -> &mut Vec<u8> {
+        match self {
+            Case::Check { plan } | Case::Call { plan, .. } | Case::Bench { plan, .. } => plan,
+            Case::Match { plan, .. } | Case::SeatSize { plan, .. } | Case::RunSize { plan, .. } => plan,
+        }
+    }
+
+    /// Makes the call: the answer, and the written buffers with their guards.
+    fn make(&self, with: &Interface) -> (u64, Vec<Vec<u8>>) {
+        match self {
+            Case::Check { plan } => ((with.plan_check)(plan), vec![]),
+            Case::Call { plan, seat, figures, coins, state, mail, out } => {
+                let (mut state, mut out) = (Lent::new(state), Lent::new(out));
+                let answer = (with.seat_call)(plan, *seat, figures, coins, state.slice(), mail, out.slice());
+                (answer, vec![state.0, out.0])
+            }
+            Case::Bench { plan, set, figures, coins, view } => {
+                let mut view = Lent::new(view);
+                ((with.bench)(plan, *set, figures, coins, view.slice()), vec![view.0])
+            }
+            Case::Match { plan, set, first, second, coins, matched } => {
+                let mut matched = Lent::new(matched);
+                ((with.matching)(plan, *set, first, second, coins, matched.slice()), vec![matched.0])
+            }
+            Case::SeatSize { plan, seat, call, what } => ((with.seat_size)(plan, *seat, *call, *what), vec![]),
+            Case::RunSize { plan, set, what } => ((with.run_size)(plan, *set, *what), vec![]),
+        }
+    }
+
+    /// The case's inputs, in hex.
+    fn text(&self) -> String {
+        let mut text = NAMES[self.kind()].to_string();
+        let mut list = |name: &str, bytes: &[u8]| write!(text, "\n  {name} {}", hex(bytes)).unwrap();
+        let mut numbers = String::new();
+        match self {
+            Case::Check { plan } => list("plan", plan),
+            Case::Call { plan, seat, figures, coins, state, mail, out } => {
+                write!(numbers, "\n  seat {seat}").unwrap();
+                let parts = [("plan", plan), ("figures", figures), ("coins", coins), ("state", state), ("mail", mail)];
+                parts.iter().for_each(|(name, bytes)| list(name, bytes));
+                list("out", out);
+            }
+            Case::Bench { plan, set, figures, coins, view } => {
+                write!(numbers, "\n  set {set}").unwrap();
+                let parts = [("plan", plan), ("figures", figures), ("coins", coins), ("view", view)];
+                parts.iter().for_each(|(name, bytes)| list(name, bytes));
+            }
+            Case::Match { plan, set, first, second, coins, matched } => {
+                write!(numbers, "\n  set {set}").unwrap();
+                let parts = [("plan", plan), ("first", first), ("second", second), ("coins", coins)];
+                parts.iter().for_each(|(name, bytes)| list(name, bytes));
+                list("matched", matched);
+            }
+            Case::SeatSize { plan, seat, call, what } => {
+                write!(numbers, "\n  seat {seat} call {call} what {what}").unwrap();
+                list("plan", plan);
+            }
+            Case::RunSize { plan, set, what } => {
+                write!(numbers, "\n  set {set} what {what}").unwrap();
+                list("plan", plan);
+            }
+        }
+        text + &numbers
+    }
+}
+
+fn hex(bytes: &[u8]) -> String {
+    bytes.iter().fold(String::new(), |text, byte| text + &format!("{byte:02x}"))
+}
+
+/// What has been counted so far.
+#[derive(Default)]
+struct Tally {
+    /// Cases by kind of call and refusal; 0 is a call that went through.
+    met: [[usize; 23]; 6],
+    /// Matchings that changed a coin.
+    moved: usize,
+    passed: usize,
+    differences: usize,
+}
+
+impl Tally {
+    /// Compares one case; `expected` is the refusal the case was damaged for.
+    fn compare(&mut self, case: &Case, expected: Option<u8>) {
+        let reference = case.make(&REFERENCE);
+        let lent = case.clone();
+        let library = lent.make(&LIBRARY);
+        let refusal = (reference.0 & 255) as usize;
+        self.met[case.kind()][refusal] += 1;
+        if let Case::Match { coins, .. } = case {
+            self.moved += usize::from(refusal == 0 && reference.1[0] != Lent::new(coins).0);
+        }
+        let wrong = if expected.is_some_and(|number| usize::from(number) != refusal) {
+            "the reference misses the expected refusal"
+        } else if reference.0 != library.0 {
+            "the answers differ"
+        } else if reference.1 != library.1 {
+            "the written buffers differ"
+        } else if lent != *case {
+            "a buffer that is only read was written"
+        } else {
+            self.passed += 1;
+            return;
+        };
+        self.differences += 1;
+        if self.differences <= 20 {
+            println!("DIFFERENCE: {wrong}: {}", case.text());
+            println!("  reference {} place or count {}, expected {expected:?}", reference.0 & 255, reference.0 >> 8);
+            println!("  library   {} place or count {}", library.0 & 255, library.0 >> 8);
+            for (reference, library) in reference.1.iter().zip(&library.1).filter(|(a, b)| a != b) {
+                println!("  reference wrote {}\n  library wrote   {}", hex(reference), hex(library));
+            }
+        }
+    }
+}
+
+/// A plan that passes, with a list of figures and a setting of coins.
+struct World {
+    file: Vec<u8>,
+    plan: Plan,
+    figures: Vec<u16>,
+    coins: Vec<u16>,
+}
+
+impl World {
+    fn new(random: &mut Random, file: Vec<u8>) -> World {
+        let plan = Plan::read(&file).expect("the generator makes plans that pass");
+        let p = plan.field.p();
+        let figures = random.elements(plan.inputs.len(), p);
+        let coins = random.elements(plan.coins(), p);
+        World { file, plan, figures, coins }
+    }
+
+    fn bench(&self, random: &mut Random) -> Case {
+        let set = random::set(random, self.plan.n, self.plan.t);
+        Case::Bench {
+            plan: self.file.clone(),
+            set,
+            figures: bytes(&self.figures),
+            coins: bytes(&self.coins),
+            view: filler(random, 2 * self.plan.view(set).expect("a set that passes")),
+        }
+    }
+
+    fn call(&self, random: &mut Random, step: &Step) -> Case {
+        Case::Call {
+            plan: self.file.clone(),
+            seat: step.seat,
+            figures: step.figures.clone(),
+            coins: step.coins.clone(),
+            state: step.state.clone(),
+            mail: step.mail.clone(),
+            out: filler(random, step.written.len()),
+        }
+    }
+
+    /// A matching of the world's figures with others: they agree at the members' figures, and at the members' outs
+    /// too if `agree`, where outs of the plan are changed for it.
+    fn matching(&self, random: &mut Random, agree: bool) -> Case {
+        let plan = &self.plan;
+        let p = plan.field.p();
+        let set = random::set(random, plan.n, plan.t);
+        let member = |seat: u16| set >> (seat - 1) & 1 == 1;
+        let free: Vec<usize> = (plan.figure_seats().enumerate()).filter(|x| !member(x.1)).map(|x| x.0).collect();
+        let mut second = self.figures.clone();
+        if free.len() > 1 && random.once_in(2) {
+            let (change, up, down) = (random.element(p), random.pick(&free), random.pick(&free));
+            second[up] = plan.field.add(second[up], change);
+            second[down] = plan.field.sub(second[down], change);
+        } else {
+            for i in free {
+                if !random.once_in(3) {
+                    second[i] = random.element(p);
+                }
+            }
+        }
+        let mut outs = plan.outs.clone();
+        if agree {
+            let (granted, asked) = (ideal(plan, &self.figures), ideal(plan, &second));
+            let same: Vec<usize> = (0..granted.len()).filter(|&wire| granted[wire] == asked[wire]).collect();
+            let others: Vec<u16> = (1..=plan.n).filter(|&seat| !member(seat)).collect();
+            for out in &mut outs {
+                if member(out.seat) && granted[out.wire] != asked[out.wire] {
+                    if same.is_empty() || random.once_in(4) {
+                        out.seat = random.pick(&others);
+                    } else {
+                        out.wire = random.pick(&same);
+                    }
+                }
+            }
+        }
+        Case::Match {
+            plan: plan_file(plan.n as u8, plan.t as u8, p, &plan.gates, &outs),
+            set,
+            first: bytes(&self.figures),
+            second: bytes(&second),
+            coins: bytes(&self.coins),
+            matched: filler(random, 2 * self.coins.len()),
+        }
+    }
+}
+
+/// What a buffer holds before it is written.
+fn filler(random: &mut Random, length: usize) -> Vec<u8> {
+    (0..length).map(|_| random.bits() as u8).collect()
+}
+
+/// Another number of bytes: odd, one number more or less, none, many.
+fn wrong_length(random: &mut Random, list: &mut Vec<u8>) {
+    let before = list.len();
+    while list.len() == before {
+        let length = match random.below(6) {
+            0 => before + 1,
+            1 => before.saturating_sub(1),
+            2 => before + 2,
+            3 => before.saturating_sub(2),
+            4 => 0,
+            _ => before + random.range(1, 40),
+        };
+        list.resize(length, 0);
+    }
+}
+
+/// Puts a number that isn't below `p` into a list, sometimes two; false if the list is empty.
+fn too_large(random: &mut Random, list: &mut [u8], p: u16) -> bool {
+    if list.len() < 2 {
+        return false;
+    }
+    for _ in 0..random.range(1, 2) {
+        let i = 2 * random.below(list.len() / 2);
+        let any = random.range(usize::from(p), 65535) as u16;
+        put(list, i, random.pick(&[p, p + 1, u16::MAX, p | 0x8000, any]));
+    }
+    true
+}
+
+fn put(list: &mut [u8], i: usize, x: u16) {
+    list[i..i + 2].copy_from_slice(&x.to_le_bytes());
+}
+
+/// Damages a plan file so that it gets the refusal, 1 to 8, if no earlier one.
+fn damage_plan(random: &mut Random, file: &mut Vec<u8>, plan: &Plan, refusal: u8) {
+    let (n, p, gates, outs) = (plan.n, plan.field.p(), plan.gates.len(), plan.outs.len());
+    let end = 18 + 6 * gates;
+    match refusal {
+        1 if random.once_in(2) => file.truncate(random.below(18)),
+        1 => file[random.below(4)] ^= 1 << random.below(8),
+        2 => file[4] = random.pick(&[0, 2, 3, 129, 255]),
+        3 => file[5] = random.pick(&[0, 16, 17, 128, 255]),
+        4 => file[6] = random.pick(&[(n as u8).div_ceil(2), n as u8, 127, 128, 255]),
+        5 => {
+            let composite = loop {
+                let x = random.below(65536) as u16;
+                if Field::new(x).is_none() {
+                    break x;
+                }
+            };
+            let small = random.below(usize::from(n) + 1) as u16;
+            put(file, 8, random.pick(&[0, 1, n, small, 9, 25, 49, 63001, 65025, 65535, composite, composite]));
+        }
+        6 => match random.below(10) {
+            0 => file[7] = random.range(1, 255) as u8,
+            1 => put(file, 10, random.pick(&[0, 17, 19, 18 + 256, 65535])),
+            2 => put(file, 12, random.pick(&[0, 1025, gates as u16 + 1, gates as u16 - 1, 65535])),
+            3 => put(file, 14, random.pick(&[0, 18, end as u16 + 1, end as u16 - 1, end as u16 - 6])),
+            4 => put(file, 16, random.pick(&[0, 65, outs as u16 + 1, outs as u16 - 1, 65535])),
+            5 => {
+                file.pop();
+            }
+            6 => file.truncate(random.range(18, file.len() - 1)),
+            7 => file.extend(vec![0; random.range(1, 7)]),
+            8 => {
+                put(file, 12, 0);
+                put(file, 14, 18);
+                file.drain(18..end);
+            }
+            _ => {
+                let outs = random.pick(&[0, 65]);
+                put(file, 16, outs);
+                file.resize(end + 3 * usize::from(outs), 1);
+            }
+        },
+        7 => {
+            let g = random.below(gates);
+            let gate = &mut file[18 + 6 * g..24 + 6 * g];
+            let high = 0x8000 | random.below(g + 1) as u16;
+            let wire = random.pick(&[g as u16, g as u16 + 1, gates as u16, high, u16::MAX]);
+            let constant = random.pick(&[p, p + 1, u16::MAX]);
+            match (random.below(4), plan.gates[g]) {
+                (0, _) => gate[1] = random.range(1, 255) as u8,
+                (1, _) => gate[0] = random.pick(&[0, 6, 7, 129, 255]),
+                (2, Gate::Input(_)) => put(gate, 4, random.pick(&[1, 256, u16::MAX])),
+                (3, Gate::Scale(..) | Gate::Offset(..)) => put(gate, 4, constant),
+                (3, Gate::Add(..) | Gate::Multiply(..)) => put(gate, 4, wire),
+                (_, Gate::Input(_)) => put(gate, 2, random.pick(&[0, n + 1, 16, 256 + n, u16::MAX])),
+                _ => put(gate, 2, wire),
+            }
+        }
+        8 => {
+            let out = &mut file[end + 3 * random.below(outs)..];
+            if random.once_in(2) {
+                out[0] = random.pick(&[0, n as u8 + 1, 16, 128 + n as u8, 255]);
+            } else {
+                let high = 0x8000 | random.below(gates) as u16;
+                put(out, 1, random.pick(&[gates as u16, gates as u16 + 1, 1024, high, u16::MAX]));
+            }
+        }
+        _ => unreachable!("a plan is refused by 1 to 8"),
+    }
+}
+
+/// A set that names a seat above n or has over t members.
+fn wrong_set(random: &mut Random, plan: &Plan) -> u16 {
+    loop {
+        let any = random.bits() as u16;
+        let many = any & ((1u32 << plan.n) - 1) as u16;
+        let set = random.pick(&[many, any, 1 << plan.n, 1 << 15, u16::MAX]);
+        if plan.members(set).is_err() {
+            return set;
+        }
+    }
+}
+
+/// Damages a case so that it gets the refusal, if no earlier one; false if that can't be done to this case.
+fn damage(random: &mut Random, case: &mut Case, world: &Plan, refusal: u8) -> bool {
+    if refusal <= 8 {
+        damage_plan(random, case.plan(), world, refusal);
+        return true;
+    }
+    let (p, last) = (world.field.p(), world.last_call() as u16);
+    match (case, refusal) {
+        (Case::Call { seat, .. } | Case::SeatSize { seat, .. }, 9) => {
+            *seat = random.pick(&[0, world.n + 1, 16, 256 + *seat, u16::MAX]);
+        }
+        (Case::Bench { set, .. } | Case::Match { set, .. } | Case::RunSize { set, .. }, 9) => {
+            *set = wrong_set(random, world);
+        }
+        (Case::Call { figures, .. } | Case::Bench { figures, .. }, 10) => wrong_length(random, figures),
+        (Case::Match { first, second, .. }, 10) => {
+            let list = if random.once_in(2) { first } else { second };
+            wrong_length(random, list);
+        }
+        (Case::Call { figures, .. } | Case::Bench { figures, .. }, 11) => return too_large(random, figures, p),
+        (Case::Match { first, second, .. }, 11) => {
+            let both = random.once_in(3);
+            if both || random.once_in(2) {
+                too_large(random, first, p);
+            } else {
+                too_large(random, second, p);
+            }
+            if both {
+                too_large(random, second, p);
+            }
+        }
+        (Case::Call { coins, .. } | Case::Bench { coins, .. } | Case::Match { coins, .. }, 12) => {
+            wrong_length(random, coins);
+        }
+        (Case::Call { coins, .. } | Case::Bench { coins, .. } | Case::Match { coins, .. }, 13) => {
+            return too_large(random, coins, p);
+        }
+        (Case::Call { state, .. }, 14) => wrong_length(random, state),
+        (Case::Call { state, .. }, 15) => {
+            if random.once_in(3) {
+                put(state, 0, random.pick(&[last + 2, last + 3, last + 2 + 256, 0x8000 | last, u16::MAX]));
+            } else {
+                return too_large(random, &mut state[2..], p);
+            }
+        }
+        (Case::Call { state, .. }, 16) => put(state, 0, last + 1),
+        (Case::Call { mail, .. }, 17) => wrong_length(random, mail),
+        (Case::Call { mail, .. }, 18) => return too_large(random, mail, p),
+        (Case::Call { out, .. }, 19) => wrong_length(random, out),
+        (Case::Bench { view, .. }, 19) => wrong_length(random, view),
+        (Case::Match { matched, .. }, 19) => wrong_length(random, matched),
+        (Case::Call { state, mail, .. }, 20) => {
+            if number(state, 0) != last || mail.is_empty() || world.n == 1 {
+                return false;
+            }
+            let i = 2 * random.below(mail.len() / 2);
+            let change = random.range(1, usize::from(p) - 1) as u16;
+            let x = world.field.add(number(mail, i), change);
+            put(mail, i, x);
+        }
+        (Case::Match { set, second, .. }, 21) => {
+            let member = |seat: u16| *set >> (seat - 1) & 1 == 1;
+            let own: Vec<usize> = world.figure_seats().enumerate().filter(|x| member(x.1)).map(|x| x.0).collect();
+            if own.is_empty() {
+                return false;
+            }
+            let i = 2 * random.pick(&own);
+            let change = random.range(1, usize::from(p) - 1) as u16;
+            let x = world.field.add(number(second, i), change);
+            put(second, i, x);
+        }
+        _ => return false,
+    }
+    true
+}
+
+/// Compares the case damaged once and twice; the earlier damage wins.
+fn damaged(random: &mut Random, tally: &mut Tally, case: &Case, plan: &Plan, times: usize) {
+    for _ in 0..times {
+        let low = random.pick(&[1, 9]);
+        let first = random.range(low, 21) as u8;
+        let second = if random.once_in(2) { first } else { random.range(low, 21) as u8 };
+        let mut damaged = case.clone();
+        // The later refusal's damage first, so that the earlier one's stands.
+        let mut wanted = vec![first.max(second), first.min(second)];
+        wanted.dedup();
+        wanted.retain(|&refusal| damage(random, &mut damaged, plan, refusal));
+        if let Some(&earliest) = wanted.last() {
+            tally.compare(&damaged, Some(earliest));
+        }
+    }
+}
+
+/// Compares a world's plan, and the plan with its bytes changed at random.
+fn plans(random: &mut Random, tally: &mut Tally, world: &World) {
+    let case = Case::Check { plan: world.file.clone() };
+    tally.compare(&case, Some(0));
+    for refusal in 1..=8 {
+        let mut file = world.file.clone();
+        damage_plan(random, &mut file, &world.plan, refusal);
+        tally.compare(&Case::Check { plan: file }, Some(refusal));
+    }
+    damaged(random, tally, &case, &world.plan, 4);
+    for _ in 0..6 {
+        let mut plan = world.file.clone();
+        for _ in 0..random.range(1, 3) {
+            let end = if random.once_in(2) { 18 } else { plan.len() };
+            let at = random.below(end);
+            let any = random.bits() as u8;
+            plan[at] = random.pick(&[0, 1, 2, 5, 15, 16, 17, 255, any, plan[at] ^ 1]);
+        }
+        tally.compare(&Case::Check { plan }, None);
+    }
+    let length = random.below(40);
+    tally.compare(&Case::Check { plan: filler(random, length) }, None);
+}
+
+/// Compares seat calls: as they come in a run, damaged, and from states and mail that no run gives.
+fn calls(random: &mut Random, tally: &mut Tally, world: &World, often: usize) {
+    let (plan, p) = (&world.plan, world.plan.field.p());
+    let mut steps = Vec::new();
+    let last = plan.last_call();
+    let all = last * usize::from(plan.n);
+    run_by_calls(&world.file, &world.figures, &world.coins, |step| {
+        let likely = step.call <= 1 || step.call + 1 >= last || all < often;
+        if likely || random.below(all) < often {
+            steps.push(step.clone());
+        }
+    })
+    .expect("a whole run");
+    for step in &steps {
+        if steps.len() > 3 * often && random.below(steps.len()) > 3 * often {
+            continue;
+        }
+        let case = world.call(random, step);
+        tally.compare(&case, Some(0));
+        damaged(random, tally, &case, plan, 1);
+        if step.call == last {
+            let mut off = case.clone();
+            if damage(random, &mut off, plan, 20) {
+                tally.compare(&off, Some(20));
+            }
+        }
+    }
+    for _ in 0..often {
+        // Wires not learnt yet, or lent as they please.
+        let mut step = random_step(random, &steps);
+        step.call = random.below(last + 2);
+        let (seat, wires) = (step.seat, plan.gates.len());
+        let shares = if random.once_in(4) { vec![0; wires] } else { random.elements(wires, p) };
+        step.state = bytes(&[&[step.call as u16], &shares[..]].concat());
+        step.mail = bytes(&random.elements(if step.call > last { 0 } else { plan.mail(seat, step.call) }, p));
+        step.written = vec![0; 2 * if step.call > last { 0 } else { plan.outgoing(seat, step.call) }];
+        let case = world.call(random, &step);
+        tally.compare(&case, (step.call > last).then_some(16));
+        if step.call <= last {
+            let mut wrong = case.clone();
+            let refusal = random.range(9, 19) as u8;
+            if damage(random, &mut wrong, plan, refusal) {
+                tally.compare(&wrong, Some(refusal));
+            }
+        }
+    }
+}
+
+fn random_step(random: &mut Random, steps: &[Step]) -> Step {
+    steps[random.below(steps.len())].clone()
+}
+
+/// Compares benches, matchings and sizes.
+fn runs(random: &mut Random, tally: &mut Tally, world: &World, often: usize) {
+    let plan = &world.plan;
+    for _ in 0..often {
+        let case = world.bench(random);
+        tally.compare(&case, Some(0));
+        damaged(random, tally, &case, plan, 3);
+        for agree in [true, false] {
+            let case = world.matching(random, agree);
+            tally.compare(&case, agree.then_some(0));
+            if agree {
+                let plan = Plan::read(case.clone().plan()).expect("changed outs pass");
+                damaged(random, tally, &case, &plan, 3);
+            } else {
+                let mut case = case;
+                if damage(random, &mut case, plan, 21) {
+                    tally.compare(&case, Some(21));
+                }
+            }
+        }
+        let call = random.below(plan.last_call() + 1) as u16;
+        let seat = random.range(1, usize::from(plan.n)) as u16;
+        for what in [0, 1, 2, 3, 4, 5, u16::MAX] {
+            let call = if what == 3 || what == 4 { call + 3 * u16::from(random.once_in(8)) } else { call };
+            let case = Case::SeatSize { plan: world.file.clone(), seat, call, what };
+            tally.compare(&case, Some(0));
+            damaged(random, tally, &case, plan, 1);
+        }
+        let set = random::set(random, plan.n, plan.t);
+        for what in [0, 1, 2, 3] {
+            let case = Case::RunSize { plan: world.file.clone(), set, what };
+            tally.compare(&case, Some(0));
+            damaged(random, tally, &case, plan, 1);
+        }
+    }
+}
+
+/// Plans at the ends of the layout.
+fn extremes(random: &mut Random) -> Vec<Vec<u8>> {
+    let first = |n| Gate::Input(n);
+    let mut files = vec![
+        plan_file(1, 0, 2, &[first(1)], &[Out { seat: 1, wire: 0 }]),
+        plan_file(1, 0, 65521, &[first(1)], &[Out { seat: 1, wire: 0 }; 64]),
+        plan_file(15, 7, 17, &[first(15)], &[Out { seat: 15, wire: 0 }]),
+        plan_file(2, 0, 3, &[first(2), Gate::Multiply(0, 0)], &[Out { seat: 1, wire: 1 }]),
+        plan_file(
+            3,
+            1,
+            5,
+            &[first(3), Gate::Multiply(0, 0), first(1), Gate::Multiply(1, 2)],
+            &[Out { seat: 2, wire: 3 }],
+        ),
+    ];
+    for (n, t, p, gates, multiplies) in [
+        (15, 7, 65521, 1024, 1023),
+        (15, 7, 17, 1024, 500),
+        (15, 0, 65519, 1024, 1023),
+        (1, 0, 2, 1024, 1023),
+        (9, 4, 11, 1024, 0),
+        (14, 6, 32771, 1000, 100),
+    ] {
+        let gates = random::gates(random, n, p, gates, multiplies);
+        let outs = random::outs(random, n, gates.len(), 64);
+        files.push(plan_file(n as u8, t, p, &gates, &outs));
+    }
+    let squares = [vec![first(1)], (0..1023).map(|g| Gate::Multiply(g, g)).collect()].concat();
+    files.push(plan_file(15, 7, 65521, &squares, &[Out { seat: 8, wire: 1023 }, Out { seat: 8, wire: 1023 }]));
+    let inputs: Vec<Gate> = (0..1024).map(|g| Gate::Input(15 - g % 15)).collect();
+    files.push(plan_file(15, 7, 65521, &inputs, &[Out { seat: 1, wire: 1023 }; 64]));
+    files
+}
+
+/// Plans of too many or too few gates whose layout is else consistent.
+fn layouts(tally: &mut Tally) {
+    let out = [Out { seat: 1, wire: 0 }; 66];
+    for (gates, outs) in [(1024, 64), (1025, 1), (0, 1), (1, 0), (1, 65), (1024, 65), (1025, 0), (10920, 1), (10923, 2)]
+    {
+        let gates: Vec<Gate> = (0..gates).map(|_| Gate::Input(1)).collect();
+        let refusal = if gates.len() == 1024 && outs == 64 { 0 } else { 6 };
+        let plan = plan_file(3, 1, 11, &gates, &out[..outs]);
+        tally.compare(&Case::Check { plan }, Some(refusal));
+    }
+    for p in 0..=u16::MAX {
+        if p % 16 == 1 || !(1000..=65000).contains(&p) {
+            let plan = plan_file(5, 2, p, &[Gate::Input(1)], &out[..1]);
+            let good = p > 5 && Field::new(p).is_some();
+            tally.compare(&Case::Check { plan }, Some(if good { 0 } else { 5 }));
+        }
+    }
+    for (n, t) in (0..=255).flat_map(|n| [0, 1, 7, 8, 127, 128, 129, 255].map(|t| (n, t))) {
+        tally.compare(&Case::Check { plan: plan_file(n, t, 17, &[Gate::Input(1)], &out[..1]) }, None);
+    }
+}
+
+/// Runs the product's bench program on an input.
+fn product_text(path: &str, input: &[u8]) -> std::io::Result<Vec<u8>> {
+    let mut child = Command::new(path).stdin(Stdio::piped()).stdout(Stdio::piped()).spawn()?;
+    let mut stdin = child.stdin.take().expect("a piped standard input");
+    // A program that refuses a long input needn't read it all.
+    let _ = stdin.write_all(input);
+    drop(stdin);
+    Ok(child.wait_with_output()?.stdout)
+}
+
+/// Compares the product's bench program with the reference's; how many cases and how many differences.
+fn programs(random: &mut Random, path: &str) -> (usize, usize) {
+    let mut inputs = vec![vec![], vec![0], vec![0; 2], vec![0; 4], vec![0; 32_768], vec![0; 32_769], vec![0; 32_770]];
+    for _ in 0..300 {
+        let most = random.pick(&[30, 30, 200]);
+        let file = random::plan(random, most);
+        let world = World::new(random, file);
+        let set = random::set(random, world.plan.n, world.plan.t);
+        let (length, set) = (bytes(&[world.file.len() as u16]), bytes(&[set]));
+        let mut input = [&length[..], &world.file, &set, &bytes(&world.figures), &bytes(&world.coins)].concat();
+        match random.below(4) {
+            0 => wrong_length(random, &mut input),
+            1 => {
+                let at = random.below(input.len());
+                let any = random.bits() as u8;
+                input[at] = random.pick(&[0, 255, any]);
+            }
+            _ => {}
+        }
+        let size = if input.len() % 2 == 0 { 32_768 } else { 32_767 };
+        match random.below(20) {
+            0 => input.resize(size, 0),
+            1 => input.resize(size + 2, 0),
+            _ => {}
+        }
+        inputs.push(input);
+    }
+    let mut differences = 0;
+    for input in &inputs {
+        let (reference, product) = (program(input), product_text(path, input));
+        if !product.as_ref().is_ok_and(|text| text == reference.as_bytes()) {
+            differences += 1;
+            println!("DIFFERENCE: bench program\n  input {}\n  reference {reference:?}", hex(input));
+            println!("  product   {:?}", product.map(|text| String::from_utf8_lossy(&text).into_owned()));
+        }
+    }
+    (inputs.len(), differences)
+}
+
+fn main() -> ExitCode {
+    let start = Instant::now();
+    let mut random = Random(20_260_101);
+    let mut tally = Tally::default();
+    layouts(&mut tally);
+    for file in extremes(&mut random) {
+        let world = World::new(&mut random, file);
+        plans(&mut random, &mut tally, &world);
+        calls(&mut random, &mut tally, &world, 20);
+        runs(&mut random, &mut tally, &world, 2);
+    }
+    for most in [[2, 5, 8, 12, 20, 30].as_slice(); 130].concat().into_iter().chain([300; 8]) {
+        let file = random::plan(&mut random, most);
+        let world = World::new(&mut random, file);
+        plans(&mut random, &mut tally, &world);
+        calls(&mut random, &mut tally, &world, 8);
+        runs(&mut random, &mut tally, &world, 2);
+    }
+
+    println!("library: {}", if LINKED { "libpool.a" } else { "none linked, the reference stands in" });
+    println!("refusal  {}    all", NAMES.map(|name| format!("{name:>10}")).join(" "));
+    let mut scarce = 0;
+    for refusal in 0..23 {
+        let row: Vec<usize> = tally.met.iter().map(|kind| kind[refusal]).collect();
+        let all: usize = row.iter().sum();
+        let row: Vec<String> = row.iter().map(|count| format!("{count:>10}")).collect();
+        let few = refusal > 0 && all < 50;
+        scarce += usize::from(few);
+        println!("{refusal:>7}  {} {all:>6}{}", row.join(" "), if few { "  TOO FEW" } else { "" });
+    }
+    println!("{} of the matchings changed a coin", tally.moved);
+    let mut cases: usize = tally.met.iter().flatten().sum();
+    if let Ok(path) = std::env::var("POOL_PROGRAM") {
+        let (count, differences) = programs(&mut random, &path);
+        println!("bench program: {count} inputs, {differences} differ");
+        cases += count;
+        tally.passed += count - differences;
+        tally.differences += differences;
+    }
+    println!("{cases} cases, {} passed, {} differ, {:.1?}", tally.passed, tally.differences, start.elapsed());
+    if tally.differences == 0 && scarce == 0 && cases >= 20_000 {
+        ExitCode::SUCCESS
+    } else {
+        ExitCode::FAILURE
+    }
+}

@@ -1,0 +1,128 @@
+//! Times the product's static library against the reference, in one process.
+
+use reference::library::{Interface, LIBRARY, LINKED, REFERENCE};
+use reference::plan::{bytes, plan_file, Gate, Out, Plan};
+use reference::random::Random;
+use reference::run::{run_by_calls, Step};
+use std::hint::black_box;
+use std::time::{Duration, Instant};
+
+const N: u16 = 15;
+const T: usize = 7;
+const P: u16 = 65521;
+
+/// The work's shortest time over several goes, within about a fifth of a second.
+fn time(mut work: impl FnMut()) -> Duration {
+    let start = Instant::now();
+    let mut best = Duration::MAX;
+    for _ in 0..100 {
+        let now = Instant::now();
+        work();
+        best = best.min(now.elapsed());
+        if start.elapsed() > Duration::from_millis(200) {
+            break;
+        }
+    }
+    best
+}
+
+/// Fifteen inputs and then only multiplies; one out for each seat.
+fn products(multiplies: usize) -> Vec<u8> {
+    let mut gates: Vec<Gate> = (1..=N).map(Gate::Input).collect();
+    for k in 0..multiplies {
+        let g = gates.len();
+        gates.push(Gate::Multiply(g - 1, k % g));
+    }
+    let outs: Vec<Out> = (1..=N).map(|seat| Out { seat, wire: gates.len() - usize::from(seat) }).collect();
+    plan_file(N as u8, T as u8, P, &gates, &outs)
+}
+
+/// A plan with its figures and coins, and what its calls are lent.
+struct Work {
+    file: Vec<u8>,
+    plan: Plan,
+    figures: Vec<u16>,
+    coins: Vec<u16>,
+}
+
+impl Work {
+    fn new(file: Vec<u8>) -> Work {
+        let plan = Plan::read(&file).expect("a plan that passes");
+        let mut random = Random(3);
+        let mut list = |count| (0..count).map(|_| random.below(usize::from(P)) as u16).collect();
+        let (figures, coins) = (list(plan.inputs.len()), list(plan.coins()));
+        Work { file, plan, figures, coins }
+    }
+
+    /// The bench with the view of seats 1 to 7.
+    fn bench(&self, with: &Interface) -> Duration {
+        let (set, figures, coins) = (127, bytes(&self.figures), bytes(&self.coins));
+        let mut view = vec![0; 2 * self.plan.view(set).expect("a set that passes")];
+        time(|| {
+            let answer = (with.bench)(&self.file, set, &figures, &coins, &mut view);
+            assert_eq!(answer, (self.plan.sent() as u64) << 8);
+            black_box(&view);
+        })
+    }
+
+    /// Every call of seat 1.
+    fn seat(&self, with: &Interface, steps: &[Step]) -> Duration {
+        let fresh = vec![0; 2 * (1 + self.plan.gates.len())];
+        let mut outs: Vec<Vec<u8>> = steps.iter().map(|step| vec![0; step.written.len()]).collect();
+        time(|| {
+            let mut state = fresh.clone();
+            for (step, out) in steps.iter().zip(&mut outs) {
+                let Step { seat, figures, coins, mail, .. } = step;
+                assert_eq!((with.seat_call)(&self.file, *seat, figures, coins, &mut state, mail, out), 0);
+            }
+            black_box(&outs);
+        })
+    }
+
+    /// The matching for seats 9 to 15, whose outs stand nowhere in the changed plan.
+    fn matching(&self, with: &Interface) -> Duration {
+        let outs = [Out { seat: 1, wire: self.plan.gates.len() - 1 }];
+        let file = plan_file(N as u8, T as u8, P, &self.plan.gates, &outs);
+        let second: Vec<u16> = (0..).zip(&self.figures).map(|(i, &x)| if i < 8 { P - 1 - x } else { x }).collect();
+        let (first, second, coins) = (bytes(&self.figures), bytes(&second), bytes(&self.coins));
+        let mut matched = vec![0; coins.len()];
+        time(|| {
+            assert_eq!((with.matching)(&file, 0x7f00, &first, &second, &coins, &mut matched), 0);
+            black_box(&matched);
+        })
+    }
+}
+
+/// Times both in turn and prints the shortest times and their ratio.
+fn report(name: &str, work: impl Fn(&Interface) -> Duration) {
+    let (mut library, mut reference) = (Duration::MAX, Duration::MAX);
+    for _ in 0..4 {
+        reference = reference.min(work(&REFERENCE));
+        library = library.min(work(&LIBRARY));
+    }
+    let ratio = library.as_secs_f64() / reference.as_secs_f64();
+    println!("{name:<34} library {library:>9.1?}   reference {reference:>9.1?}   library/reference {ratio:.2}");
+}
+
+fn main() {
+    println!("library: {}", if LINKED { "libpool.a" } else { "none linked, the reference stands in" });
+    let work = Work::new(products(1000));
+    let mut steps = Vec::new();
+    let keep = |step: &Step| {
+        if step.seat == 1 {
+            steps.push(step.clone());
+        }
+    };
+    run_by_calls(&work.file, &work.figures, &work.coins, keep).expect("a whole run");
+    let check = products(1009);
+    let check_plan = |with: &Interface| time(|| (0..100).for_each(|_| assert_eq!((with.plan_check)(&check), 0))) / 100;
+
+    report("bench, n=15 t=7, 1,000 multiplies", |with| work.bench(with));
+    report("one seat's whole run of it", |with| work.seat(with, &steps));
+    report("the matching on it", |with| work.matching(with));
+    report("plan check, 1,024 gates", check_plan);
+    for multiplies in [125, 250, 500, 1000] {
+        let work = Work::new(products(multiplies));
+        report(&format!("bench, {multiplies} multiplies"), |with| work.bench(with));
+    }
+}

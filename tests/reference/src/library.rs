@@ -1,0 +1,176 @@
+//! The C interface: the product's library, and the reference in the same form.
+
+use crate::matching::matching;
+use crate::plan::{plan_check, refuse, Plan, Refusal};
+use crate::run::bench;
+use crate::seat::seat_call;
+
+/// The functions of the C interface over slices. An answer holds the refusal's number in bits 0 to 7, and above it
+/// the place, the elements sent or a size in bytes.
+#[allow(clippy::type_complexity)]
+pub struct Interface {
+    pub plan_check: fn(&[u8]) -> u64,
+    pub seat_call: fn(&[u8], u16, &[u8], &[u8], &mut [u8], &[u8], &mut [u8]) -> u64,
+    pub bench: fn(&[u8], u16, &[u8], &[u8], &mut [u8]) -> u64,
+    pub matching: fn(&[u8], u16, &[u8], &[u8], &[u8], &mut [u8]) -> u64,
+    pub seat_size: fn(&[u8], u16, u16, u16) -> u64,
+    pub run_size: fn(&[u8], u16, u16) -> u64,
+}
+
+/// An answer's 64 bits.
+pub fn answer(result: Result<usize, Refusal>) -> u64 {
+    match result {
+        Ok(count) => (count as u64) << 8,
+        Err(refusal) => (refusal.place as u64) << 8 | u64::from(refusal.number),
+    }
+}
+
+/// The size in bytes of what a seat or its call takes or writes; 0 for an unknown call or thing.
+fn seat_size(plan: &[u8], seat: u16, call: u16, what: u16) -> Result<usize, Refusal> {
+    let plan = Plan::read(plan)?;
+    plan.seat(seat)?;
+    let call = usize::from(call);
+    Ok(2 * match what {
+        0 => plan.figures_of(seat),
+        1 => plan.coins_of(seat),
+        2 => 1 + plan.gates.len(),
+        3 if call <= plan.last_call() => plan.mail(seat, call),
+        4 if call <= plan.last_call() => plan.outgoing(seat, call),
+        _ => 0,
+    })
+}
+
+/// The size in bytes of all figures, all coins or the set's view; 0 for an unknown thing.
+fn run_size(plan: &[u8], set: u16, what: u16) -> Result<usize, Refusal> {
+    let plan = Plan::read(plan)?;
+    let Ok(view) = plan.view(set) else { return refuse(9) };
+    Ok(2 * match what {
+        0 => plan.inputs.len(),
+        1 => plan.coins(),
+        2 => view,
+        _ => 0,
+    })
+}
+
+/// The reference.
+pub const REFERENCE: Interface = Interface {
+    plan_check: |plan| answer(plan_check(plan).map(|_| 0)),
+    seat_call: |plan, seat, figures, coins, state, mail, out| {
+        answer(seat_call(plan, seat, figures, coins, state, mail, out).map(|_| 0))
+    },
+    bench: |plan, set, figures, coins, view| answer(bench(plan, set, figures, coins, view)),
+    matching: |plan, set, first, second, coins, matched| {
+        answer(matching(plan, set, first, second, coins, matched).map(|_| 0))
+    },
+    seat_size: |plan, seat, call, what| answer(seat_size(plan, seat, call, what)),
+    run_size: |plan, set, what| answer(run_size(plan, set, what)),
+};
+
+/// The product's static library.
+#[cfg(pool_lib)]
+pub const LIBRARY: Interface = {
+    mod c {
+        type Bytes = *const u8;
+        extern "C" {
+            pub fn pool_plan_check(plan: Bytes, plan_len: usize) -> u64;
+            pub fn pool_seat_call(
+                plan: Bytes,
+                plan_len: usize,
+                seat: u16,
+                figures: Bytes,
+                figures_len: usize,
+                coins: Bytes,
+                coins_len: usize,
+                state: *mut u8,
+                state_len: usize,
+                mail: Bytes,
+                mail_len: usize,
+                out: *mut u8,
+                out_len: usize,
+            ) -> u64;
+            pub fn pool_bench(
+                plan: Bytes,
+                plan_len: usize,
+                set: u16,
+                figures: Bytes,
+                figures_len: usize,
+                coins: Bytes,
+                coins_len: usize,
+                view: *mut u8,
+                view_len: usize,
+            ) -> u64;
+            pub fn pool_match(
+                plan: Bytes,
+                plan_len: usize,
+                set: u16,
+                first: Bytes,
+                first_len: usize,
+                second: Bytes,
+                second_len: usize,
+                coins: Bytes,
+                coins_len: usize,
+                matched: *mut u8,
+                matched_len: usize,
+            ) -> u64;
+            pub fn pool_seat_size(plan: Bytes, plan_len: usize, seat: u16, call: u16, what: u16) -> u64;
+            pub fn pool_run_size(plan: Bytes, plan_len: usize, set: u16, what: u16) -> u64;
+        }
+    }
+    Interface {
+        plan_check: |plan| unsafe { c::pool_plan_check(plan.as_ptr(), plan.len()) },
+        seat_call: |plan, seat, figures, coins, state, mail, out| unsafe {
+            c::pool_seat_call(
+                plan.as_ptr(),
+                plan.len(),
+                seat,
+                figures.as_ptr(),
+                figures.len(),
+                coins.as_ptr(),
+                coins.len(),
+                state.as_mut_ptr(),
+                state.len(),
+                mail.as_ptr(),
+                mail.len(),
+                out.as_mut_ptr(),
+                out.len(),
+            )
+        },
+        bench: |plan, set, figures, coins, view| unsafe {
+            c::pool_bench(
+                plan.as_ptr(),
+                plan.len(),
+                set,
+                figures.as_ptr(),
+                figures.len(),
+                coins.as_ptr(),
+                coins.len(),
+                view.as_mut_ptr(),
+                view.len(),
+            )
+        },
+        matching: |plan, set, first, second, coins, matched| unsafe {
+            c::pool_match(
+                plan.as_ptr(),
+                plan.len(),
+                set,
+                first.as_ptr(),
+                first.len(),
+                second.as_ptr(),
+                second.len(),
+                coins.as_ptr(),
+                coins.len(),
+                matched.as_mut_ptr(),
+                matched.len(),
+            )
+        },
+        seat_size: |plan, seat, call, what| unsafe { c::pool_seat_size(plan.as_ptr(), plan.len(), seat, call, what) },
+        run_size: |plan, set, what| unsafe { c::pool_run_size(plan.as_ptr(), plan.len(), set, what) },
+    }
+};
+
+/// Without `POOL_LIB_DIR` the reference stands in for the library.
+#[cfg(not(pool_lib))]
+pub const LIBRARY: Interface = REFERENCE;
+
+/// Whether the product's library is linked.
+pub const LINKED: bool = cfg!(pool_lib);

@@ -1,0 +1,134 @@
+//! Random plans, figures and coins from a fixed seed.
+
+use crate::plan::{plan_file, Gate, Out};
+
+/// A small generator (splitmix64).
+pub struct Random(pub u64);
+
+impl Random {
+    pub fn bits(&mut self) -> u64 {
+        self.0 = self.0.wrapping_add(0x9e37_79b9_7f4a_7c15);
+        let mut x = self.0;
+        x = (x ^ x >> 30).wrapping_mul(0xbf58_476d_1ce4_e5b9);
+        x = (x ^ x >> 27).wrapping_mul(0x94d0_49bb_1331_11eb);
+        x ^ x >> 31
+    }
+
+    /// A number below `bound`.
+    pub fn below(&mut self, bound: usize) -> usize {
+        (self.bits() % bound as u64) as usize
+    }
+
+    /// A number from `low` to `high`.
+    pub fn range(&mut self, low: usize, high: usize) -> usize {
+        low + self.below(high - low + 1)
+    }
+
+    /// True once in `times`.
+    pub fn once_in(&mut self, times: usize) -> bool {
+        self.below(times) == 0
+    }
+
+    pub fn pick<T: Copy>(&mut self, from: &[T]) -> T {
+        from[self.below(from.len())]
+    }
+
+    /// An element of the field modulo `p`, its ends often.
+    pub fn element(&mut self, p: u16) -> u16 {
+        match self.below(10) {
+            0 => 0,
+            1 => p - 1,
+            2 => 1,
+            _ => self.below(usize::from(p)) as u16,
+        }
+    }
+
+    /// A list of elements; once in ten, all of them are p − 1.
+    pub fn elements(&mut self, count: usize, p: u16) -> Vec<u16> {
+        if self.once_in(10) {
+            return vec![p - 1; count];
+        }
+        (0..count).map(|_| self.element(p)).collect()
+    }
+}
+
+/// Primes of all sizes, each the smallest or largest of a neighbourhood.
+const PRIMES: [u16; 24] = [
+    2, 3, 5, 7, 11, 13, 17, 19, 31, 37, 101, 127, 251, 257, 509, 1021, 4099, 8191, 16381, 32749, 32771, 65497, 65519,
+    65521,
+];
+
+/// A plan's size: seats, threshold, prime.
+pub fn size(random: &mut Random) -> (u16, usize, u16) {
+    let n = match random.below(8) {
+        0 => 1,
+        1 => 15,
+        2 | 3 => 3,
+        _ => random.range(1, 15) as u16,
+    };
+    let most = (usize::from(n) - 1) / 2;
+    let t = if random.once_in(3) { random.below(most + 1) } else { most };
+    let primes: Vec<u16> = PRIMES.iter().copied().filter(|&p| p > n).collect();
+    let p = if random.once_in(3) { primes[0] } else { random.pick(&primes) };
+    (n, t, p)
+}
+
+/// The random gates of a plan: inputs anywhere, at most `gates` of them and `multiplies` multiplies.
+pub fn gates(random: &mut Random, n: u16, p: u16, gates: usize, multiplies: usize) -> Vec<Gate> {
+    let mut list: Vec<Gate> = Vec::with_capacity(gates);
+    let mut left = multiplies;
+    let inputs = random.range(2, 12);
+    for g in 0..gates {
+        let wire = |random: &mut Random| match random.below(4) {
+            0 => g - 1,
+            1 => random.below(g.min(4)),
+            _ => random.below(g),
+        };
+        let kind = if g == 0 || random.once_in(inputs) { 1 } else { random.range(2, 5) };
+        list.push(match kind {
+            1 => Gate::Input(random.range(1, usize::from(n)) as u16),
+            2 => Gate::Add(wire(random), wire(random)),
+            3 => Gate::Scale(wire(random), random.element(p)),
+            5 if left > 0 => {
+                left -= 1;
+                let a = wire(random);
+                Gate::Multiply(a, if random.once_in(4) { a } else { wire(random) })
+            }
+            _ => Gate::Offset(wire(random), random.element(p)),
+        });
+    }
+    list
+}
+
+/// Random outs, some of them twice.
+pub fn outs(random: &mut Random, n: u16, gates: usize, count: usize) -> Vec<Out> {
+    let mut list: Vec<Out> = Vec::with_capacity(count);
+    for _ in 0..count {
+        let seat = random.range(1, usize::from(n)) as u16;
+        let wire = if random.once_in(3) { gates - 1 } else { random.below(gates) };
+        let again = (!list.is_empty() && random.once_in(6)).then(|| random.pick(&list));
+        list.push(again.unwrap_or(Out { seat, wire }));
+    }
+    list
+}
+
+/// A random plan file of at most `most` gates that passes.
+pub fn plan(random: &mut Random, most: usize) -> Vec<u8> {
+    let (n, t, p) = size(random);
+    let count = random.range(1, most);
+    let multiplies = if random.once_in(6) { 0 } else { count };
+    let gates = gates(random, n, p, count, multiplies);
+    let count = if random.once_in(12) { 64 } else { random.range(1, 6) };
+    let outs = outs(random, n, gates.len(), count);
+    plan_file(n as u8, t as u8, p, &gates, &outs)
+}
+
+/// A set of at most `t` of the `n` seats.
+pub fn set(random: &mut Random, n: u16, t: usize) -> u16 {
+    let size = if random.once_in(3) { random.below(t + 1) } else { t };
+    let mut set = 0u16;
+    while set.count_ones() < size as u32 {
+        set |= 1 << random.below(usize::from(n));
+    }
+    set
+}

@@ -1,0 +1,117 @@
+//! One seat's call.
+
+use crate::plan::{number, refuse, require, write, Gate, List, Plan, Refusal};
+
+/// Makes the seat's next call: takes its figures, coins, state and mail, rewrites its state, and writes its outgoing
+/// elements or, in the last call, its results. A refused call writes nowhere.
+pub fn seat_call(
+    plan: &[u8],
+    seat: u16,
+    figures: &[u8],
+    coins: &[u8],
+    state: &mut [u8],
+    mail: &[u8],
+    out: &mut [u8],
+) -> Result<(), Refusal> {
+    let plan = Plan::read(plan)?;
+    let p = plan.field.p();
+    plan.seat(seat)?;
+    let figures = List::new(figures, plan.figures_of(seat), 10)?.below(p, 11)?;
+    let coins = List::new(coins, plan.coins_of(seat), 12)?.below(p, 13)?;
+    List::new(state, 1 + plan.gates.len(), 14)?;
+    let call = usize::from(number(state, 0));
+    let shares = List::new(&state[2..], plan.gates.len(), 14)?;
+    require(call <= plan.last_call() + 1 && shares.iter().all(|share| share < p), 15, 0)?;
+    if call > plan.last_call() {
+        return refuse(16);
+    }
+    let mail = List::new(mail, plan.mail(seat, call), 17)?.below(p, 18)?.to_vec();
+    require(out.len() == 2 * plan.outgoing(seat, call), 19, 0)?;
+
+    let mut shares = shares.to_vec();
+    let written = if call == 0 {
+        deal_inputs(&plan, seat, &figures.to_vec(), &coins.to_vec())
+    } else if call == plan.last_call() {
+        results(&plan, seat, &mail)?
+    } else {
+        learn(&plan, call, &mail, &mut shares);
+        work(&plan, call, &mut shares);
+        match plan.multiplies.get(call - 1) {
+            Some(&(g, a, b)) => deal_product(&plan, seat, g, plan.field.mul(shares[a], shares[b]), coins),
+            None => (1..=plan.n).flat_map(|receiver| plan.outs_of(receiver)).map(|out| shares[out.wire]).collect(),
+        }
+    };
+    state[..2].copy_from_slice(&(call as u16 + 1).to_le_bytes());
+    write(&shares, &mut state[2..]);
+    write(&written, out);
+    Ok(())
+}
+
+/// The receiver's piece of a dealing: the value at X = receiver of s + c1·X + .. + ct·X^t.
+fn piece(plan: &Plan, value: u16, coins: &[u16], receiver: u16) -> u16 {
+    plan.field.add(value, coins.iter().rfold(0, |sum, &c| plan.field.mul(plan.field.add(sum, c), receiver)))
+}
+
+/// The gates at which the seat deals, in order: the i-th takes the i-th t of its coins.
+fn dealings(plan: &Plan, seat: u16) -> impl Iterator<Item = usize> + '_ {
+    plan.gates.iter().enumerate().filter_map(move |(g, gate)| match *gate {
+        Gate::Input(owner) if owner == seat => Some(g),
+        Gate::Multiply(..) if plan.deals(seat) => Some(g),
+        _ => None,
+    })
+}
+
+/// Call 0: the pieces of the seat's own inputs, by receiver, then by gate.
+fn deal_inputs(plan: &Plan, seat: u16, figures: &[u16], coins: &[u16]) -> Vec<u16> {
+    let inputs = dealings(plan, seat).enumerate().filter(|&(_, g)| matches!(plan.gates[g], Gate::Input(_)));
+    let dealt: Vec<_> = inputs.zip(figures).map(|((i, _), &figure)| (figure, &coins[i * plan.t..][..plan.t])).collect();
+    (1..=plan.n).flat_map(|receiver| dealt.iter().map(move |(s, coins)| piece(plan, *s, coins, receiver))).collect()
+}
+
+/// Calls 1 to M: the pieces of the product at gate `g`, if the seat deals.
+fn deal_product(plan: &Plan, seat: u16, g: usize, product: u16, coins: List) -> Vec<u16> {
+    let Some(i) = dealings(plan, seat).position(|dealt| dealt == g) else { return Vec::new() };
+    let coins: Vec<u16> = coins.iter().skip(i * plan.t).take(plan.t).collect();
+    (1..=plan.n).map(|receiver| piece(plan, product, &coins, receiver)).collect()
+}
+
+/// Call 1 learns the input wires, calls 2 to M+1 the last multiply's wire.
+fn learn(plan: &Plan, call: usize, mail: &[u16], shares: &mut [u16]) {
+    if call == 1 {
+        let by_sender = (1..=plan.n).flat_map(|sender| plan.inputs.iter().filter(move |input| input.1 == sender));
+        for (&(wire, _), &piece) in by_sender.zip(mail) {
+            shares[wire] = piece;
+        }
+    } else {
+        shares[plan.multiplies[call - 2].0] = plan.field.dot(0, &plan.field.weights(plan.dealers(), 0), mail);
+    }
+}
+
+/// Works each add, scale and offset from the multiply just learnt to the next.
+fn work(plan: &Plan, call: usize, shares: &mut [u16]) {
+    let start = if call == 1 { 0 } else { plan.multiplies[call - 2].0 + 1 };
+    let end = plan.multiplies.get(call - 1).map_or(plan.gates.len(), |multiply| multiply.0);
+    for wire in start..end {
+        match plan.gates[wire] {
+            Gate::Add(a, b) => shares[wire] = plan.field.add(shares[a], shares[b]),
+            Gate::Scale(a, c) => shares[wire] = plan.field.mul(shares[a], c),
+            Gate::Offset(a, c) => shares[wire] = plan.field.add(shares[a], c),
+            Gate::Input(_) | Gate::Multiply(..) => {}
+        }
+    }
+}
+
+/// The last call: each own out's value from its n shares, which must lie on one polynomial of degree t.
+fn results(plan: &Plan, seat: u16, mail: &[u16]) -> Result<Vec<u16>, Refusal> {
+    let own = plan.outs_of(seat).count();
+    let basis = plan.t + 1;
+    let weights: Vec<Vec<u16>> = (0..=plan.n).map(|x| plan.field.weights(basis as u16, x)).collect();
+    let mut results = Vec::with_capacity(own);
+    for place in 0..own {
+        let shares: Vec<u16> = mail.iter().copied().skip(place).step_by(own).collect();
+        let at = |x: usize| plan.field.dot(0, &weights[x], &shares[..basis]);
+        require((1..=usize::from(plan.n)).all(|x| at(x) == shares[x - 1]), 20, place)?;
+        results.push(at(0));
+    }
+    Ok(results)
+}

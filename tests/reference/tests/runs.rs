@@ -1,0 +1,120 @@
+//! Facts about whole runs, over random plans and over every setting of coins of tiny ones.
+
+use reference::matching::matching;
+use reference::plan::{bytes, plan_file, Gate, List, Out, Plan};
+use reference::random::{self, Random};
+use reference::run::{bench, ideal, run_by_calls, view};
+use std::collections::HashSet;
+
+/// The direct bench's view and count of elements sent.
+fn direct(file: &[u8], set: u16, figures: &[u16], coins: &[u16]) -> (Vec<u16>, usize) {
+    let length = Plan::read(file).unwrap().view(set).unwrap();
+    let mut seen = vec![0; 2 * length];
+    let sent = bench(file, set, &bytes(figures), &bytes(coins), &mut seen).unwrap();
+    (List::new(&seen, length, 0).unwrap().to_vec(), sent)
+}
+
+/// The matched run's coins.
+fn matched(file: &[u8], set: u16, first: &[u16], second: &[u16], coins: &[u16]) -> Vec<u16> {
+    let mut given = vec![0; 2 * coins.len()];
+    matching(file, set, &bytes(first), &bytes(second), &bytes(coins), &mut given).unwrap();
+    List::new(&given, coins.len(), 0).unwrap().to_vec()
+}
+
+#[test]
+fn calls_equal_the_direct_bench_and_the_plans_arithmetic() {
+    let mut random = Random(1);
+    for _ in 0..400 {
+        let file = random::plan(&mut random, 40);
+        let plan = Plan::read(&file).unwrap();
+        let p = plan.field.p();
+        let figures = random.elements(plan.inputs.len(), p);
+        let coins = random.elements(plan.coins(), p);
+        let run = run_by_calls(&file, &figures, &coins, |_| ()).unwrap();
+        let values = ideal(&plan, &figures);
+        for seat in 1..=plan.n {
+            let granted: Vec<u16> = plan.outs_of(seat).map(|out| values[out.wire]).collect();
+            assert_eq!(run.results[usize::from(seat) - 1], granted);
+        }
+        let set = random::set(&mut random, plan.n, plan.t);
+        let seen = view(&plan, &plan.members(set).unwrap(), &figures, &coins, &run);
+        assert_eq!(direct(&file, set, &figures, &coins), (seen, run.sent));
+        assert_eq!(run.sent, plan.sent());
+    }
+}
+
+#[test]
+fn matched_runs_give_the_same_view() {
+    let mut random = Random(2);
+    let mut changed = 0;
+    while changed < 300 {
+        let file = random::plan(&mut random, 16);
+        let plan = Plan::read(&file).unwrap();
+        let p = plan.field.p();
+        let set = random::set(&mut random, plan.n, plan.t);
+        let members = plan.members(set).unwrap();
+        let first = random.elements(plan.inputs.len(), p);
+        let second: Vec<u16> = (plan.figure_seats().zip(&first))
+            .map(|(seat, &x)| if members.contains(&seat) { x } else { random.element(p) })
+            .collect();
+        let (granted, asked) = (ideal(&plan, &first), ideal(&plan, &second));
+        if plan.outs.iter().any(|out| members.contains(&out.seat) && granted[out.wire] != asked[out.wire]) {
+            continue;
+        }
+        let coins = random.elements(plan.coins(), p);
+        let given = matched(&file, set, &first, &second, &coins);
+        assert_eq!(direct(&file, set, &first, &coins), direct(&file, set, &second, &given));
+        assert_eq!(matched(&file, set, &second, &first, &given), coins);
+        changed += usize::from(given != coins);
+    }
+}
+
+/// Every setting of `count` coins below `p`.
+fn settings(count: usize, p: u16) -> impl Iterator<Item = Vec<u16>> {
+    (0..usize::from(p).pow(count as u32)).map(move |mut x| {
+        let mut digit = || {
+            let coin = (x % usize::from(p)) as u16;
+            x /= usize::from(p);
+            coin
+        };
+        (0..count).map(|_| digit()).collect()
+    })
+}
+
+/// Over every setting, for every pair of lists that agree for the set: equal views, and each setting given once.
+fn matching_is_a_bijection(gates: &[Gate], outs: &[Out], set: u16, least: usize) {
+    let file = plan_file(3, 1, 5, gates, outs);
+    let plan = Plan::read(&file).unwrap();
+    let members = plan.members(set).unwrap();
+    let agree = |first: &[u16], second: &[u16]| {
+        let (granted, asked) = (ideal(&plan, first), ideal(&plan, second));
+        plan.figure_seats().enumerate().all(|(i, seat)| !members.contains(&seat) || first[i] == second[i])
+            && plan.outs_of(members[0]).all(|out| granted[out.wire] == asked[out.wire])
+    };
+    let mut pairs = 0;
+    for first in settings(plan.inputs.len(), 5).step_by(7) {
+        for second in settings(plan.inputs.len(), 5).filter(|second| agree(&first, second) && *second != first).take(3)
+        {
+            let mut given = HashSet::new();
+            for coins in settings(plan.coins(), 5) {
+                let other = matched(&file, set, &first, &second, &coins);
+                assert_eq!(direct(&file, set, &first, &coins), direct(&file, set, &second, &other));
+                given.insert(other);
+            }
+            assert_eq!(given.len(), 5usize.pow(plan.coins() as u32));
+            pairs += 1;
+        }
+    }
+    assert!(pairs >= least, "only {pairs} pairs");
+}
+
+#[test]
+fn matching_is_a_bijection_on_tiny_plans() {
+    let product = [Gate::Input(1), Gate::Input(2), Gate::Multiply(0, 1), Gate::Add(2, 0)];
+    matching_is_a_bijection(&product, &[Out { seat: 3, wire: 3 }], 0b100, 3);
+    matching_is_a_bijection(&product, &[Out { seat: 3, wire: 3 }], 0b001, 3);
+    let square = [Gate::Input(2), Gate::Multiply(0, 0), Gate::Input(3), Gate::Add(1, 2)];
+    matching_is_a_bijection(&square, &[Out { seat: 1, wire: 3 }, Out { seat: 2, wire: 1 }], 0b001, 3);
+    let sum = [Gate::Input(1), Gate::Input(2), Gate::Input(3), Gate::Add(0, 1), Gate::Add(3, 2), Gate::Scale(4, 3)];
+    matching_is_a_bijection(&sum, &[Out { seat: 2, wire: 5 }, Out { seat: 2, wire: 4 }], 0b010, 3);
+}
