@@ -18,6 +18,8 @@ use borrow.Author.Tests.{leb-true, leb-false, ltb-true, ltb-false, eqb-true, eqb
 use lib.Dec.{leb, ltb, eqb}
 use lib.ListN.{length, getD, take, drop, set, length-take, length-drop, length-set, List·getD-eq-default}
 use lib.Seq.{ext-getD, getD-take, getD-drop, getD-set-same, getD-set-other, set-out, take-suc-set, drop-set-lt, take-all, take-nil, drop-nil}
+use mir.Syntax.{w8}
+use mir.Val.{Fits}
 use Rattle.numbers.specs.Tables.{tab}
 use Rattle.numbers.specs.Bytes.{wordAt, numbers, bytesOf, holdsCount, stored}
 use Rattle.numbers.proofs.Tables.{tab-cons, tab-ext, length-tab, getD-tab}
@@ -227,6 +229,10 @@ drop-bytesOf (suc k) (x ∷ xs) =
 -- every entry is below p
 abbrev pub EachBelow : ℕ → List ℕ → Type 0
 EachBelow p xs = (i : ℕ) → i < length xs → getD xs i 0 < p
+
+-- what a slice's `slice-known` gives of its bytes
+pub fits-below : (bs : List ℕ) → ((i : ℕ) → Fits w8 (getD bs i 0)) → EachBelow 256 bs
+fits-below bs h i l = h i .fits
 
 pub numbers-below : (bs : List ℕ) → EachBelow 256 bs → EachBelow 65536 (numbers bs)
 unfolding wordAt
