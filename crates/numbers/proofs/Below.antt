@@ -1,8 +1,9 @@
 -- Lists whose numbers are below p.
---     allBelow-at, at-allBelow             every number is below p exactly where each is
---     allBelow-append, -take, -drop, -set, -tab, -more     of other lists and bounds
---     firstOver-nothing, nothing-firstOver none is found exactly where every number is below p
---     firstOver-at, at-firstOver           the one that is found
+--     allBelow-at, at-allBelow                          all are below p exactly where each is
+--     allBelow-append, -take, -drop, -set, -tab, -more  of other lists and bounds
+--     allBelow-next, -over, -end                        what a loop over the numbers learns
+--     firstOver-nothing, nothing-firstOver              none is found exactly where all are below p
+--     firstOver-at, at-firstOver                        the one that is found
 -- Assumes nothing.
 use mathlib.Core.Path.{_≡_, refl}
 use mathlib.Core.Bool.{Bool, true, false, cond, _&&_}
