@@ -3,17 +3,17 @@
 --     Stored, storing        a list of numbers that is lent as bytes: number i is stored by `write`
 -- Assumes nothing.
 use mathlib.Core.Path.{_≡_, refl, sym, ap, _∙_}
-use mathlib.Core.List.{List, [], _∷_, _++_, append-nil}
-use Prim.Native.Nat.{ℕ, zero, suc, _+_, _-_, _*_, _/_, _<_, _≤_}
+use mathlib.Core.List.{List, _++_}
+use Prim.Native.Nat.{ℕ, _+_, _*_, _/_, _<_, _≤_}
 use native.Mathlib.Numerals.{add-one}
 use native.Mathlib.Omega.{arith}
 use borrow.Author.Needs.{needs}
-use lib.ListN.{length, take, drop, set, length-set, take-append-drop}
+use lib.ListN.{length, take, drop, set, take-append-drop}
 use lib.Seq.{take-suc-set, take-all, drop-set-lt, drop-drop}
 use Rattle.numbers.specs.Tables.{tab}
 use Rattle.numbers.specs.Bytes.{numbers, bytesOf, stored}
-use Rattle.numbers.proofs.Tables.{tab-zero, tab-next}
-use Rattle.numbers.proofs.Bytes.{numbers-length, length-stored, numbers-stored, take-stored, drop-stored, bytesOf-nil, bytesOf-append}
+use Rattle.numbers.proofs.Tables.{tab-next}
+use Rattle.numbers.proofs.Bytes.{numbers-length, length-stored, numbers-stored, take-stored, drop-stored, bytesOf-append}
 
 -- the invariant of a loop over d, which was d₀
 pub record Filled {A : Type 0} (f : ℕ → A) (d₀ d : List A) (i : ℕ) : Type 0 where

@@ -1,19 +1,16 @@
 -- What each way through the code says of its definition.
 --     coding       what closes the needs of every function
 -- Assumes nothing.
-use mathlib.Core.Path.{_≡_, refl, sym, ap, _∙_}
-use mathlib.Core.Logic.{_≢_}
+use mathlib.Core.Path.{_≡_, refl, sym, _∙_}
 use mathlib.Core.Bool.{Bool, true, false}
 use mathlib.Core.List.{List}
-use Prim.Native.Nat.{ℕ, zero, suc, _+_, _-_, _*_, _/_, _%_, _<_, _≤_}
-use native.Mathlib.Numerals.{add-one}
+use Prim.Native.Nat.{ℕ, _+_, _*_, _/_, _%_, _<_, _≤_}
 use native.Mathlib.Omega.{arith}
 use borrow.Author.Needs.{needs}
 use borrow.Author.Tests.{eqb-true, eqb-false, eq-eqb, ne-eqb, lt-ltb, le-ltb}
 use lib.Dec.{eqb, ltb}
 use lib.ListN.{length, getD, drop, set, length-set, List·getD-eq-default}
 use Rattle.numbers.specs.Bytes.{wordAt, numbers, holdsCount, stored, firstOver, allBelow}
-use Rattle.numbers.specs.declared.Found.{Found}
 use Rattle.numbers.specs.declared.Found.the-variants.{At, Nothing}
 use Rattle.numbers.proofs.Bytes.{numbers-length, getD-numbers, getD-numbers-past, word-past, stored-in, stored-past}
 use Rattle.numbers.proofs.Searches.{Seeking, begin, found, passed, nothing}

@@ -1,8 +1,8 @@
 // Lists of numbers that are lent as bytes: two bytes a number, the low byte first. A read past the end is 0, and a write
 // there changes nothing.
 ghost use mathlib.Core.Path.{_≡_};
-ghost use Prim.Native.Nat.{_<_, _+_};
-ghost use lib.ListN.{length, getD, drop};
+ghost use Prim.Native.Nat.{_<_};
+ghost use lib.ListN.{getD, drop};
 ghost use Rattle.numbers.specs.Bytes.{wordAt, limit, numbers, holdsCount, stored, firstOver, allBelow};
 
 // What a search answers.
