@@ -3,3 +3,4 @@ pub mod Interpolation
 pub mod Roots
 pub mod Deltas
 pub mod Shares
+pub mod Coding
