@@ -81,8 +81,8 @@ pub ruleset valuing = (needs, value-none, value-more, value-whole, step-fits, pr
 pub map-tab : (f : ℕ → ℕ) (xs : List ℕ) → map f xs ≡ tab (λ i. f (getD xs i 0)) (length xs)
 map-tab f xs = ap (map f) (list-tab xs 0) ∙ tab-map f (λ i. getD xs i 0) (length xs)
 
-pub filled-map : (f : ℕ → ℕ) (xs d₀ d : List ℕ) (i : ℕ) → length d₀ ≡ length xs → length d ≤ i → Filled (λ k. f (getD xs k 0)) d₀ d i → d ≡ map f xs
-filled-map f xs d₀ d i e l h = filled (λ k. f (getD xs k 0)) d₀ d i l h ∙ ap (tab (λ k. f (getD xs k 0))) e ∙ sym (map-tab f xs)
+pub filled-map : (f : ℕ → ℕ) (xs d₀ d : List ℕ) (i : ℕ) → length d₀ ≡ length xs → length xs ≤ i → Filled (λ k. f (getD xs k 0)) d₀ d i → d ≡ map f xs
+filled-map f xs d₀ d i e l h = filled (λ k. f (getD xs k 0)) d₀ d i (omega (arith, h .long)) h ∙ ap (tab (λ k. f (getD xs k 0))) e ∙ sym (map-tab f xs)
 
 -- a polynomial whose first coefficient is the dealt value, and the others its coins
 pub dealt : (p s : ℕ) (coins xs : List ℕ) → map (eval p (s ∷ coins)) xs ≡ deal p s coins xs
