@@ -5,3 +5,4 @@ pub mod Deltas
 pub mod Shares
 pub mod Coding
 pub mod Weighing
+pub mod Factors
