@@ -6,3 +6,4 @@ pub mod Shares
 pub mod Coding
 pub mod Weighing
 pub mod Factors
+pub mod Rows
