@@ -4,12 +4,12 @@
 --     Checked, checking       the loop over the parties
 -- Assumes nothing.
 use mathlib.Core.Path.{_≡_, refl, sym, ap, _∙_}
-use mathlib.Core.Logic.{_≢_}
+use mathlib.Core.Logic.{⊎-elim}
 use mathlib.Core.Bool.{Bool, true, false}
 use mathlib.Core.List.{List, [], _∷_, _++_, map}
 use Prim.Native.Nat.{ℕ, zero, suc, _+_, _-_, _*_, _%_, _^_, _<_, _≤_}
 use native.Mathlib.Numerals.{add-one}
-use native.Mathlib.Nat.{mul-le-mul-left, mul-suc, add-sub-cancel-left}
+use native.Mathlib.Nat.{mul-le-mul-left, mul-suc, add-sub-cancel-left, eq-or-lt-of-le}
 use native.Mathlib.Omega.{arith}
 use borrow.Author.Needs.{needs}
 use borrow.Author.Tests.{eq-eqb, ne-eqb, lt-ltb}
@@ -138,3 +138,87 @@ module _ (p t : ℕ) (points d₀ d : List ℕ) (at i : ℕ) (h : Written (openi
   rows-written l = written-done (openingRow p t points) (t + 1) (length points) d₀ d at i l h
 
 pub ruleset writing = (needs, entry-below, take-below, none-written, room, row-fits, place-fits, length-first, row-sized, row-written, rows-written)
+
+-- ---- a row of the table
+module _ (g : ℕ → List ℕ) (k : ℕ) (each : (j : ℕ) → length (g j) ≡ k) where
+  pub length-rows : (n : ℕ) → length (rowsOf g n) ≡ k * n
+  unfolding rowsOf
+  length-rows zero = omega arith
+  length-rows (suc n) = length-append (rowsOf g n) (g n) ∙ omega (arith, length-rows n, each n, mul-suc k n)
+
+  row-last : (n : ℕ) → take k (drop (k * n) (rowsOf g (suc n))) ≡ g n
+  unfolding rowsOf
+  row-last n = rw (drop-at (rowsOf g n) (g n) (k * n) (length-rows n)) (take-all k (g n) (omega (arith, each n)))
+
+  row-before : (n i : ℕ) → i < n → take k (drop (k * i) (rowsOf g n)) ≡ g i → take k (drop (k * i) (rowsOf g (suc n))) ≡ g i
+  unfolding rowsOf
+  row-before n i l h =
+      let fits : k * i + k ≤ length (rowsOf g n) = omega (arith, row-room k i n l, length-rows n) in
+      rw (drop-append-le (k * i) (rowsOf g n) (g n) (omega arith), take-append-le k (drop (k * i) (rowsOf g n)) (g n) (rw length-drop (omega arith))) h
+
+  pub row-at : (n i : ℕ) → i < n → take k (drop (k * i) (rowsOf g n)) ≡ g i
+  row-at zero i l = absurd (omega arith)
+  row-at (suc n) i l = ⊎-elim (λ (e : i ≡ n). rw e (row-last n)) (λ (m : i < n). row-before n i m (row-at n i m)) (eq-or-lt-of-le {n = i} {m = n} (omega arith))
+
+-- ---- the loop over the parties
+-- the share of party i is the one that the first t + 1 shares give
+abbrev pub agrees : ℕ → ℕ → List ℕ → List ℕ → ℕ → Bool
+agrees p t points shares i = eqb (getD shares i 0) (interpolate p (getD points i 0) (take (t + 1) points) shares)
+
+pub record Checked (p t : ℕ) (points shares : List ℕ) (at i : ℕ) : Type 0 where
+  pub place : at ≡ (t + 1) * i
+  pub seek : Seeking (agrees p t points shares) (length points) i
+
+module _ (p t : ℕ) (points shares : List ℕ) where
+  pub check-begin : Checked p t points shares 0 0
+  check-begin = record { place = omega arith; seek = record { within = omega arith; rest = begin (agrees p t points shares) (length points) } }
+
+  pub check-end : (at i : ℕ) → Checked p t points shares at i → length points ≤ i → Nothing ≡ firstOff p t points shares
+  unfolding firstOff
+  check-end at i h l = nothing (agrees p t points shares) (length points) i (h .seek) l
+
+  module _ (rows : List ℕ) (at i : ℕ) (e : rows ≡ openingRows p t points) (m : t < length points) (h : Checked p t points shares at i) (l : i < length points) where
+    long-rows : length rows ≡ (t + 1) * length points
+    unfolding openingRows
+    long-rows = ap length e ∙ length-rows (openingRow p t points) (t + 1) (λ j. length-row p t points j m) (length points)
+
+    pub row-within : at + (t + 1) ≤ length rows
+    row-within = omega (arith, h .place, long-rows, row-room (t + 1) i (length points) l)
+
+    pub end-fits : length rows * 8 < 2 ^ 63 → Fits w64 (at + (t + 1))
+    end-fits f = record { fits = omega (arith, row-within) }
+
+    pub start-fits : length rows * 8 < 2 ^ 63 → Fits w64 (at * 8)
+    start-fits f = record { fits = omega (arith, row-within) }
+
+    part-is : take (at + (t + 1) - at) (drop at rows) ≡ weights p (getD points i 0) (take (t + 1) points)
+    unfolding openingRows openingRow
+    part-is = rw (add-sub-cancel-left, e, h .place) (row-at (openingRow p t points) (t + 1) (λ j. length-row p t points j m) (length points) i l)
+
+    part-long : length (take (at + (t + 1) - at) (drop at rows)) ≡ t + 1
+    part-long = ap length part-is ∙ length-weights p (getD points i 0) (take (t + 1) points) ∙ length-first t points m
+
+    pub part-below : Ready p → allBelow p (take (at + (t + 1) - at) (drop at rows)) ≡ true
+    part-below r = rw part-is (weights-below (r .prime) (getD points i 0) (take (t + 1) points))
+
+    pub part-short : length shares ≡ length points → length (take (at + (t + 1) - at) (drop at rows)) ≤ length shares
+    part-short s = omega (arith, part-long)
+
+    pub part-small : length points ≤ 65536 → length (take (at + (t + 1) - at) (drop at rows)) ≤ 65536
+    part-small s = omega (arith, part-long)
+
+    value-is : (v : ℕ) → Is p (dot p (take (at + (t + 1) - at) (drop at rows)) shares) v → v ≡ interpolate p (getD points i 0) (take (t + 1) points) shares
+    unfolding interpolate
+    value-is v is = is .eq ∙ ap (λ (ws : List ℕ). dot p ws shares) part-is
+
+    pub check-off : (v : ℕ) → Is p (dot p (take (at + (t + 1) - at) (drop at rows)) shares) v → (v ≡ getD shares i 0 → ⊥) → At i ≡ firstOff p t points shares
+    unfolding firstOff
+    check-off v is off = found (agrees p t points shares) (length points) i (h .seek) l (rw (← value-is v is) (ne-eqb (getD shares i 0) v (λ q. off (sym q))))
+
+    pub check-on : (v : ℕ) → Is p (dot p (take (at + (t + 1) - at) (drop at rows)) shares) v → v ≡ getD shares i 0 → Checked p t points shares (at + (t + 1)) (i + 1)
+    check-on v is on = record {
+      place = omega (arith, h .place, next-at (t + 1) i);
+      seek = record { within = omega arith; rest = passed (agrees p t points shares) (length points) i (h .seek) l (rw (← value-is v is) (eq-eqb (getD shares i 0) v (sym on))) };
+    }
+
+pub ruleset checking = (needs, check-begin, check-end, row-within, end-fits, start-fits, part-below, part-short, part-small, check-off, check-on)
