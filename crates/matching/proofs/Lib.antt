@@ -1,2 +1,3 @@
 pub mod Blocks
 pub mod Back
+pub mod Differ
