@@ -1,3 +1,4 @@
 pub mod Blocks
 pub mod Back
 pub mod Differ
+pub mod Private
