@@ -5,12 +5,12 @@
 use mathlib.Core.Path.{_≡_, refl, sym, ap, ap₂, _∙_}
 use mathlib.Core.Bool.{Bool, true, false, cond}
 use mathlib.Core.List.{List, [], _∷_, _++_, map, flatMap, append-assoc, head-eq-of-cons-eq, tail-eq-of-cons-eq}
-use Prim.Native.Nat.{ℕ, zero, suc, _+_, _*_, _≤_, _<_}
+use Prim.Native.Nat.{ℕ, _+_, _*_, _≤_}
 use native.Mathlib.Nat.{mul-zero}
 use native.Mathlib.Omega.{arith}
 use borrow.Author.Tests.{eqb-true, eq-eqb}
 use lib.Dec.{eqb}
-use lib.ListN.{length, take, drop, getD, length-append, length-take, length-drop, take-append-drop, drop-of-length-le}
+use lib.ListN.{length, take, drop, getD, length-drop, take-append-drop, drop-of-length-le}
 use lib.Seq.{length-take-le, take-at, drop-at, drop-drop}
 use Rattle.numbers.specs.Bytes.{allBelow}
 use Rattle.field.proofs.Solve.{Canon}
@@ -21,7 +21,7 @@ use Rattle.plan.proofs.Valid.{Valid}
 use Rattle.run.specs.Ideal.{inputsTaken}
 use Rattle.run.specs.Shares.{dealtAt, gateShare, coinsTaken}
 use Rattle.matching.specs.Matching.{isMember, matchedBlocks, matchedAt, matchFrom, matchedCoins}
-use Rattle.matching.proofs.Blocks.{matchedBlock, blocks-cons, block-member, length-block, blocks-back, share-prefix, coinsOf, coins-cons, after, newAt, matchRest, match-cons, length-new, take-new, drop-new, share-new, length-matchedCoins, below-matchedCoins, all-drop, below-canon}
+use Rattle.matching.proofs.Blocks.{matchedBlock, blocks-cons, block-member, length-block, blocks-back, share-prefix, coinsOf, coins-cons, after, newAt, matchRest, match-cons, length-new, drop-new, share-new, length-matchedCoins, below-matchedCoins, all-drop, below-canon}
 
 empty : {A : Type 0} (l : List A) → length l ≡ 0 → l ≡ []
 empty l e = drop-of-length-le l {i = 0} (omega arith)

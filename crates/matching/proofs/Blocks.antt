@@ -8,14 +8,13 @@
 use mathlib.Core.Path.{_≡_, refl, sym, ap, ap₂, _∙_, fun-ext}
 use mathlib.Core.Bool.{Bool, true, false, cond}
 use mathlib.Core.List.{List, [], _∷_, _++_, map, flatMap, append-assoc}
-use Prim.Native.Nat.{ℕ, zero, suc, _+_, _-_, _*_, _%_, _≤_, _<_, min}
+use Prim.Native.Nat.{ℕ, zero, suc, _+_, _*_, _≤_, _<_}
 use native.Mathlib.Nat.{mul-zero}
 use native.Mathlib.Omega.{arith}
 use borrow.Author.Tests.{ltb-true, lt-ltb}
 use lib.Dec.{ltb}
-use lib.ListN.{length, take, drop, getD, length-map, length-append, length-take, length-drop, take-append-drop}
-use lib.Seq.{length-take-le, take-append-le, drop-append-le, take-at, drop-at, take-add, drop-drop, take-all}
-use Rattle.numbers.specs.Tables.{tab}
+use lib.ListN.{length, take, drop, getD, length-map, length-append, length-drop}
+use lib.Seq.{length-take-le, take-append-le, drop-append-le, take-at, drop-at, take-add}
 use Rattle.numbers.specs.Bytes.{allBelow}
 use Rattle.numbers.proofs.Tables.{length-tab}
 use Rattle.field.specs.Mod.{sub}
@@ -110,9 +109,6 @@ module _ (plan : Plan) (ms : List ℕ) (prime : Prime (plan .p)) (few : length m
   unfolding matchedBlock
   block-back d s z cs e can = step (isMember d ms)
     where
-      again : List ℕ → List ℕ
-      again l = matched (plan .p) (map (pointOf plan) ms) (sub (plan .p) s z) l
-
       step : (b : Bool) → cond b (cond b cs (matched (plan .p) (map (pointOf plan) ms) (sub (plan .p) z s) cs)) (matched (plan .p) (map (pointOf plan) ms) (sub (plan .p) s z) (cond b cs (matched (plan .p) (map (pointOf plan) ms) (sub (plan .p) z s) cs))) ≡ cs
       step true = refl
       step false = rw (negative s z) (matched-back prime (map (pointOf plan) ms) cs (sub (plan .p) z s) (few-points cs e) can)

@@ -8,7 +8,7 @@
 use mathlib.Core.Path.{_≡_, refl, sym, ap, ap₂, _∙_, subst, fun-ext}
 use mathlib.Core.Logic.{_≢_}
 use mathlib.Core.Bool.{Bool, true, false, cond}
-use mathlib.Core.List.{List, [], _∷_, _++_, map, flatMap, append-nil, append-assoc, head-eq-of-cons-eq, tail-eq-of-cons-eq, List·Memᴰ, List·Memᴰ·head, List·Memᴰ·tail}
+use mathlib.Core.List.{List, [], _∷_, _++_, map, append-nil, append-assoc, head-eq-of-cons-eq, tail-eq-of-cons-eq, List·Memᴰ, List·Memᴰ·head, List·Memᴰ·tail}
 use Prim.Native.Nat.{ℕ, zero, suc, _+_, _-_, _*_, _%_, _≤_, _<_}
 use native.Mathlib.Omega.{arith}
 use borrow.Author.Tests.{eqb-true, eq-eqb}
@@ -17,9 +17,8 @@ use lib.ListN.{length, take, drop, getD, length-append, length-drop}
 use lib.Seq.{length-take-le, take-at, drop-at, getD-take, getD-drop}
 use Rattle.numbers.specs.Tables.{tab}
 use Rattle.numbers.specs.Bytes.{allBelow}
-use Rattle.numbers.proofs.Tables.{length-tab, is-tab, tab-map}
+use Rattle.numbers.proofs.Tables.{is-tab, tab-map}
 use Rattle.field.specs.Mod.{add, mul, sub}
-use Rattle.field.specs.Prime.{Prime}
 use Rattle.field.proofs.Solve.{Canon, #, quote, solve}
 use Rattle.field.proofs.Inverse.{pos}
 use Rattle.sharing.specs.Poly.{eval}
@@ -36,8 +35,7 @@ use Rattle.run.specs.Ideal.{inputsTaken, gateValue, valuesFrom, values}
 use Rattle.run.specs.Shares.{wireAt, dealtAt, sharings, piecesAt, gateShare, coinsTaken, sharesFrom, shareTable}
 use Rattle.run.proofs.Sound.{Shared, none-shared, after-shared, dealers-distinct, dealers-length, input-below}
 use Rattle.matching.specs.Matching.{isMember, matchedBlocks, matchedAt, matchFrom, matchedCoins}
-use Rattle.matching.proofs.Blocks.{matchedBlock, blocks-cons, block-member, block-other, length-block, length-dealt, length-dealers, coinsOf, coins-cons, after, newAt, matchRest, matched-run}
-use Rattle.matching.proofs.Back.{members-map}
+use Rattle.matching.proofs.Blocks.{matchedBlock, blocks-cons, block-member, block-other, length-block, length-dealt, length-dealers, coinsOf, coins-cons, after, newAt, matched-run}
 
 -- ---- members' points
 pub all-at : (P : ℕ → Type 0) (xs : List ℕ) → All P xs → (k : ℕ) → k < length xs → P (getD xs k 0)

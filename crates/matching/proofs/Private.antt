@@ -18,17 +18,17 @@ use Rattle.field.specs.Mod.{mul}
 use Rattle.sharing.specs.Sharing.{opened}
 use Rattle.plan.specs.declared.Gate.{Gate}
 use Rattle.plan.specs.declared.Gate.the-variants.{Input, Add, Scale, Offset, Multiply}
-use Rattle.plan.specs.Plans.{Plan, partyCount, parties, dealerPoints, pointOf, dealersOf, coinCount, isMultiply, wiresFrom, wiresWhere, outWires, ownInputs, ownCoins}
+use Rattle.plan.specs.Plans.{Plan, partyCount, parties, dealerPoints, pointOf, dealersOf, coinCount, isMultiply, wiresFrom, wiresWhere, outWires, ownInputs}
 use Rattle.plan.specs.File.{gateOk}
 use Rattle.plan.proofs.Valid.{Valid}
 use Rattle.party.specs.Messages.{wiresByParty}
 use Rattle.run.specs.Ideal.{inputsTaken, gateValue, values, granted}
 use Rattle.run.specs.Shares.{wireAt, dealtAt, piecesAt, gateShare, coinsTaken, sharesFrom, shareTable, coinsBelow, pieces, tableMails, tableResults, tableViewOf}
-use Rattle.run.proofs.Sound.{Shared, shared}
+use Rattle.run.proofs.Sound.{shared}
 use Rattle.matching.specs.Matching.{isMember, matchedAt, matchFrom, matchedCoins}
-use Rattle.matching.proofs.Blocks.{length-dealt, coinsOf, coins-cons, after, newAt, matchRest, match-cons, drop-new, matched-run}
+use Rattle.matching.proofs.Blocks.{length-dealt, coinsOf, coins-cons, after, newAt, matchRest, drop-new, matched-run}
 use Rattle.matching.proofs.Back.{own-kept, flatMap-members, members-map}
-use Rattle.matching.proofs.Differ.{spare, spare-member, pieces-same, member-same, value-same, dealt-agree, GateAgree, Runs, runs-here, runs-after, fresh-runs, differ}
+use Rattle.matching.proofs.Differ.{spare-member, pieces-same, member-same, value-same, dealt-agree, Runs, runs-here, runs-after, fresh-runs, differ}
 
 -- ---- wires stay
 pub wire-stays : (plan : Plan) (gs : List Gate) (env : List (ℕ → ℕ)) (xs cs : List ℕ) (w : ℕ) → w < length env → wireAt (sharesFrom plan gs env xs cs) w ≡ wireAt env w
@@ -141,20 +141,30 @@ module _ (plan : Plan) (valid : Valid plan) (ms : List ℕ) (few : length ms ≤
 
   -- ---- two whole runs, where the members' inputs agree
   module _ (xs ys c : List ℕ) (below : allBelow p xs ≡ true) (below′ : allBelow p ys ≡ true) (full : length c ≡ coinCount plan) (agree : (i : ℕ) → isMember i ms ≡ true → ownInputs plan i xs ≡ ownInputs plan i ys) where
+    -- the matched coins, and the tables of the two runs
+    abbrev pub c′ : List ℕ
+    c′ = matchedCoins plan ms xs ys c
+
+    abbrev pub T : List (ℕ → ℕ)
+    T = shareTable plan xs c
+
+    abbrev pub T′ : List (ℕ → ℕ)
+    T′ = shareTable plan ys c′
+
     -- a member's share of every wire is the same
-    pub members-share : (w i : ℕ) → isMember i ms ≡ true → wireAt (shareTable plan ys (matchedCoins plan ms xs ys c)) w (pointOf plan i) ≡ wireAt (shareTable plan xs c) w (pointOf plan i)
+    pub members-share : (w i : ℕ) → isMember i ms ≡ true → wireAt T′ w (pointOf plan i) ≡ wireAt T w (pointOf plan i)
     members-share w i m =
-        member-same plan valid ms few parties-only (wireAt (shareTable plan xs c) w) (wireAt (shareTable plan ys (matchedCoins plan ms xs ys c)) w) (getD (values plan xs) w 0) (getD (values plan ys) w 0)
+        member-same plan valid ms few parties-only (wireAt T w) (wireAt T′ w) (getD (values plan xs) w 0) (getD (values plan ys) w 0)
         (shared plan valid xs c below w) (differ plan valid ms few parties-only xs ys c below below′ full agree w) i m
 
     -- and every share of a wire whose value stays
-    pub all-share : (w : ℕ) → getD (values plan ys) w 0 ≡ getD (values plan xs) w 0 → (x : ℕ) → wireAt (shareTable plan ys (matchedCoins plan ms xs ys c)) w x ≡ wireAt (shareTable plan xs c) w x
+    pub all-share : (w : ℕ) → getD (values plan ys) w 0 ≡ getD (values plan xs) w 0 → (x : ℕ) → wireAt T′ w x ≡ wireAt T w x
     all-share w e x =
-        value-same plan valid ms few parties-only (wireAt (shareTable plan xs c) w) (wireAt (shareTable plan ys (matchedCoins plan ms xs ys c)) w) (getD (values plan xs) w 0) (getD (values plan ys) w 0)
+        value-same plan valid ms few parties-only (wireAt T w) (wireAt T′ w) (getD (values plan xs) w 0) (getD (values plan ys) w 0)
         (shared plan valid xs c below w) (differ plan valid ms few parties-only xs ys c below below′ full agree w) e x
 
     -- a member gets the same pieces at a multiply gate
-    pub members-pieces : (g i : ℕ) → isMember i ms ≡ true → g < length (plan .gates) → isMultiply (getD (plan .gates) g (Input 0)) ≡ true → pieces plan ys (matchedCoins plan ms xs ys c) g (pointOf plan i) ≡ pieces plan xs c g (pointOf plan i)
+    pub members-pieces : (g i : ℕ) → isMember i ms ≡ true → g < length (plan .gates) → isMultiply (getD (plan .gates) g (Input 0)) ≡ true → pieces plan ys c′ g (pointOf plan i) ≡ pieces plan xs c g (pointOf plan i)
     unfolding pieces shareTable matchedCoins coinsBelow
     members-pieces g i m lt q =
         pieces-from (plan .gates) [] [] [] [] xs ys c i m (fresh-runs plan valid ms few parties-only xs ys c below below′ full agree) (λ j small. ap (λ n. gateOk (partyCount plan) p n (getD (plan .gates) j (Input 0))) (place j) ∙ valid .gates j small) g lt q
@@ -163,25 +173,25 @@ module _ (plan : Plan) (valid : Valid plan) (ms : List ℕ) (few : length ms ≤
         place j = omega arith
 
     -- ---- a member's view
-    mails-same : (i : ℕ) → isMember i ms ≡ true → granted plan ys i ≡ granted plan xs i → tableMails plan ys (matchedCoins plan ms xs ys c) i ≡ tableMails plan xs c i
+    mails-same : (i : ℕ) → isMember i ms ≡ true → granted plan ys i ≡ granted plan xs i → tableMails plan ys c′ i ≡ tableMails plan xs c i
     unfolding tableMails granted wiresWhere
     mails-same i m e =
         ap₂ _++_ (ap (λ (h : ℕ → ℕ). map h (wiresByParty plan)) (fun-ext (λ w. members-share w i m)))
-        (ap₂ _++_ (flatMap-where isMultiply (λ g. pieces plan ys (matchedCoins plan ms xs ys c) g (pointOf plan i)) (λ g. pieces plan xs c g (pointOf plan i)) 0 (plan .gates) (λ j lt q. subst (λ n. pieces plan ys (matchedCoins plan ms xs ys c) n (pointOf plan i) ≡ pieces plan xs c n (pointOf plan i)) (place j) (members-pieces j i m lt q)))
-        (ap (λ (h : ℕ → List ℕ). flatMap h (parties plan)) (fun-ext (λ j. map-along (λ w. getD (values plan ys) w 0) (λ w. getD (values plan xs) w 0) (λ w. wireAt (shareTable plan ys (matchedCoins plan ms xs ys c)) w (pointOf plan j)) (λ w. wireAt (shareTable plan xs c) w (pointOf plan j)) (outWires plan i) e (λ w v. all-share w v (pointOf plan j))))))
+        (ap₂ _++_ (flatMap-where isMultiply (λ g. pieces plan ys c′ g (pointOf plan i)) (λ g. pieces plan xs c g (pointOf plan i)) 0 (plan .gates) (λ j lt q. subst (λ n. pieces plan ys c′ n (pointOf plan i) ≡ pieces plan xs c n (pointOf plan i)) (place j) (members-pieces j i m lt q)))
+        (ap (λ (h : ℕ → List ℕ). flatMap h (parties plan)) (fun-ext (λ j. map-along (λ w. getD (values plan ys) w 0) (λ w. getD (values plan xs) w 0) (λ w. wireAt T′ w (pointOf plan j)) (λ w. wireAt T w (pointOf plan j)) (outWires plan i) e (λ w v. all-share w v (pointOf plan j))))))
       where
         place : (j : ℕ) → j ≡ 0 + j
         place j = omega arith
 
-    results-same : (i : ℕ) → granted plan ys i ≡ granted plan xs i → tableResults plan ys (matchedCoins plan ms xs ys c) i ≡ tableResults plan xs c i
+    results-same : (i : ℕ) → granted plan ys i ≡ granted plan xs i → tableResults plan ys c′ i ≡ tableResults plan xs c i
     unfolding tableResults granted
     results-same i e =
         map-along (λ w. getD (values plan ys) w 0) (λ w. getD (values plan xs) w 0)
-        (λ w. opened p (plan .t) (plan .points) (map (wireAt (shareTable plan ys (matchedCoins plan ms xs ys c)) w) (plan .points)))
-        (λ w. opened p (plan .t) (plan .points) (map (wireAt (shareTable plan xs c) w) (plan .points))) (outWires plan i) e
+        (λ w. opened p (plan .t) (plan .points) (map (wireAt T′ w) (plan .points)))
+        (λ w. opened p (plan .t) (plan .points) (map (wireAt T w) (plan .points))) (outWires plan i) e
         (λ w v. ap (λ (h : ℕ → ℕ). opened p (plan .t) (plan .points) (map h (plan .points))) (fun-ext (all-share w v)))
 
-    pub view-same : (i : ℕ) → isMember i ms ≡ true → granted plan xs i ≡ granted plan ys i → tableViewOf plan xs c i ≡ tableViewOf plan ys (matchedCoins plan ms xs ys c) i
+    pub view-same : (i : ℕ) → isMember i ms ≡ true → granted plan xs i ≡ granted plan ys i → tableViewOf plan xs c i ≡ tableViewOf plan ys c′ i
     unfolding tableViewOf
     view-same i m e =
         ap₂ _++_ (agree i m)
