@@ -68,7 +68,10 @@ canon-below p pos (x ∷ xs) h = rw (lt-ltb x p (canon-lt pos (h .0)), canon-bel
 unfoldable pub matchedBlock : Plan → List ℕ → ℕ → ℕ → ℕ → List ℕ → List ℕ
 matchedBlock plan ms d s z cs = cond (isMember d ms) cs (matched (plan .p) (map (pointOf plan) ms) (sub (plan .p) z s) cs)
 
-pub blocks-cons : (plan : Plan) (ms : List ℕ) (d : ℕ) (ds ss zs cs : List ℕ) → matchedBlocks plan ms (d ∷ ds) ss zs cs ≡ matchedBlock plan ms d (getD ss 0 0) (getD zs 0 0) (take (plan .t) cs) ++ matchedBlocks plan ms ds (drop 1 ss) (drop 1 zs) (drop (plan .t) cs)
+pub blocks-cons :
+    (plan : Plan) (ms : List ℕ) (d : ℕ) (ds ss zs cs : List ℕ)
+    → matchedBlocks plan ms (d ∷ ds) ss zs cs
+    ≡ matchedBlock plan ms d (getD ss 0 0) (getD zs 0 0) (take (plan .t) cs) ++ matchedBlocks plan ms ds (drop 1 ss) (drop 1 zs) (drop (plan .t) cs)
 unfolding matchedBlocks matchedBlock
 blocks-cons plan ms d ds ss zs cs = refl
 
@@ -77,7 +80,9 @@ pub block-member : (plan : Plan) (ms : List ℕ) (d s z : ℕ) (cs : List ℕ) �
 unfolding matchedBlock
 block-member plan ms d s z cs m = rw m
 
-pub block-other : (plan : Plan) (ms : List ℕ) (d s z : ℕ) (cs : List ℕ) → isMember d ms ≡ false → matchedBlock plan ms d s z cs ≡ matched (plan .p) (map (pointOf plan) ms) (sub (plan .p) z s) cs
+pub block-other :
+    (plan : Plan) (ms : List ℕ) (d s z : ℕ) (cs : List ℕ) → isMember d ms ≡ false
+    → matchedBlock plan ms d s z cs ≡ matched (plan .p) (map (pointOf plan) ms) (sub (plan .p) z s) cs
 unfolding matchedBlock
 block-other plan ms d s z cs m = rw m
 
@@ -105,11 +110,15 @@ module _ (plan : Plan) (ms : List ℕ) (prime : Prime (plan .p)) (few : length m
   negative s z = let pos : 0 < plan .p = pos prime in solve (plan .p) (search (quote, # s, # z)) (omega arith)
 
   -- the matching back undoes it
-  pub block-back : (d s z : ℕ) (cs : List ℕ) → length cs ≡ plan .t → All (Canon (plan .p)) cs → matchedBlock plan ms d z s (matchedBlock plan ms d s z cs) ≡ cs
+  pub block-back :
+      (d s z : ℕ) (cs : List ℕ) → length cs ≡ plan .t → All (Canon (plan .p)) cs → matchedBlock plan ms d z s (matchedBlock plan ms d s z cs) ≡ cs
   unfolding matchedBlock
   block-back d s z cs e can = step (isMember d ms)
     where
-      step : (b : Bool) → cond b (cond b cs (matched (plan .p) (map (pointOf plan) ms) (sub (plan .p) z s) cs)) (matched (plan .p) (map (pointOf plan) ms) (sub (plan .p) s z) (cond b cs (matched (plan .p) (map (pointOf plan) ms) (sub (plan .p) z s) cs))) ≡ cs
+      step :
+          (b : Bool) → cond b (cond b cs (matched (plan .p) (map (pointOf plan) ms) (sub (plan .p) z s) cs))
+          (matched (plan .p) (map (pointOf plan) ms) (sub (plan .p) s z)
+          (cond b cs (matched (plan .p) (map (pointOf plan) ms) (sub (plan .p) z s) cs))) ≡ cs
       step true = refl
       step false = rw (negative s z) (matched-back prime (map (pointOf plan) ms) cs (sub (plan .p) z s) (few-points cs e) can)
 
@@ -119,9 +128,15 @@ module _ (plan : Plan) (ms : List ℕ) (prime : Prime (plan .p)) (few : length m
   length-blocks [] ss zs cs le = omega arith
   length-blocks (d ∷ ds) ss zs cs le =
       rw (blocks-cons plan ms d ds ss zs cs, length-append)
-      (omega (arith, length-block d (getD ss 0 0) (getD zs 0 0) (take (plan .t) cs) (length-take-le (plan .t) cs (omega arith)), length-blocks ds (drop 1 ss) (drop 1 zs) (drop (plan .t) cs) (omega (arith, length-drop (plan .t) cs))))
+      (omega (
+        arith,
+        length-block d (getD ss 0 0) (getD zs 0 0) (take (plan .t) cs) (length-take-le (plan .t) cs (omega arith)),
+        length-blocks ds
+            (drop 1 ss) (drop 1 zs) (drop (plan .t) cs) (omega (arith, length-drop (plan .t) cs)),
+      ))
 
-  pub blocks-canon : (ds ss zs cs : List ℕ) → plan .t * length ds ≤ length cs → All (Canon (plan .p)) cs → All (Canon (plan .p)) (matchedBlocks plan ms ds ss zs cs)
+  pub blocks-canon :
+      (ds ss zs cs : List ℕ) → plan .t * length ds ≤ length cs → All (Canon (plan .p)) cs → All (Canon (plan .p)) (matchedBlocks plan ms ds ss zs cs)
   unfolding matchedBlocks
   blocks-canon [] ss zs cs le can = tt
   blocks-canon (d ∷ ds) ss zs cs le can =
@@ -129,15 +144,19 @@ module _ (plan : Plan) (ms : List ℕ) (prime : Prime (plan .p)) (few : length m
       let more : List ℕ = matchedBlocks plan ms ds (drop 1 ss) (drop 1 zs) (drop (plan .t) cs) in
       rw (blocks-cons plan ms d ds ss zs cs)
       (all-append (Canon (plan .p)) new more
-      (block-canon d (getD ss 0 0) (getD zs 0 0) (take (plan .t) cs) (length-take-le (plan .t) cs (omega arith)) (all-take (Canon (plan .p)) (plan .t) cs can))
-      (blocks-canon ds (drop 1 ss) (drop 1 zs) (drop (plan .t) cs) (omega (arith, length-drop (plan .t) cs)) (all-drop (Canon (plan .p)) (plan .t) cs can)))
+      (block-canon d (getD ss 0 0) (getD zs 0 0) (take (plan .t) cs) (length-take-le (plan .t) cs (omega arith))
+      (all-take (Canon (plan .p)) (plan .t) cs can))
+      (blocks-canon ds (drop 1 ss) (drop 1 zs) (drop (plan .t) cs) (omega (arith, length-drop (plan .t) cs))
+      (all-drop (Canon (plan .p)) (plan .t) cs can)))
 
   take-block : (ds cs : List ℕ) (d : ℕ) → take (plan .t * length (d ∷ ds)) cs ≡ take (plan .t) cs ++ take (plan .t * length ds) (drop (plan .t) cs)
   take-block ds cs d =
       let e : plan .t * length (d ∷ ds) ≡ plan .t + plan .t * length ds = omega arith in
       ap (λ n. take n cs) e ∙ take-add (plan .t) (plan .t * length ds) cs
 
-  pub blocks-back : (ds ss zs cs rest : List ℕ) → plan .t * length ds ≤ length cs → All (Canon (plan .p)) cs → matchedBlocks plan ms ds zs ss (matchedBlocks plan ms ds ss zs cs ++ rest) ≡ take (plan .t * length ds) cs
+  pub blocks-back :
+      (ds ss zs cs rest : List ℕ) → plan .t * length ds ≤ length cs → All (Canon (plan .p)) cs
+      → matchedBlocks plan ms ds zs ss (matchedBlocks plan ms ds ss zs cs ++ rest) ≡ take (plan .t * length ds) cs
   unfolding matchedBlocks
   blocks-back [] ss zs cs rest le can = rw mul-zero
   blocks-back (d ∷ ds) ss zs cs rest le can =
@@ -148,13 +167,16 @@ module _ (plan : Plan) (ms : List ℕ) (prime : Prime (plan .p)) (few : length m
       let more : List ℕ = matchedBlocks plan ms ds (drop 1 ss) (drop 1 zs) (drop (plan .t) cs) in
       let length-old : length old ≡ plan .t = length-take-le (plan .t) cs (omega arith) in
       let length-new : length new ≡ plan .t = length-block d s z old length-old in
-      let here : take (plan .t) ((new ++ more) ++ rest) ≡ new = ap (take (plan .t)) (append-assoc new more rest) ∙ take-at new (more ++ rest) (plan .t) length-new in
-      let there : drop (plan .t) ((new ++ more) ++ rest) ≡ more ++ rest = ap (drop (plan .t)) (append-assoc new more rest) ∙ drop-at new (more ++ rest) (plan .t) length-new in
+      let here : take (plan .t) ((new ++ more) ++ rest) ≡ new =
+      ap (take (plan .t)) (append-assoc new more rest) ∙ take-at new (more ++ rest) (plan .t) length-new in
+      let there : drop (plan .t) ((new ++ more) ++ rest) ≡ more ++ rest =
+      ap (drop (plan .t)) (append-assoc new more rest) ∙ drop-at new (more ++ rest) (plan .t) length-new in
       ap (λ l. matchedBlocks plan ms (d ∷ ds) zs ss (l ++ rest)) (blocks-cons plan ms d ds ss zs cs)
       ∙ blocks-cons plan ms d ds zs ss ((new ++ more) ++ rest)
       ∙ ap₂ (λ l k. matchedBlock plan ms d z s l ++ matchedBlocks plan ms ds (drop 1 zs) (drop 1 ss) k) here there
       ∙ ap₂ _++_ (block-back d s z old length-old (all-take (Canon (plan .p)) (plan .t) cs can))
-      (blocks-back ds (drop 1 ss) (drop 1 zs) (drop (plan .t) cs) rest (omega (arith, length-drop (plan .t) cs)) (all-drop (Canon (plan .p)) (plan .t) cs can))
+      (blocks-back ds (drop 1 ss) (drop 1 zs) (drop (plan .t) cs) rest (omega (arith, length-drop (plan .t) cs))
+      (all-drop (Canon (plan .p)) (plan .t) cs can))
       ∙ sym (take-block ds cs d)
 
 -- ---- a gate's shares take no coins but its own
@@ -178,9 +200,12 @@ length-dealt plan valid (Scale a c) env v = refl
 length-dealt plan valid (Offset a c) env v = refl
 length-dealt plan valid (Multiply a b) env v = length-map (dealerPoints plan) _ ∙ length-dealers plan valid ∙ sym (length-tab suc (dealerCount plan))
 
-pub share-prefix : (plan : Plan) → Valid plan → (g : Gate) (env : List (ℕ → ℕ)) (v : ℕ) (cs rest : List ℕ) → coinsTaken plan g ≤ length cs → gateShare plan g env v (cs ++ rest) ≡ gateShare plan g env v cs
+pub share-prefix :
+    (plan : Plan) → Valid plan → (g : Gate) (env : List (ℕ → ℕ)) (v : ℕ) (cs rest : List ℕ) → coinsTaken plan g ≤ length cs
+    → gateShare plan g env v (cs ++ rest) ≡ gateShare plan g env v cs
 unfolding gateShare coinsTaken dealersOf piecesAt
-share-prefix plan valid (Input s) env v cs rest le = fun-ext (λ x. ap (λ l. eval (plan .p) (v ∷ l) x) (take-append-le (plan .t) cs rest (omega arith)))
+share-prefix plan valid (Input s) env v cs rest le =
+    fun-ext (λ x. ap (λ l. eval (plan .p) (v ∷ l) x) (take-append-le (plan .t) cs rest (omega arith)))
 share-prefix plan valid (Add a b) env v cs rest le = refl
 share-prefix plan valid (Scale a c) env v cs rest le = refl
 share-prefix plan valid (Offset a c) env v cs rest le = refl
@@ -208,22 +233,32 @@ newAt plan ms g env env′ xs ys cs = matchedAt plan ms g env env′ (getD xs 0 
 -- the new coins after gate g
 abbrev pub matchRest : Plan → List ℕ → Gate → List Gate → List (ℕ → ℕ) → List (ℕ → ℕ) → List ℕ → List ℕ → List ℕ → List ℕ
 matchRest plan ms g gs env env′ xs ys cs =
-    matchFrom plan ms gs (after plan g env xs cs) (after plan g env′ ys (newAt plan ms g env env′ xs ys cs)) (drop (inputsTaken g) xs) (drop (inputsTaken g) ys) (drop (coinsTaken plan g) cs)
+    matchFrom plan ms gs (after plan g env xs cs) (after plan g env′ ys (newAt plan ms g env env′ xs ys cs)) (drop (inputsTaken g) xs)
+    (drop (inputsTaken g) ys) (drop (coinsTaken plan g) cs)
 
-pub match-cons : (plan : Plan) (ms : List ℕ) (g : Gate) (gs : List Gate) (env env′ : List (ℕ → ℕ)) (xs ys cs : List ℕ) → matchFrom plan ms (g ∷ gs) env env′ xs ys cs ≡ newAt plan ms g env env′ xs ys cs ++ matchRest plan ms g gs env env′ xs ys cs
+pub match-cons :
+    (plan : Plan) (ms : List ℕ) (g : Gate) (gs : List Gate) (env env′ : List (ℕ → ℕ)) (xs ys cs : List ℕ)
+    → matchFrom plan ms (g ∷ gs) env env′ xs ys cs ≡ newAt plan ms g env env′ xs ys cs ++ matchRest plan ms g gs env env′ xs ys cs
 unfolding matchFrom
 match-cons plan ms g gs env env′ xs ys cs = refl
 
 module _ (plan : Plan) (valid : Valid plan) (ms : List ℕ) (few : length ms ≤ plan .t) where
-  pub length-new : (g : Gate) (env env′ : List (ℕ → ℕ)) (xs ys cs : List ℕ) → coinsTaken plan g ≤ length cs → length (newAt plan ms g env env′ xs ys cs) ≡ coinsTaken plan g
+  pub length-new :
+      (g : Gate) (env env′ : List (ℕ → ℕ)) (xs ys cs : List ℕ) → coinsTaken plan g ≤ length cs
+      → length (newAt plan ms g env env′ xs ys cs) ≡ coinsTaken plan g
   unfolding matchedAt coinsTaken
   length-new g env env′ xs ys cs le = length-blocks plan ms (valid .prime) few (dealersOf plan g) _ _ cs le
 
-  pub new-canon : (g : Gate) (env env′ : List (ℕ → ℕ)) (xs ys cs : List ℕ) → coinsTaken plan g ≤ length cs → All (Canon (plan .p)) cs → All (Canon (plan .p)) (newAt plan ms g env env′ xs ys cs)
+  pub new-canon :
+      (g : Gate) (env env′ : List (ℕ → ℕ)) (xs ys cs : List ℕ) → coinsTaken plan g ≤ length cs → All (Canon (plan .p)) cs
+      → All (Canon (plan .p)) (newAt plan ms g env env′ xs ys cs)
   unfolding matchedAt coinsTaken
-  new-canon g env env′ xs ys cs le can = blocks-canon plan ms (valid .prime) few (dealersOf plan g) (dealtAt plan g env (getD xs 0 0)) (dealtAt plan g env′ (getD ys 0 0)) cs le can
+  new-canon g env env′ xs ys cs le can =
+      blocks-canon plan ms (valid .prime) few (dealersOf plan g) (dealtAt plan g env (getD xs 0 0)) (dealtAt plan g env′ (getD ys 0 0)) cs le can
 
-  pub length-match : (gs : List Gate) (env env′ : List (ℕ → ℕ)) (xs ys cs : List ℕ) → coinsOf plan gs ≤ length cs → length (matchFrom plan ms gs env env′ xs ys cs) ≡ coinsOf plan gs
+  pub length-match :
+      (gs : List Gate) (env env′ : List (ℕ → ℕ)) (xs ys cs : List ℕ) → coinsOf plan gs ≤ length cs
+      → length (matchFrom plan ms gs env env′ xs ys cs) ≡ coinsOf plan gs
   unfolding matchFrom flatMap
   length-match [] env env′ xs ys cs le = omega arith
   length-match (g ∷ gs) env env′ xs ys cs le =
@@ -231,10 +266,13 @@ module _ (plan : Plan) (valid : Valid plan) (ms : List ℕ) (few : length ms ≤
       let new : List ℕ = newAt plan ms g env env′ xs ys cs in
       length-append new (matchRest plan ms g gs env env′ xs ys cs)
       ∙ ap₂ _+_ (length-new g env env′ xs ys cs (omega arith))
-      (length-match gs (after plan g env xs cs) (after plan g env′ ys new) (drop (inputsTaken g) xs) (drop (inputsTaken g) ys) (drop (coinsTaken plan g) cs) (omega (arith, length-drop (coinsTaken plan g) cs)))
+      (length-match gs (after plan g env xs cs) (after plan g env′ ys new) (drop (inputsTaken g) xs) (drop (inputsTaken g) ys)
+      (drop (coinsTaken plan g) cs) (omega (arith, length-drop (coinsTaken plan g) cs)))
       ∙ sym count
 
-  pub match-canon : (gs : List Gate) (env env′ : List (ℕ → ℕ)) (xs ys cs : List ℕ) → coinsOf plan gs ≤ length cs → All (Canon (plan .p)) cs → All (Canon (plan .p)) (matchFrom plan ms gs env env′ xs ys cs)
+  pub match-canon :
+      (gs : List Gate) (env env′ : List (ℕ → ℕ)) (xs ys cs : List ℕ) → coinsOf plan gs ≤ length cs → All (Canon (plan .p)) cs
+      → All (Canon (plan .p)) (matchFrom plan ms gs env env′ xs ys cs)
   unfolding matchFrom
   match-canon [] env env′ xs ys cs le can = tt
   match-canon (g ∷ gs) env env′ xs ys cs le can =
@@ -243,25 +281,37 @@ module _ (plan : Plan) (valid : Valid plan) (ms : List ℕ) (few : length ms ≤
       let here : coinsTaken plan g ≤ length cs = omega arith in
       all-append (Canon (plan .p)) new (matchRest plan ms g gs env env′ xs ys cs)
       (new-canon g env env′ xs ys cs here can)
-      (match-canon gs (after plan g env xs cs) (after plan g env′ ys new) (drop (inputsTaken g) xs) (drop (inputsTaken g) ys) (drop (coinsTaken plan g) cs) (omega (arith, length-drop (coinsTaken plan g) cs)) (all-drop (Canon (plan .p)) (coinsTaken plan g) cs can))
+      (match-canon gs (after plan g env xs cs) (after plan g env′ ys new) (drop (inputsTaken g) xs) (drop (inputsTaken g) ys)
+      (drop (coinsTaken plan g) cs) (omega (arith, length-drop (coinsTaken plan g) cs)) (all-drop (Canon (plan .p)) (coinsTaken plan g) cs can))
 
   -- the matched run: its coins from gate g on are g's new ones and the rest, and its wires are those that the matching builds
-  pub drop-new : (g : Gate) (gs : List Gate) (env env′ : List (ℕ → ℕ)) (xs ys cs : List ℕ) → coinsTaken plan g ≤ length cs → drop (coinsTaken plan g) (matchFrom plan ms (g ∷ gs) env env′ xs ys cs) ≡ matchRest plan ms g gs env env′ xs ys cs
+  pub drop-new :
+      (g : Gate) (gs : List Gate) (env env′ : List (ℕ → ℕ)) (xs ys cs : List ℕ) → coinsTaken plan g ≤ length cs
+      → drop (coinsTaken plan g) (matchFrom plan ms (g ∷ gs) env env′ xs ys cs) ≡ matchRest plan ms g gs env env′ xs ys cs
   drop-new g gs env env′ xs ys cs le =
       ap (drop (coinsTaken plan g)) (match-cons plan ms g gs env env′ xs ys cs)
       ∙ drop-at (newAt plan ms g env env′ xs ys cs) (matchRest plan ms g gs env env′ xs ys cs) (coinsTaken plan g) (length-new g env env′ xs ys cs le)
 
-  pub take-new : (g : Gate) (gs : List Gate) (env env′ : List (ℕ → ℕ)) (xs ys cs : List ℕ) → coinsTaken plan g ≤ length cs → take (coinsTaken plan g) (matchFrom plan ms (g ∷ gs) env env′ xs ys cs) ≡ newAt plan ms g env env′ xs ys cs
+  pub take-new :
+      (g : Gate) (gs : List Gate) (env env′ : List (ℕ → ℕ)) (xs ys cs : List ℕ) → coinsTaken plan g ≤ length cs
+      → take (coinsTaken plan g) (matchFrom plan ms (g ∷ gs) env env′ xs ys cs) ≡ newAt plan ms g env env′ xs ys cs
   take-new g gs env env′ xs ys cs le =
       ap (take (coinsTaken plan g)) (match-cons plan ms g gs env env′ xs ys cs)
       ∙ take-at (newAt plan ms g env env′ xs ys cs) (matchRest plan ms g gs env env′ xs ys cs) (coinsTaken plan g) (length-new g env env′ xs ys cs le)
 
-  pub share-new : (g : Gate) (gs : List Gate) (env env′ : List (ℕ → ℕ)) (xs ys cs : List ℕ) (v : ℕ) → coinsTaken plan g ≤ length cs → gateShare plan g env′ v (matchFrom plan ms (g ∷ gs) env env′ xs ys cs) ≡ gateShare plan g env′ v (newAt plan ms g env env′ xs ys cs)
+  pub share-new :
+      (g : Gate) (gs : List Gate) (env env′ : List (ℕ → ℕ)) (xs ys cs : List ℕ) (v : ℕ) → coinsTaken plan g ≤ length cs
+      → gateShare plan g env′ v (matchFrom plan ms (g ∷ gs) env env′ xs ys cs) ≡ gateShare plan g env′ v (newAt plan ms g env env′ xs ys cs)
   share-new g gs env env′ xs ys cs v le =
       ap (gateShare plan g env′ v) (match-cons plan ms g gs env env′ xs ys cs)
-      ∙ share-prefix plan valid g env′ v (newAt plan ms g env env′ xs ys cs) (matchRest plan ms g gs env env′ xs ys cs) (omega (arith, length-new g env env′ xs ys cs le))
+      ∙ share-prefix plan valid g env′ v (newAt plan ms g env env′ xs ys cs) (matchRest plan ms g gs env env′ xs ys cs)
+      (omega (arith, length-new g env env′ xs ys cs le))
 
-  pub matched-run : (g : Gate) (gs : List Gate) (env env′ : List (ℕ → ℕ)) (xs ys cs : List ℕ) → coinsTaken plan g ≤ length cs → sharesFrom plan (g ∷ gs) env′ ys (matchFrom plan ms (g ∷ gs) env env′ xs ys cs) ≡ sharesFrom plan gs (after plan g env′ ys (newAt plan ms g env env′ xs ys cs)) (drop (inputsTaken g) ys) (matchRest plan ms g gs env env′ xs ys cs)
+  pub matched-run :
+      (g : Gate) (gs : List Gate) (env env′ : List (ℕ → ℕ)) (xs ys cs : List ℕ) → coinsTaken plan g ≤ length cs
+      → sharesFrom plan (g ∷ gs) env′ ys (matchFrom plan ms (g ∷ gs) env env′ xs ys cs)
+      ≡ sharesFrom plan gs (after plan g env′ ys (newAt plan ms g env env′ xs ys cs)) (drop (inputsTaken g) ys)
+      (matchRest plan ms g gs env env′ xs ys cs)
   unfolding sharesFrom
   matched-run g gs env env′ xs ys cs le =
       ap₂ (λ (h : ℕ → ℕ) l. sharesFrom plan gs (env′ ++ (h ∷ [])) (drop (inputsTaken g) ys) l)
@@ -272,6 +322,8 @@ module _ (plan : Plan) (valid : Valid plan) (ms : List ℕ) (few : length ms ≤
   unfolding matchedCoins coinCount dealings
   length-matchedCoins xs ys c e = length-match (plan .gates) [] [] xs ys c (omega arith)
 
-  pub below-matchedCoins : (xs ys c : List ℕ) → length c ≡ coinCount plan → allBelow (plan .p) c ≡ true → allBelow (plan .p) (matchedCoins plan ms xs ys c) ≡ true
+  pub below-matchedCoins :
+      (xs ys c : List ℕ) → length c ≡ coinCount plan → allBelow (plan .p) c ≡ true → allBelow (plan .p) (matchedCoins plan ms xs ys c) ≡ true
   unfolding matchedCoins coinCount dealings
-  below-matchedCoins xs ys c e h = canon-below (plan .p) (pos (valid .prime)) _ (match-canon (plan .gates) [] [] xs ys c (omega arith) (below-canon (plan .p) c h))
+  below-matchedCoins xs ys c e h =
+      canon-below (plan .p) (pos (valid .prime)) _ (match-canon (plan .gates) [] [] xs ys c (omega arith) (below-canon (plan .p) c h))
