@@ -1,6 +1,8 @@
 -- The matching from ys to xs undoes the matching from xs to ys, and both keep the members' coins.
---     match-back, one-to-one, onto     a bijection of full settings of coins
---     keeps                            each member's coins stay
+--     match-back, back            the matching undone, gate by gate and with the plan's counts
+--     one-to-one, onto            so it is a bijection of full settings of coins
+--     own-kept, keeps             each member's coins stay
+--     map-members, members-map    what holds for each member, along the list of the members and back
 -- Assumes nothing.
 use mathlib.Core.Path.{_≡_, refl, sym, ap, ap₂, _∙_}
 use mathlib.Core.Bool.{Bool, true, false, cond}

@@ -1,9 +1,10 @@
 -- The matched coins in blocks of t, one for each dealing.
 --     length-block, block-canon, block-back        one dealing's
 --     length-blocks, blocks-canon, blocks-back     a gate's
---     length-match, match-canon                    a run's; full is the same with the plan's counts
 --     share-prefix                                 a gate's shares take no coins but its own
---     matched-step                                 the matched run goes through the wires that the matching builds
+--     length-match, match-canon                    a run's
+--     drop-new, share-new, matched-run             the matched run goes through the wires that the matching builds
+--     length-matchedCoins, below-matchedCoins      the matched coins are full
 -- Assumes nothing.
 use mathlib.Core.Path.{_≡_, refl, sym, ap, ap₂, _∙_, fun-ext}
 use mathlib.Core.Bool.{Bool, true, false, cond}

@@ -292,7 +292,11 @@ module _ (plan : Plan) (valid : Valid plan) (ms : List ℕ) (few : length ms ≤
             ∙ take-at (matchedBlock plan ms s x y (take t cs)) _ t
             (length-block plan ms (valid .prime) few s x y (take t cs) (length-take-le t cs (omega arith)))
     gate-differ (Add a b) x y cs le h =
-        record { by = λ z. ap₂ (add p) (differ a .by z) (differ b .by z) ∙ add-differ (wireAt env a z) (wireAt env b z) (getD vals a 0) (getD vals b 0) (getD vals′ a 0) (getD vals′ b 0) (spare z) }
+        record {
+          by =
+              λ z. ap₂ (add p) (differ a .by z) (differ b .by z)
+              ∙ add-differ (wireAt env a z) (wireAt env b z) (getD vals a 0) (getD vals b 0) (getD vals′ a 0) (getD vals′ b 0) (spare z);
+        }
     gate-differ (Scale a c) x y cs le h =
         record { by = λ z. ap (λ n. mul p n c) (differ a .by z) ∙ scale-differ (wireAt env a z) c (getD vals a 0) (getD vals′ a 0) (spare z) }
     gate-differ (Offset a c) x y cs le h =
