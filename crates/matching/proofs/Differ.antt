@@ -187,8 +187,8 @@ module _ (plan : Plan) (valid : Valid plan) (ms : List ℕ) (few : length ms ≤
       let pos : 0 < p = pos (valid .prime) in solve p (search (quote, # w, # f, # z, # s, # e, # F, # S, # Z) depth 9) (omega arith)
 
   pub pieces-differ :
-      (ws ds ss zs cs rest : List ℕ) (x : ℕ) → length ss ≡ length ds → length zs ≡ length ds → t * length ds ≤ length cs → Agree ms ds ss zs →
-      dot p ws (piecesAt plan zs (matchedBlocks plan ms ds ss zs cs ++ rest) x)
+      (ws ds ss zs cs rest : List ℕ) (x : ℕ) → length ss ≡ length ds → length zs ≡ length ds → t * length ds ≤ length cs → Agree ms ds ss zs
+      → dot p ws (piecesAt plan zs (matchedBlocks plan ms ds ss zs cs ++ rest) x)
       ≡ add p (dot p ws (piecesAt plan ss cs x)) (mul p (sub p (dot p ws zs) (dot p ws ss)) (spare x))
   unfolding piecesAt sharings dot
   pieces-differ [] ds ss zs cs rest x ls lz le agree = let pos : 0 < p = pos (valid .prime) in solve p (search (quote, # (spare x))) (omega arith)
@@ -358,8 +358,8 @@ module _ (plan : Plan) (valid : Valid plan) (ms : List ℕ) (few : length ms ≤
       → coinsTaken plan g ≤ length cs
   runs-here g gs env env′ vals vals′ xs ys cs r = omega (arith, coins-cons plan g gs, r .enough)
 
-  pub runs-after : (g : Gate) (gs : List Gate) (env env′ : List (ℕ → ℕ)) (vals vals′ xs ys cs : List ℕ) → Runs (g ∷ gs) env env′ vals vals′ xs ys cs →
-      Runs gs (after plan g env xs cs) (after plan g env′ ys (newAt plan ms g env env′ xs ys cs)) (vals ++ (gateValue p g vals (getD xs 0 0) ∷ []))
+  pub runs-after : (g : Gate) (gs : List Gate) (env env′ : List (ℕ → ℕ)) (vals vals′ xs ys cs : List ℕ) → Runs (g ∷ gs) env env′ vals vals′ xs ys cs
+      → Runs gs (after plan g env xs cs) (after plan g env′ ys (newAt plan ms g env env′ xs ys cs)) (vals ++ (gateValue p g vals (getD xs 0 0) ∷ []))
       (vals′ ++ (gateValue p g vals′ (getD ys 0 0) ∷ [])) (drop (inputsTaken g) xs) (drop (inputsTaken g) ys) (drop (coinsTaken plan g) cs)
   unfolding wireAt
   runs-after g gs env env′ vals vals′ xs ys cs r =
@@ -385,8 +385,8 @@ module _ (plan : Plan) (valid : Valid plan) (ms : List ℕ) (few : length ms ≤
       }
 
   -- every wire, when the runs are over
-  pub differ-from : (gs : List Gate) (env env′ : List (ℕ → ℕ)) (vals vals′ xs ys cs : List ℕ) → Runs gs env env′ vals vals′ xs ys cs → (w : ℕ) →
-      Differ (wireAt (sharesFrom plan gs env xs cs) w) (wireAt (sharesFrom plan gs env′ ys (matchFrom plan ms gs env env′ xs ys cs)) w)
+  pub differ-from : (gs : List Gate) (env env′ : List (ℕ → ℕ)) (vals vals′ xs ys cs : List ℕ) → Runs gs env env′ vals vals′ xs ys cs → (w : ℕ)
+      → Differ (wireAt (sharesFrom plan gs env xs cs) w) (wireAt (sharesFrom plan gs env′ ys (matchFrom plan ms gs env env′ xs ys cs)) w)
       (getD (valuesFrom p gs vals xs) w 0) (getD (valuesFrom p gs vals′ ys) w 0)
   unfolding sharesFrom valuesFrom matchFrom
   differ-from [] env env′ vals vals′ xs ys cs r w = r .differ w
@@ -418,8 +418,8 @@ module _ (plan : Plan) (valid : Valid plan) (ms : List ℕ) (few : length ms ≤
 
   pub differ :
       (xs ys c : List ℕ) → allBelow p xs ≡ true → allBelow p ys ≡ true → length c ≡ coinCount plan
-      → ((i : ℕ) → isMember i ms ≡ true → ownInputs plan i xs ≡ ownInputs plan i ys) → (w : ℕ) →
-      Differ (wireAt (shareTable plan xs c) w) (wireAt (shareTable plan ys (matchedCoins plan ms xs ys c)) w) (getD (values plan xs) w 0)
+      → ((i : ℕ) → isMember i ms ≡ true → ownInputs plan i xs ≡ ownInputs plan i ys) → (w : ℕ)
+      → Differ (wireAt (shareTable plan xs c) w) (wireAt (shareTable plan ys (matchedCoins plan ms xs ys c)) w) (getD (values plan xs) w 0)
       (getD (values plan ys) w 0)
   unfolding shareTable values matchedCoins
   differ xs ys c hx hy e same w = differ-from (plan .gates) [] [] [] [] xs ys c (fresh-runs xs ys c hx hy e same) w

@@ -97,10 +97,10 @@ module _ (plan : Plan) (valid : Valid plan) (ms : List ℕ) (few : length ms ≤
   -- the first of the gates
   pieces-head :
       (g : Gate) (gs : List Gate) (env env′ T T′ : List (ℕ → ℕ)) (vals vals′ xs ys cs : List ℕ) (i : ℕ) → isMember i ms ≡ true
-      → Here (g ∷ gs) env env′ vals vals′ xs ys cs →
-      isMultiply g ≡ true → gateOk (partyCount plan) p (length env) g ≡ true → ((w : ℕ) → w < length env → wireAt T w ≡ wireAt env w)
-      → ((w : ℕ) → w < length env → wireAt T′ w ≡ wireAt env′ w) →
-      piecesAt plan (dealtAt plan g T′ 0) (matchFrom plan ms (g ∷ gs) env env′ xs ys cs) (pointOf plan i)
+      → Here (g ∷ gs) env env′ vals vals′ xs ys cs
+      → isMultiply g ≡ true → gateOk (partyCount plan) p (length env) g ≡ true → ((w : ℕ) → w < length env → wireAt T w ≡ wireAt env w)
+      → ((w : ℕ) → w < length env → wireAt T′ w ≡ wireAt env′ w)
+      → piecesAt plan (dealtAt plan g T′ 0) (matchFrom plan ms (g ∷ gs) env env′ xs ys cs) (pointOf plan i)
       ≡ piecesAt plan (dealtAt plan g T 0) cs (pointOf plan i)
   unfolding isMultiply matchFrom matchedAt coinsTaken
   pieces-head (Input s) gs env env′ T T′ vals vals′ xs ys cs i m r q ok keep keep′ = let z : _≡_ {A = ℕ} 0 1 = cc in absurd (omega arith)
@@ -130,10 +130,10 @@ module _ (plan : Plan) (valid : Valid plan) (ms : List ℕ) (few : length ms ≤
   -- the gate number k of them
   pieces-from :
       (gs : List Gate) (env env′ : List (ℕ → ℕ)) (vals vals′ xs ys cs : List ℕ) (i : ℕ) → isMember i ms ≡ true
-      → Here gs env env′ vals vals′ xs ys cs →
-      ((j : ℕ) → j < length gs → gateOk (partyCount plan) p (length env + j) (getD gs j (Input 0)) ≡ true) → (k : ℕ) → k < length gs
-      → isMultiply (getD gs k (Input 0)) ≡ true →
-      piecesAt plan (dealtAt plan (getD gs k (Input 0)) (sharesFrom plan gs env′ ys (matchFrom plan ms gs env env′ xs ys cs)) 0)
+      → Here gs env env′ vals vals′ xs ys cs
+      → ((j : ℕ) → j < length gs → gateOk (partyCount plan) p (length env + j) (getD gs j (Input 0)) ≡ true) → (k : ℕ) → k < length gs
+      → isMultiply (getD gs k (Input 0)) ≡ true
+      → piecesAt plan (dealtAt plan (getD gs k (Input 0)) (sharesFrom plan gs env′ ys (matchFrom plan ms gs env env′ xs ys cs)) 0)
       (drop (coinsOf plan (take k gs)) (matchFrom plan ms gs env env′ xs ys cs)) (pointOf plan i)
       ≡ piecesAt plan (dealtAt plan (getD gs k (Input 0)) (sharesFrom plan gs env xs cs) 0) (drop (coinsOf plan (take k gs)) cs) (pointOf plan i)
   unfolding flatMap sharesFrom
@@ -236,8 +236,8 @@ module _ (plan : Plan) (valid : Valid plan) (ms : List ℕ) (few : length ms ≤
   -- the coalition's view, by the demands' premises
   pub views-same :
       (xs ys c : List ℕ) → allBelow p xs ≡ true → allBelow p ys ≡ true → length c ≡ coinCount plan
-      → map (λ i. ownInputs plan i xs) ms ≡ map (λ i. ownInputs plan i ys) ms → map (granted plan xs) ms ≡ map (granted plan ys) ms →
-      flatMap (tableViewOf plan xs c) ms ≡ flatMap (tableViewOf plan ys (matchedCoins plan ms xs ys c)) ms
+      → map (λ i. ownInputs plan i xs) ms ≡ map (λ i. ownInputs plan i ys) ms → map (granted plan xs) ms ≡ map (granted plan ys) ms
+      → flatMap (tableViewOf plan xs c) ms ≡ flatMap (tableViewOf plan ys (matchedCoins plan ms xs ys c)) ms
   views-same xs ys c below below′ full inputs grants =
       flatMap-members ms (tableViewOf plan xs c) (tableViewOf plan ys (matchedCoins plan ms xs ys c))
       (λ i m. view-same xs ys c below below′ full (members-map ms (λ i. ownInputs plan i xs) (λ i. ownInputs plan i ys) inputs) i m
