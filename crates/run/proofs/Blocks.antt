@@ -194,7 +194,7 @@ module _ (plan : Plan) (i : ℕ) (from1 : 1 ≤ i) where
         let m : length dealers-here ≡ dealerCount plan = ap (λ (r : List ℕ). length r) d ∙ length-tab suc (dealerCount plan) in
         let k : dealerCount plan ≡ i - 1 + suc (dealerCount plan - i) = omega arith in
         let n : plan .t * length dealers-here ≡ plan .t * (i - 1) + (plan .t * (dealerCount plan - i) + plan .t) =
-            ap (λ (q : ℕ). plan .t * q) (m ∙ k) ∙ mul-add (plan .t) (i - 1) (suc (dealerCount plan - i)) ∙ ap (λ (q : ℕ). plan .t * (i - 1) + q) (mul-suc (plan .t) (dealerCount plan - i)) in
+        ap (λ (q : ℕ). plan .t * q) (m ∙ k) ∙ mul-add (plan .t) (i - 1) (suc (dealerCount plan - i)) ∙ ap (λ (q : ℕ). plan .t * (i - 1) + q) (mul-suc (plan .t) (dealerCount plan - i)) in
         own-coins-block (take (plan .t) (drop (plan .t * (i - 1)) (drop (coinsBelow plan g) cs)))
         (ap (λ (r : List ℕ). ownBlocks (plan .t) i r (drop (coinsBelow plan g) cs)) d ∙ own-dealing (plan .t) i (dealerCount plan) (drop (coinsBelow plan g) cs) from1 l)
         (length-take-le (plan .t) (drop (plan .t * (i - 1)) (drop (coinsBelow plan g) cs)) (omega (arith, left, n, length-drop (plan .t * (i - 1)) (drop (coinsBelow plan g) cs))))
