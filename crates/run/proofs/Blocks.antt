@@ -221,16 +221,16 @@ inputs-skip v g x gs xs f h k l =
     let e : suc g + k ≡ g + suc k = omega arith in
     ap v e ∙ h (suc k) (omega arith) ∙ ap (λ (b : Bool). getD xs (cond b (suc (countWhere isInput (take k gs))) (countWhere isInput (take k gs))) 0) f
 
-own-step : (b : Bool) (x y g : ℕ) (us : List ℕ) (v : ℕ → ℕ) (ws : List ℕ) → v g ≡ x → us ≡ map v ws → cond b (x ∷ us) us ≡ map v (cond b (g ∷ ws) ws)
-own-step true x y g us v ws e f = ap₂ (λ (m : ℕ) (l : List ℕ). m ∷ l) (sym e) f
-own-step false x y g us v ws e f = f
+own-step : (b : Bool) (x g : ℕ) (us : List ℕ) (v : ℕ → ℕ) (ws : List ℕ) → v g ≡ x → us ≡ map v ws → cond b (x ∷ us) us ≡ map v (cond b (g ∷ ws) ws)
+own-step true x g us v ws e f = ap₂ (λ (m : ℕ) (l : List ℕ). m ∷ l) (sym e) f
+own-step false x g us v ws e f = f
 
 own-inputs-from : (i : ℕ) (v : ℕ → ℕ) (g : ℕ) (gs : List Gate) (xs : List ℕ) → InputsAt v g gs xs → ownInputsOf i gs xs ≡ map v (wiresFrom (isInputOf i) g gs)
 unfolding ownInputsOf wiresFrom isInputOf isInput InputsAt countWhere
 own-inputs-from i v g [] xs h = refl
 own-inputs-from i v g (Input s ∷ gs) xs h =
     let e : g ≡ g + 0 = omega arith in
-    own-step (eqb i s) (getD xs 0 0) 0 g (ownInputsOf i gs (drop 1 xs)) v (wiresFrom (isInputOf i) (suc g) gs) (ap v e ∙ h 0 (omega arith))
+    own-step (eqb i s) (getD xs 0 0) g (ownInputsOf i gs (drop 1 xs)) v (wiresFrom (isInputOf i) (suc g) gs) (ap v e ∙ h 0 (omega arith))
     (own-inputs-from i v (suc g) gs (drop 1 xs) (inputs-next v g s gs xs h))
 own-inputs-from i v g (Add a b ∷ gs) xs h = own-inputs-from i v (suc g) gs xs (inputs-skip v g (Add a b) gs xs refl h)
 own-inputs-from i v g (Scale a c ∷ gs) xs h = own-inputs-from i v (suc g) gs xs (inputs-skip v g (Scale a c) gs xs refl h)

@@ -1,3 +1,4 @@
 pub mod Lists
 pub mod Blocks
 pub mod States
+pub mod Carried

@@ -4,6 +4,7 @@
 --     getD-map-in, getD-rows, length-rows                                              entries of maps and of rows
 -- Assumes nothing.
 use mathlib.Core.Path.{_≡_, refl, sym, ap, ap₂, subst, _∙_}
+use mathlib.Core.Bool.{Bool, true, false, cond}
 use mathlib.Core.List.{List, [], _∷_, _++_, map, flatMap, append-assoc, append-nil, List·Memᴰ, List·Memᴰ·head, List·Memᴰ·tail, Memᴰ·append-left, Memᴰ·append-right}
 use Prim.Native.Nat.{ℕ, zero, suc, _+_, _-_, _*_, _<_, _≤_}
 use native.Mathlib.Nat.{mul-zero, zero-mul, suc-mul, mul-suc}
@@ -86,6 +87,10 @@ all-flatMap P f (x ∷ xs) a = all-append P (f x) (flatMap f xs) (a .0) (all-fla
 pub all-map : (P Q : ℕ → Type 0) (xs : List ℕ) → ((x : ℕ) → P x → Q x) → All P xs → All Q xs
 all-map P Q [] f a = tt
 all-map P Q (x ∷ xs) f a = (f x (a .0), all-map P Q xs f (a .1))
+
+pub all-cond : (P : ℕ → Type 0) (b : Bool) (x : ℕ) (xs : List ℕ) → (b ≡ true → P x) → All P xs → All P (cond b (x ∷ xs) xs)
+all-cond P true x xs h a = (h refl, a)
+all-cond P false x xs h a = a
 
 pub all-at : (P : ℕ → Type 0) (xs : List ℕ) (i : ℕ) → All P xs → i < length xs → P (getD xs i 0)
 all-at P [] i a l = absurd (omega arith)

@@ -26,6 +26,7 @@ use Rattle.plan.proofs.Valid.{Valid}
 use Rattle.party.specs.Messages.{setAll, workGate, workFrom}
 use Rattle.run.specs.Ideal.{inputsTaken}
 use Rattle.run.specs.Shares.{wireAt, dealtAt, piecesAt, gateShare, coinsTaken, sharesFrom, shareTable, coinsBelow}
+use Rattle.run.proofs.Lists.{all-cond}
 use Rattle.run.proofs.Blocks.{inputAt}
 
 -- ---- what a gate reads
@@ -168,15 +169,11 @@ module _ (f : Gate → Bool) where
   length-wires g [] = refl
   length-wires g (x ∷ gs) = count-length (f x) g (countWhere f gs) (wiresFrom f (suc g) gs) (length-wires (suc g) gs)
 
-  wires-all-by : (P : ℕ → Type 0) (b : Bool) (g : ℕ) (ws : List ℕ) → (b ≡ true → P g) → All P ws → All P (cond b (g ∷ ws) ws)
-  wires-all-by P true g ws h a = (h refl, a)
-  wires-all-by P false g ws h a = a
-
   pub wires-all : (P : ℕ → Type 0) (g : ℕ) (gs : List Gate) → ((k : ℕ) → k < length gs → f (getD gs k (Input 0)) ≡ true → P (g + k)) → All P (wiresFrom f g gs)
   unfolding wiresFrom
   wires-all P g [] h = tt
   wires-all P g (x ∷ gs) h =
-      wires-all-by P (f x) g (wiresFrom f (suc g) gs)
+      all-cond P (f x) g (wiresFrom f (suc g) gs)
       (λ e. let q : g + 0 ≡ g = omega arith in subst P q (h 0 (omega arith) e))
       (wires-all P (suc g) gs (λ k l e. let q : g + suc k ≡ suc g + k = omega arith in subst P q (h (suc k) (omega arith) e)))
 
