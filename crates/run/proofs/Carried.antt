@@ -30,7 +30,7 @@ use Rattle.plan.proofs.Valid.{Valid}
 use Rattle.party.specs.Messages.{Called, callWith, call, setAll, wiresByParty, reduced, workFrom, learn, dealTo, nothing, inputPolys, sendInputs, productAt, sendProduct, sendOuts, send, sharesOfOut, resultsOf}
 use Rattle.run.specs.Rounds.{fresh, noCall, callOf, mailTo, round, results, mails, viewOf, view}
 use Rattle.run.specs.Shares.{wireAt, dealtAt, sharings, piecesAt, gateShare, shareTable, coinsBelow, pieces, tableMails, tableResults, tableViewOf}
-use Rattle.run.proofs.Lists.{map-all, flatMap-all, flatMap-nil, flatMap-single, flatMap-append, flatMap-map, map-flatMap, length-map, getD-map-in, getD-rows, all-tab, all-cond, all-at, in-tab, in-flatMap}
+use Rattle.run.proofs.Lists.{map-all, flatMap-all, flatMap-tabs, flatMap-nil, flatMap-single, flatMap-append, flatMap-map, map-flatMap, length-map, getD-map-in, getD-rows, all-tab, all-map, all-cond, all-at, in-tab, in-flatMap}
 use Rattle.run.proofs.Blocks.{inputAt, own-inputs, own-coins-input, own-coins-product}
 use Rattle.run.proofs.States.{both, Reads, wires-all, wires-in, Known, start-known, learn-known, gate-reads, table-gate, work-from-known, horizon, horizon-multiply, horizon-next, horizon-first, horizon-end, length-multiplies, Multiplied, multiplied}
 
@@ -105,6 +105,10 @@ module _ (plan : Plan) (xs cs : List ℕ) where
   pub mail-called : (k i : ℕ) → mailTo i (round plan xs cs k) ≡ flatMap (λ j. getD (sentBy k j) (i - 1) []) (parties plan)
   unfolding mailTo called callWith sentBy
   mail-called k i = ap (mailTo i) (round-called k) ∙ flatMap-map (λ c. getD (c .sent) (i - 1) []) (called plan xs cs k) (parties plan)
+
+-- a map as a table
+tab-entries : {B : Type 0} (h : ℕ → B) (l : List ℕ) → tab (λ k. h (getD l k 0)) (length l) ≡ map h l
+tab-entries h l = sym (tab-map h (λ k. getD l k 0) (length l)) ∙ ap (map h) (sym (list-tab l 0))
 
 -- ---- lists of dealings
 -- each polynomial of a party's inputs, by its wire
@@ -293,3 +297,175 @@ module _ (plan : Plan) (valid : Valid plan) (xs cs : List ℕ) (full : length cs
         ∙ tab-ext (λ r. piece (suc r)) (λ r. eval (plan .p) (product-of (m .a) (m .b) (pointOf plan (suc r)) ∷ take (plan .t) (drop (plan .t * r) rest)) z) d
         (λ r q. let s : suc r - 1 ≡ r = omega arith in ap (λ (v : ℕ). eval (plan .p) (product-of (m .a) (m .b) (pointOf plan (suc r)) ∷ take (plan .t) (drop (plan .t * v) rest)) z) s)
         ∙ sym (pieces-tab (multiplyWire plan k) (m .a) (m .b) z (m .gate))
+
+  -- ---- what a party knows after each call
+  -- a multiply's share from its pieces
+  reduced-pieces : (k z : ℕ) → k < multiplies plan → reduced plan (pieces plan xs cs (multiplyWire plan k) z) ≡ wireAt (shareTable plan xs cs) (multiplyWire plan k) z
+  unfolding reduced pieces gateShare dealtAt
+  reduced-pieces k z l =
+      let m : Multiplied plan k = multiplied plan k l in
+      ap (λ (x : Gate). dot (plan .p) (weights (plan .p) 0 (dealerPoints plan)) (piecesAt plan (dealtAt plan x (shareTable plan xs cs) 0) (drop (coinsBelow plan (multiplyWire plan k)) cs) z)) (m .gate)
+      ∙ sym (table-gate plan valid xs cs z (multiplyWire plan k) (Multiply (m .a) (m .b)) (m .within) (m .gate))
+
+  known-first : (j : ℕ) → 1 ≤ j → j ≤ partyCount plan → Known (shareTable plan xs cs) (plan .gates) (pointOf plan j) (horizon plan 0) (sharesAt plan xs cs j 1)
+  unfolding sharesAt mailIn learn
+  known-first j from1 upto =
+      let z : ℕ = pointOf plan j in
+      let mail : List ℕ = map (λ w. wireAt (shareTable plan xs cs) w z) (wiresByParty plan) in
+      rw (mail-inputs j from1 upto, ← horizon-first plan)
+      (work-from-known plan valid xs cs z (plan .gates) 0 (setAll (replicate (length (plan .gates)) 0) (wiresByParty plan) mail) refl
+      (start-known (shareTable plan xs cs) (plan .gates) z (wiresByParty plan) (input-wires-in plan valid)))
+
+  known-next : (k : ℕ) → k < multiplies plan
+      → ((j : ℕ) → 1 ≤ j → j ≤ partyCount plan → Known (shareTable plan xs cs) (plan .gates) (pointOf plan j) (horizon plan k) (sharesAt plan xs cs j (suc k)))
+      → (j : ℕ) → 1 ≤ j → j ≤ partyCount plan → Known (shareTable plan xs cs) (plan .gates) (pointOf plan j) (horizon plan (suc k)) (sharesAt plan xs cs j (suc (suc k)))
+  unfolding sharesAt mailIn learn
+  known-next k l known j from1 upto =
+      let z : ℕ = pointOf plan j in
+      let g : ℕ = multiplyWire plan k in
+      let v : ℕ = reduced plan (mailTo j (round plan xs cs (suc k))) in
+      let e : v ≡ wireAt (shareTable plan xs cs) g z = ap (reduced plan) (product-mail k l known j from1 upto) ∙ reduced-pieces k z l in
+      let before : Known (shareTable plan xs cs) (plan .gates) z g (sharesAt plan xs cs j (suc k)) =
+      subst (λ (b : ℕ). Known (shareTable plan xs cs) (plan .gates) z b (sharesAt plan xs cs j (suc k))) (horizon-multiply plan k l) (known j from1 upto) in
+      rw (lt-ltb k (multiplies plan) l, ← horizon-next plan k l)
+      (work-from-known plan valid xs cs z (drop (suc g) (plan .gates)) (suc g) (set (sharesAt plan xs cs j (suc k)) g v) refl (learn-known before v e))
+
+  -- after call k + 1 a party has the table's shares of the wires below multiply number k
+  pub known-after : (k : ℕ) → k ≤ multiplies plan → (j : ℕ) → 1 ≤ j → j ≤ partyCount plan
+      → Known (shareTable plan xs cs) (plan .gates) (pointOf plan j) (horizon plan k) (sharesAt plan xs cs j (suc k))
+  known-after zero l j from1 upto = known-first j from1 upto
+  known-after (suc k) l j from1 upto = known-next k l (known-after k (omega arith)) j from1 upto
+
+  -- after the call before the last it has all
+  pub known-all : (j : ℕ) → 1 ≤ j → j ≤ partyCount plan
+      → Known (shareTable plan xs cs) (plan .gates) (pointOf plan j) (length (plan .gates)) (sharesAt plan xs cs j (suc (multiplies plan)))
+  known-all j from1 upto =
+      subst (λ (b : ℕ). Known (shareTable plan xs cs) (plan .gates) (pointOf plan j) b (sharesAt plan xs cs j (suc (multiplies plan))))
+      (horizon-end plan (multiplies plan) (omega arith)) (known-after (multiplies plan) (omega arith) j from1 upto)
+
+  -- and keeps all in the last
+  pub shares-last : (j : ℕ) → sharesAt plan xs cs j (suc (suc (multiplies plan))) ≡ sharesAt plan xs cs j (suc (multiplies plan))
+  unfolding sharesAt learn
+  shares-last j = rw (le-ltb (multiplies plan) (multiplies plan) (omega arith))
+
+  -- a multiply's round: the pieces of its dealings
+  pub mail-product : (k i : ℕ) → k < multiplies plan → 1 ≤ i → i ≤ partyCount plan
+      → mailTo i (round plan xs cs (suc k)) ≡ pieces plan xs cs (multiplyWire plan k) (pointOf plan i)
+  mail-product k i l from1 upto = product-mail k l (known-after k (omega arith)) i from1 upto
+
+  -- ---- the outs' round
+  sent-outs : (i j : ℕ) → 1 ≤ i → i ≤ partyCount plan → 1 ≤ j → j ≤ partyCount plan
+      → getD (sentBy plan xs cs (suc (multiplies plan)) j) (i - 1) [] ≡ map (λ w. wireAt (shareTable plan xs cs) w (pointOf plan j)) (outWires plan i)
+  unfolding sentBy send sendOuts
+  sent-outs i j l h from1 upto =
+      let shares : List ℕ = sharesAt plan xs cs j (suc (multiplies plan)) in
+      let known : Known (shareTable plan xs cs) (plan .gates) (pointOf plan j) (length (plan .gates)) shares = known-all j from1 upto in
+      rw (le-ltb (multiplies plan) (multiplies plan) (omega arith), eq-eqb (multiplies plan) (multiplies plan) refl)
+      (at-party plan i l h (λ r. map (λ w. getD shares w 0) (outWires plan r)) []
+      ∙ map-all (λ w. getD shares w 0) (λ w. wireAt (shareTable plan xs cs) w (pointOf plan j)) (outWires plan i)
+      (all-map (λ w. w < length (plan .gates)) (λ w. getD shares w 0 ≡ wireAt (shareTable plan xs cs) w (pointOf plan j)) (outWires plan i) (λ w q. known .below w q q) (out-wires-within plan valid i)))
+
+  out-mail : (i : ℕ) → 1 ≤ i → i ≤ partyCount plan
+      → mailTo i (round plan xs cs (suc (multiplies plan))) ≡ flatMap (λ j. map (λ w. wireAt (shareTable plan xs cs) w (pointOf plan j)) (outWires plan i)) (parties plan)
+  out-mail i l h =
+      let sent : ℕ → List ℕ = λ j. getD (sentBy plan xs cs (suc (multiplies plan)) j) (i - 1) [] in
+      let row : ℕ → List ℕ = λ j. map (λ w. wireAt (shareTable plan xs cs) w (pointOf plan j)) (outWires plan i) in
+      mail-called plan xs cs (suc (multiplies plan)) i
+      ∙ flatMap-all sent row (parties plan) (each-party plan (λ j. sent j ≡ row j) (λ j from1 upto. sent-outs i j l h from1 upto))
+
+  -- the round of outs: every party's shares of the party's outs
+  pub mail-outs : (i : ℕ) → 1 ≤ i → i ≤ partyCount plan
+      → mailTo i (round plan xs cs (multiplies plan + 1)) ≡ flatMap (λ j. map (λ w. wireAt (shareTable plan xs cs) w (pointOf plan j)) (outWires plan i)) (parties plan)
+  mail-outs i l h = rw add-one (out-mail i l h)
+
+  -- ---- results
+  -- of the rows of all parties' shares, party s + 1's share of the out number r
+  out-entry : (i r s : ℕ) → r < length (outWires plan i) → s < partyCount plan
+      → getD (flatMap (λ j. map (λ u. wireAt (shareTable plan xs cs) u (pointOf plan j)) (outWires plan i)) (parties plan)) (length (outWires plan i) * s + r) 0
+      ≡ wireAt (shareTable plan xs cs) (getD (outWires plan i) r 0) (getD (plan .points) s 0)
+  unfolding pointOf
+  out-entry i r s q m =
+      let row : ℕ → List ℕ = λ j. map (λ u. wireAt (shareTable plan xs cs) u (pointOf plan j)) (outWires plan i) in
+      let e : suc s - 1 ≡ s = omega arith in
+      getD-rows row (length (outWires plan i)) (parties plan)
+      (each-party plan (λ j. length (row j) ≡ length (outWires plan i)) (λ j l h. length-map (λ u. wireAt (shareTable plan xs cs) u (pointOf plan j)) (outWires plan i))) s r 0
+      (omega (arith, length-parties plan)) q
+      ∙ ap (λ (j : ℕ). getD (row j) r 0) (party-next s m)
+      ∙ getD-map-in (λ u. wireAt (shareTable plan xs cs) u (pointOf plan (suc s))) (outWires plan i) r 0 0 q
+      ∙ ap (λ (k : ℕ). wireAt (shareTable plan xs cs) (getD (outWires plan i) r 0) (getD (plan .points) k 0)) e
+    where
+      party-next : (s : ℕ) → s < partyCount plan → getD (parties plan) s 0 ≡ suc s
+      party-next s m = let e : suc s - 1 ≡ s = omega arith in ap (λ (k : ℕ). getD (parties plan) k 0) (sym e) ∙ party-at plan (suc s) (omega arith) m
+
+  -- the shares of the party's out number r, in its mail
+  shares-of-out : (i r : ℕ) → 1 ≤ i → i ≤ partyCount plan → r < ownOutCount plan i
+      → sharesOfOut (partyCount plan) (ownOutCount plan i) r (mailTo i (round plan xs cs (suc (multiplies plan))))
+      ≡ map (wireAt (shareTable plan xs cs) (getD (outWires plan i) r 0)) (plan .points)
+  unfolding sharesOfOut ownOutCount partyCount
+  shares-of-out i r l h q =
+      let w : ℕ = getD (outWires plan i) r 0 in
+      let own : ℕ = length (outWires plan i) in
+      let row : ℕ → List ℕ = λ j. map (λ u. wireAt (shareTable plan xs cs) u (pointOf plan j)) (outWires plan i) in
+      ap (λ (m : List ℕ). tab (λ s. getD m (own * s + r) 0) (partyCount plan)) (out-mail i l h)
+      ∙ tab-ext (λ s. getD (flatMap row (parties plan)) (own * s + r) 0) (λ s. wireAt (shareTable plan xs cs) w (getD (plan .points) s 0)) (partyCount plan) (λ s m. out-entry i r s q m)
+      ∙ tab-entries (wireAt (shareTable plan xs cs) w) (plan .points)
+
+  own-outs : (i : ℕ) (result : ℕ → ℕ) → tab (λ r. result (getD (outWires plan i) r 0)) (ownOutCount plan i) ≡ map result (outWires plan i)
+  unfolding ownOutCount
+  own-outs i result = tab-entries result (outWires plan i)
+
+  results-tab : (i : ℕ) → 1 ≤ i → i ≤ partyCount plan
+      → resultsOf plan i (suc (suc (multiplies plan))) (mailTo i (round plan xs cs (suc (multiplies plan)))) ≡ tableResults plan xs cs i
+  unfolding resultsOf tableResults
+  results-tab i l h =
+      let result : ℕ → ℕ = λ w. opened (plan .p) (plan .t) (plan .points) (map (wireAt (shareTable plan xs cs) w) (plan .points)) in
+      rw (eq-eqb (suc (suc (multiplies plan))) (multiplies plan + 2) (omega arith))
+      (tab-ext (λ r. opened (plan .p) (plan .t) (plan .points) (sharesOfOut (partyCount plan) (ownOutCount plan i) r (mailTo i (round plan xs cs (suc (multiplies plan))))))
+      (λ r. result (getD (outWires plan i) r 0)) (ownOutCount plan i)
+      (λ r q. ap (opened (plan .p) (plan .t) (plan .points)) (shares-of-out i r l h q))
+      ∙ own-outs i result)
+
+  -- each party's results are opened from the table's shares
+  pub results-table : (i : ℕ) → 1 ≤ i → i ≤ partyCount plan → results plan xs cs i ≡ tableResults plan xs cs i
+  unfolding results called callWith mailIn
+  results-table i l h =
+      let e : multiplies plan + 2 ≡ suc (suc (multiplies plan)) = omega arith in
+      ap (λ (k : ℕ). callOf i (round plan xs cs k) .results) e
+      ∙ ap (λ (c : Called). c .results) (call-at plan xs cs (suc (suc (multiplies plan))) i l h)
+      ∙ results-tab i l h
+
+  -- ---- mail and view
+  -- the multiplies' wires in order
+  wires-tab : wiresWhere isMultiply plan ≡ tab (multiplyWire plan) (multiplies plan)
+  unfolding multiplyWire
+  wires-tab = list-tab (wiresWhere isMultiply plan) 0 ∙ ap (tab (λ k. getD (wiresWhere isMultiply plan) k 0)) (length-multiplies plan)
+
+  rounds-split : tab (λ k. k) (multiplies plan + 2) ≡ 0 ∷ (tab suc (multiplies plan) ++ (suc (multiplies plan) ∷ []))
+  rounds-split =
+      let e : multiplies plan + 2 ≡ suc (suc (multiplies plan)) = omega arith in
+      ap (tab (λ k. k)) e ∙ tab-cons (λ k. k) (suc (multiplies plan)) ∙ ap (λ (l : List ℕ). 0 ∷ l) (tab-snoc suc (multiplies plan))
+
+  multiply-mails : (i : ℕ) → 1 ≤ i → i ≤ partyCount plan
+      → flatMap (λ k. mailTo i (round plan xs cs k)) (tab suc (multiplies plan)) ≡ flatMap (λ g. pieces plan xs cs g (pointOf plan i)) (wiresWhere isMultiply plan)
+  multiply-mails i l h =
+      flatMap-tabs (λ k. mailTo i (round plan xs cs k)) (λ g. pieces plan xs cs g (pointOf plan i)) suc (multiplyWire plan) (multiplies plan) (λ k q. mail-product k i q l h)
+      ∙ ap (flatMap (λ g. pieces plan xs cs g (pointOf plan i))) (sym wires-tab)
+
+  -- all mail to a party
+  pub mails-table : (i : ℕ) → 1 ≤ i → i ≤ partyCount plan → mails plan xs cs i ≡ tableMails plan xs cs i
+  unfolding mails tableMails flatMap
+  mails-table i l h =
+      let mail : ℕ → List ℕ = λ k. mailTo i (round plan xs cs k) in
+      ap (flatMap mail) rounds-split
+      ∙ ap₂ (λ (u v : List ℕ). u ++ v) (mail-inputs i l h)
+      (flatMap-append mail (tab suc (multiplies plan)) (suc (multiplies plan) ∷ [])
+      ∙ ap₂ (λ (u v : List ℕ). u ++ v) (multiply-mails i l h) (append-nil (mail (suc (multiplies plan))) ∙ out-mail i l h))
+
+  pub view-table : (i : ℕ) → 1 ≤ i → i ≤ partyCount plan → viewOf plan xs cs i ≡ tableViewOf plan xs cs i
+  unfolding viewOf tableViewOf
+  view-table i l h = ap₂ (λ (u v : List ℕ). ownInputs plan i xs ++ (ownCoins plan i cs ++ (u ++ v))) (mails-table i l h) (results-table i l h)
+
+  -- a coalition's view
+  pub views-table : (ms : List ℕ) → All (λ i. (1 ≤ i) × (i ≤ partyCount plan)) ms → view plan ms xs cs ≡ flatMap (tableViewOf plan xs cs) ms
+  unfolding view
+  views-table ms a = flatMap-all (viewOf plan xs cs) (tableViewOf plan xs cs) ms (all-map (λ i. (1 ≤ i) × (i ≤ partyCount plan)) (λ i. viewOf plan xs cs i ≡ tableViewOf plan xs cs i) ms (λ i h. view-table i (h .0) (h .1)) a)

@@ -1,5 +1,5 @@
 -- Laws of lists: maps and concatenations that agree entry by entry, rows laid end to end, and statements on every entry.
---     map-all, flatMap-all, flatMap-append, flatMap-map, map-flatMap, flatMap-nil      maps and concatenations
+--     map-all, flatMap-all, flatMap-tabs, flatMap-append, flatMap-map, map-flatMap     maps and concatenations
 --     all-tab, all-append, all-flatMap, all-map, all-in                                on every entry
 --     getD-map-in, getD-rows, length-rows                                              entries of maps and of rows
 -- Assumes nothing.
@@ -37,6 +37,12 @@ module _ {B : Type 0} where
   unfolding flatMap
   flatMap-single g h [] e = refl
   flatMap-single g h (i ∷ is) e = ap₂ (λ (x l : List B). x ++ l) (e .0) (flatMap-single g h is (e .1))
+
+  -- two tables that give the same entry by entry
+  pub flatMap-tabs : (g h : ℕ → List B) (u v : ℕ → ℕ) (n : ℕ) → ((k : ℕ) → k < n → g (u k) ≡ h (v k)) → flatMap g (tab u n) ≡ flatMap h (tab v n)
+  unfolding flatMap tab
+  flatMap-tabs g h u v zero e = refl
+  flatMap-tabs g h u v (suc n) e = ap₂ (λ (x l : List B). x ++ l) (e 0 (omega arith)) (flatMap-tabs g h (λ k. u (suc k)) (λ k. v (suc k)) n (λ k l. e (suc k) (omega arith)))
 
 module _ {A B : Type 0} where
   pub flatMap-append : (f : A → List B) (xs ys : List A) → flatMap f (xs ++ ys) ≡ flatMap f xs ++ flatMap f ys
