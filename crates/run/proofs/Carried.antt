@@ -225,10 +225,10 @@ module _ (plan : Plan) (valid : Valid plan) (xs cs : List ℕ) (full : length cs
   dealers-few = omega (arith, valid .majority)
 
   -- the dealers' products, as the table has them
-  product-of : ℕ → ℕ → ℕ → ℕ
+  unfoldable pub product-of : ℕ → ℕ → ℕ → ℕ
   product-of a b x = mul (plan .p) (wireAt (shareTable plan xs cs) a x) (wireAt (shareTable plan xs cs) b x)
 
-  pieces-tab : (g a b z : ℕ) → getD (plan .gates) g (Input 0) ≡ Multiply a b
+  pub pieces-tab : (g a b z : ℕ) → getD (plan .gates) g (Input 0) ≡ Multiply a b
       → pieces plan xs cs g z ≡ tab (λ k. eval (plan .p) (product-of a b (pointOf plan (suc k)) ∷ take (plan .t) (drop (plan .t * k) (drop (coinsBelow plan g) cs))) z) (dealerCount plan)
   unfolding pieces piecesAt dealtAt dealerPoints product-of pointOf partyCount
   pieces-tab g a b z e =
@@ -365,7 +365,7 @@ module _ (plan : Plan) (valid : Valid plan) (xs cs : List ℕ) (full : length cs
       ∙ map-all (λ w. getD shares w 0) (λ w. wireAt (shareTable plan xs cs) w (pointOf plan j)) (outWires plan i)
       (all-map (λ w. w < length (plan .gates)) (λ w. getD shares w 0 ≡ wireAt (shareTable plan xs cs) w (pointOf plan j)) (outWires plan i) (λ w q. known .below w q q) (out-wires-within plan valid i)))
 
-  out-mail : (i : ℕ) → 1 ≤ i → i ≤ partyCount plan
+  pub out-mail : (i : ℕ) → 1 ≤ i → i ≤ partyCount plan
       → mailTo i (round plan xs cs (suc (multiplies plan))) ≡ flatMap (λ j. map (λ w. wireAt (shareTable plan xs cs) w (pointOf plan j)) (outWires plan i)) (parties plan)
   out-mail i l h =
       let sent : ℕ → List ℕ = λ j. getD (sentBy plan xs cs (suc (multiplies plan)) j) (i - 1) [] in

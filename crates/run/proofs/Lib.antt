@@ -2,3 +2,4 @@ pub mod Lists
 pub mod Blocks
 pub mod States
 pub mod Carried
+pub mod Counts

@@ -81,6 +81,10 @@ unfolding tab
 all-tab P f zero h = tt
 all-tab P f (suc n) h = (h 0 (omega arith), all-tab P (λ k. f (suc k)) n (λ k l. h (suc k) (omega arith)))
 
+pub all-every : (P : ℕ → Type 0) (xs : List ℕ) → ((x : ℕ) → P x) → All P xs
+all-every P [] h = tt
+all-every P (x ∷ xs) h = (h x, all-every P xs h)
+
 pub all-append : (P : ℕ → Type 0) (xs ys : List ℕ) → All P xs → All P ys → All P (xs ++ ys)
 all-append P [] ys a b = b
 all-append P (x ∷ xs) ys a b = (a .0, all-append P xs ys (a .1) b)
