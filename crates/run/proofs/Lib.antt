@@ -3,3 +3,8 @@ pub mod Blocks
 pub mod States
 pub mod Carried
 pub mod Counts
+pub mod Sound
+pub mod Openings
+pub mod Below
+pub mod Tables
+pub mod Wires
