@@ -1,3 +1,8 @@
+pub mod Lists
+pub mod Blocks
+pub mod States
+pub mod Carried
+pub mod Counts
 pub mod Sound
 pub mod Openings
 pub mod Below
