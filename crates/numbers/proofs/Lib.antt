@@ -1,0 +1,7 @@
+pub mod Tables
+pub mod Searches
+pub mod Counts
+pub mod Bytes
+pub mod Below
+pub mod Fills
+pub mod Ways

@@ -1,5 +1,98 @@
+// Lists of numbers that are lent as bytes: two bytes a number, the low byte first. A read past the end is 0, and a write
+// there changes nothing.
+ghost use mathlib.Core.Path.{_≡_};
+ghost use Prim.Native.Nat.{_<_, _+_};
+ghost use lib.ListN.{length, getD, drop};
+ghost use Rattle.numbers.specs.Bytes.{wordAt, limit, numbers, holdsCount, stored, firstOver, allBelow};
+
 // What a search answers.
 pub enum Found {
     At(usize),
     Nothing,
+}
+
+fn wide(b: u8) -> u64
+    ensures { λ r. ⌜ record { eq : r ≡ b; lt : r < 256 } ⌝ }
+{
+    b as u64
+}
+
+// The byte at an offset.
+fn byte(s: &[u8], at: usize) -> u64
+    ensures { λ r. ⌜ record { eq : r ≡ getD (now (s .entry)) at 0; lt : r < 256 } ⌝ }
+{
+    if at < s.len() {
+        return wide(s[at]);
+    }
+    0
+}
+
+// The two-byte number at an offset.
+pub fn word(s: &[u8], at: usize) -> u64
+    ensures { λ r. ⌜ record { eq : r ≡ wordAt (now (s .entry)) at; lt : r < limit } ⌝ }
+{
+    if at < s.len() {
+        return byte(s, at) + 256 * byte(s, at + 1);
+    }
+    0
+}
+
+// Number i of a list.
+pub fn read(s: &[u8], i: usize) -> u64
+    ensures { λ r. ⌜ record { eq : r ≡ getD (numbers (now (s .entry))) i 0; lt : r < limit } ⌝ }
+{
+    if i < s.len() / 2 {
+        return word(s, 2 * i);
+    }
+    0
+}
+
+// Sets number i of a list to v, of which the two low bytes are kept.
+pub fn write(s: &mut [u8], i: usize, v: u64)
+    ensures { λ _. ⌜ now (s .exit) ≡ stored (now (s .entry)) i v ⌝ }
+{
+    if i < s.len() / 2 {
+        s[2 * i] = (v % 256) as u8;
+        s[2 * i + 1] = (v / 256 % 256) as u8;
+    }
+}
+
+// Whether these bytes are a list of k numbers.
+pub fn count_is(s: &[u8], k: usize) -> bool
+    ensures { λ r. ⌜ r ≡ holdsCount k (now (s .entry)) ⌝ }
+{
+    if s.len() % 2 != 0 {
+        return false;
+    }
+    s.len() / 2 == k
+}
+
+// The first number of a list that is p or more.
+pub fn first_over(s: &[u8], p: u64) -> Found
+    ensures { λ r. ⌜ r ≡ firstOver p (numbers (now (s .entry))) ⌝ }
+{
+    let n = s.len() / 2;
+    let mut i: usize = 0;
+    while i < n {
+        if p <= read(s, i) {
+            return Found::At(i);
+        }
+        i += 1;
+    }
+    Found::Nothing
+}
+
+// Whether every number of a list from one place on is below p.
+pub fn all_below(s: &[u8], from: usize, p: u64) -> bool
+    ensures { λ r. ⌜ r ≡ allBelow p (drop from (numbers (now (s .entry)))) ⌝ }
+{
+    let n = s.len() / 2;
+    let mut i: usize = from;
+    while i < n {
+        if p <= read(s, i) {
+            return false;
+        }
+        i += 1;
+    }
+    true
 }

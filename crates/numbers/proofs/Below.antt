@@ -1,0 +1,80 @@
+-- Lists whose numbers are below p.
+--     allBelow-at, at-allBelow             every number is below p exactly where each is
+--     allBelow-append, allBelow-drop       of lists in parts
+--     firstOver-nothing, nothing-firstOver none is found exactly where every number is below p
+--     firstOver-at                         the one that is found
+-- Assumes nothing.
+use mathlib.Core.Path.{_≡_, refl, sym, ap, _∙_}
+use mathlib.Core.Bool.{Bool, true, false, cond, _&&_}
+use mathlib.Core.List.{List, [], _∷_, _++_}
+use Prim.Native.Nat.{ℕ, zero, suc, _+_, _-_, _<_, _≤_}
+use native.Mathlib.Numerals.{add-one}
+use native.Mathlib.Omega.{arith}
+use borrow.Author.Tests.{ltb-true, ltb-false, lt-ltb, le-ltb}
+use lib.Dec.{ltb}
+use lib.ListN.{length, getD, take, drop, drop-of-length-le}
+use lib.Seq.{drop-cons}
+use Rattle.numbers.specs.Bytes.{firstOver, allBelow}
+use Rattle.numbers.specs.declared.Found.{Found}
+use Rattle.numbers.specs.declared.Found.the-variants.{At, Nothing}
+use Rattle.numbers.proofs.Searches.{First, nothing-passes, passes-nothing, first-failing}
+use Rattle.numbers.proofs.Bytes.{EachBelow}
+
+both : (a b : Bool) → cond a b false ≡ true → (a ≡ true) × (b ≡ true)
+both true b h = (refl, h)
+both false b h = let z : _≡_ {A = ℕ} 0 1 = cc in absurd (omega arith)
+
+pub allBelow-at : (p : ℕ) (xs : List ℕ) (i : ℕ) → allBelow p xs ≡ true → i < length xs → getD xs i 0 < p
+unfolding allBelow
+allBelow-at p [] i h l = absurd (omega arith)
+allBelow-at p (x ∷ xs) zero h l = ltb-true x p (both (ltb x p) (allBelow p xs) h .0)
+allBelow-at p (x ∷ xs) (suc i) h l = allBelow-at p xs i (both (ltb x p) (allBelow p xs) h .1) (omega arith)
+
+pub at-allBelow : (p : ℕ) (xs : List ℕ) → EachBelow p xs → allBelow p xs ≡ true
+unfolding allBelow
+at-allBelow p [] h = refl
+at-allBelow p (x ∷ xs) h = rw (lt-ltb x p (h 0 (omega arith)), at-allBelow p xs (λ i l. h (suc i) (omega arith)))
+
+and-cond : (a b c : Bool) → cond a (b && c) false ≡ (cond a b false && c)
+and-cond true b c = refl
+and-cond false b c = refl
+
+pub allBelow-append : (p : ℕ) (xs ys : List ℕ) → allBelow p (xs ++ ys) ≡ (allBelow p xs && allBelow p ys)
+unfolding allBelow
+allBelow-append p [] ys = refl
+allBelow-append p (x ∷ xs) ys = rw (allBelow-append p xs ys) (and-cond (ltb x p) (allBelow p xs) (allBelow p ys))
+
+-- ---- what a loop over the numbers from i on learns at i
+module _ (p : ℕ) (xs : List ℕ) (i : ℕ) where
+  pub allBelow-next : i < length xs → getD xs i 0 < p → allBelow p (drop (i + 1) xs) ≡ allBelow p (drop i xs)
+  unfolding allBelow
+  allBelow-next l h = rw (add-one, drop-cons xs i 0 l, lt-ltb (getD xs i 0) p h)
+
+  pub allBelow-over : i < length xs → p ≤ getD xs i 0 → false ≡ allBelow p (drop i xs)
+  unfolding allBelow
+  allBelow-over l h = rw (drop-cons xs i 0 l, le-ltb (getD xs i 0) p h)
+
+  pub allBelow-end : length xs ≤ i → true ≡ allBelow p (drop i xs)
+  unfolding allBelow
+  allBelow-end l = rw (drop-of-length-le xs l)
+
+-- ---- the first number that isn't below p
+pub firstOver-nothing : (p : ℕ) (xs : List ℕ) → firstOver p xs ≡ Nothing → allBelow p xs ≡ true
+unfolding firstOver
+firstOver-nothing p xs h = at-allBelow p xs (λ i l. ltb-true (getD xs i 0) p (nothing-passes (λ k. ltb (getD xs k 0) p) (length xs) h i l))
+
+pub nothing-firstOver : (p : ℕ) (xs : List ℕ) → allBelow p xs ≡ true → firstOver p xs ≡ Nothing
+unfolding firstOver
+nothing-firstOver p xs h = passes-nothing (λ k. ltb (getD xs k 0) p) (length xs) (λ i l. lt-ltb (getD xs i 0) p (allBelow-at p xs i h l))
+
+-- number i is the first that isn't below p
+pub record FirstOver (p : ℕ) (xs : List ℕ) (i : ℕ) : Type 0 where
+  pub within : i < length xs
+  pub over : p ≤ getD xs i 0
+  pub before : (k : ℕ) → k < i → getD xs k 0 < p
+
+pub firstOver-at : (p : ℕ) (xs : List ℕ) (i : ℕ) → firstOver p xs ≡ At i → FirstOver p xs i
+unfolding firstOver
+firstOver-at p xs i h =
+    let w : First (λ k. ltb (getD xs k 0) p) (length xs) i = first-failing (λ k. ltb (getD xs k 0) p) (length xs) i h in
+    record { within = w .within; over = ltb-false (getD xs i 0) p (w .fails); before = λ k l. ltb-true (getD xs k 0) p (w .before k l) }

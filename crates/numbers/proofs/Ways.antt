@@ -1,0 +1,101 @@
+-- What each way through the code says of its definition.
+--     coding       what closes the needs of every function
+-- Assumes nothing.
+use mathlib.Core.Path.{_≡_, refl, sym, ap, _∙_}
+use mathlib.Core.Logic.{_≢_}
+use mathlib.Core.Bool.{Bool, true, false}
+use mathlib.Core.List.{List}
+use Prim.Native.Nat.{ℕ, zero, suc, _+_, _-_, _*_, _/_, _%_, _<_, _≤_}
+use native.Mathlib.Numerals.{add-one}
+use native.Mathlib.Omega.{arith}
+use borrow.Author.Needs.{needs}
+use borrow.Author.Tests.{eqb-true, eqb-false, eq-eqb, ne-eqb, lt-ltb, le-ltb}
+use lib.Dec.{eqb, ltb}
+use lib.ListN.{length, getD, drop, set, length-set, List·getD-eq-default}
+use Rattle.numbers.specs.Tables.{firstFrom}
+use Rattle.numbers.specs.Bytes.{wordAt, numbers, holdsCount, stored, firstOver, allBelow}
+use Rattle.numbers.specs.declared.Found.{Found}
+use Rattle.numbers.specs.declared.Found.the-variants.{At, Nothing}
+use Rattle.numbers.proofs.Bytes.{numbers-length, getD-numbers, getD-numbers-past, word-past, stored-in, stored-past}
+use Rattle.numbers.proofs.Searches.{Seeking, begin, found, passed, nothing}
+use Rattle.numbers.proofs.Below.{allBelow-next, allBelow-over, allBelow-end}
+
+-- ---- reads
+pub byte-none : (s : List ℕ) (at : ℕ) → length s ≤ at → 0 ≡ getD s at 0
+byte-none s at l = sym (List·getD-eq-default s 0 l)
+
+pub word-some : (s : List ℕ) (at x y : ℕ) → x ≡ getD s at 0 → y ≡ getD s (at + 1) 0 → x + 256 * y ≡ wordAt s at
+unfolding wordAt
+word-some s at x y e f = rw (e, f)
+
+pub word-none : (s : List ℕ) (at : ℕ) → length s ≤ at → 0 ≡ wordAt s at
+word-none s at l = sym (word-past s at l)
+
+pub number-some : (s : List ℕ) (i x : ℕ) → i < length s / 2 → x ≡ wordAt s (2 * i) → x ≡ getD (numbers s) i 0
+number-some s i x l e = e ∙ sym (getD-numbers s i l)
+
+pub number-none : (s : List ℕ) (i : ℕ) → length s / 2 ≤ i → 0 ≡ getD (numbers s) i 0
+number-none s i l = sym (getD-numbers-past s i l)
+
+-- ---- a write
+pub write-some : (s : List ℕ) (i v : ℕ) → i < length s / 2 → set (set s (2 * i) (v % 256)) (2 * i + 1) (v / 256 % 256) ≡ stored s i v
+write-some s i v l = stored-in s i v (omega arith)
+
+pub high-in : (s : List ℕ) (i v : ℕ) → i < length s / 2 → 2 * i + 1 < length (set s (2 * i) v)
+high-in s i v l = rw length-set (omega arith)
+
+pub write-none : (s : List ℕ) (i v : ℕ) → length s / 2 ≤ i → s ≡ stored s i v
+write-none s i v l = stored-past s i v (omega arith)
+
+-- ---- a count
+pub count-odd : (s : List ℕ) (k : ℕ) → (length s % 2 ≡ 0 → ⊥) → false ≡ holdsCount k s
+unfolding holdsCount
+count-odd s k h = sym (ne-eqb (length s) (2 * k) (λ e. h (omega arith)))
+
+same-test : (a b c d : ℕ) → (a ≡ b → c ≡ d) → (c ≡ d → a ≡ b) → (t : Bool) → eqb a b ≡ t → eqb a b ≡ eqb c d
+same-test a b c d there back true e = e ∙ sym (eq-eqb c d (there (eqb-true a b e)))
+same-test a b c d there back false e = e ∙ sym (ne-eqb c d (λ q. eqb-false a b e (back q)))
+
+pub count-even : (s : List ℕ) (k : ℕ) → length s % 2 ≡ 0 → eqb (length s / 2) k ≡ holdsCount k s
+unfolding holdsCount
+count-even s k h = same-test (length s / 2) k (length s) (2 * k) (λ e. omega arith) (λ e. omega arith) (eqb (length s / 2) k) refl
+
+-- ---- the search for a number that isn't below p
+-- number i is below p
+abbrev pub isBelow : List ℕ → ℕ → ℕ → Bool
+isBelow s p i = ltb (getD (numbers s) i 0) p
+
+module _ (s : List ℕ) (p i x : ℕ) (h : Seeking (isBelow s p) (length s / 2) i) (l : i < length s / 2) (e : x ≡ getD (numbers s) i 0) where
+  pub over-found : p ≤ x → At i ≡ firstOver p (numbers s)
+  unfolding firstOver
+  over-found o = rw numbers-length (found (isBelow s p) (length s / 2) i h l (rw (← e) (le-ltb x p o)))
+
+  pub over-passed : x < p → Seeking (isBelow s p) (length s / 2) (i + 1)
+  over-passed o = record { within = omega arith; rest = passed (isBelow s p) (length s / 2) i h l (rw (← e) (lt-ltb x p o)) }
+
+pub over-begin : (s : List ℕ) (p : ℕ) → Seeking (isBelow s p) (length s / 2) 0
+over-begin s p = record { within = omega arith; rest = begin (isBelow s p) (length s / 2) }
+
+pub over-nothing : (s : List ℕ) (p i : ℕ) → Seeking (isBelow s p) (length s / 2) i → length s / 2 ≤ i → Nothing ≡ firstOver p (numbers s)
+unfolding firstOver
+over-nothing s p i h l = rw numbers-length (nothing (isBelow s p) (length s / 2) i h l)
+
+-- ---- whether all from a place on are below p
+-- the invariant of the loop at i: what is left to test is what there is to test
+pub record Testing (s : List ℕ) (from p i : ℕ) : Type 0 where
+  pub rest : allBelow p (drop i (numbers s)) ≡ allBelow p (drop from (numbers s))
+
+pub test-begin : (s : List ℕ) (from p : ℕ) → Testing s from p from
+test-begin s from p = record { rest = refl }
+
+module _ (s : List ℕ) (from p i : ℕ) (h : Testing s from p i) where
+  pub test-over : (x : ℕ) → i < length s / 2 → x ≡ getD (numbers s) i 0 → p ≤ x → false ≡ allBelow p (drop from (numbers s))
+  test-over x l e o = allBelow-over p (numbers s) i (rw numbers-length l) (omega arith) ∙ h .rest
+
+  pub test-passed : (x : ℕ) → i < length s / 2 → x ≡ getD (numbers s) i 0 → x < p → Testing s from p (i + 1)
+  test-passed x l e o = record { rest = allBelow-next p (numbers s) i (rw numbers-length l) (omega arith) ∙ h .rest }
+
+  pub test-end : length s / 2 ≤ i → true ≡ allBelow p (drop from (numbers s))
+  test-end l = allBelow-end p (numbers s) i (rw numbers-length l) ∙ h .rest
+
+pub ruleset coding = (needs, byte-none, word-some, word-none, number-some, number-none, write-some, high-in, write-none, count-odd, count-even, over-found, over-passed, over-begin, over-nothing, test-begin, test-over, test-passed, test-end)
