@@ -9,7 +9,7 @@ use native.Mathlib.Omega.{arith}
 use lib.Dec.{T, ltb, eqb, ltb→lt, lt→ltb, eqb→eq, eqb-refl, nltb→le, T-not, not-T}
 use Rattle.field.proofs.Solve.{Same, same, same-by, multiples, turn, _⨾_, plus, cancel, times, mod-same, add-same, mul-same, sub-same, Canon, below, mul-canon, mod-canon, sub-canon, add-canon, zero-canon, canon-same, canon-lt, #, quote, solve, combine}
 use Rattle.field.specs.Mod.{add, mul, sub}
-use Rattle.field.specs.Prime.{undivided, isPrime, Prime, invert, inv}
+use Rattle.field.specs.Prime.{Prime, invert, inv}
 
 -- ---- the inverse step by step, whatever the fuel
 invert-small : (p k a : ℕ) → a ≤ 1 → invert p k a ≡ a

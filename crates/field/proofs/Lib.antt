@@ -1,3 +1,7 @@
 pub mod Solve
 pub mod Primes
 pub mod Inverse
+pub mod Laws
+pub mod Products
+pub mod Elements
+pub mod Worked

@@ -210,22 +210,3 @@ solve p s h = canon-same (s .left .canon) (s .right .canon) (merge (s .left .dif
 -- an equation a ≡ b that follows from u ≡ v times c
 pub combine : (p c : ℕ) {a b u v : ℕ} → Canon p a → Canon p b → u ≡ v → add p a (mul p c v) ≡ add p b (mul p c u) → a ≡ b
 combine p c {a} {b} {u} {v} ca cb e h = canon-same ca cb (cancel (mul p c v) (mul p c u) (same (ap (λ n. mul p c n) (sym e))) (turn (add-same p a (mul p c v)) ⨾ same h ⨾ add-same p b (mul p c u)))
-
--- ---- examples
-three : (p a b c : ℕ) → mul p a (add p b c) ≡ add p (mul p a b) (mul p a c)
-three p a b c = solve p (search (quote, # a, # b, # c)) (omega arith)
-
-squares : (p a b : ℕ) → 0 < p → mul p (sub p a b) (add p a b) ≡ sub p (mul p a a) (mul p b b)
-squares p a b pos = solve p (search (quote, # a, # b)) (omega arith)
-
-six : (p a b c d e f : ℕ) → 0 < p → mul p (mul p (sub p a b) (sub p c d)) (mul p e f) ≡ add p (mul p (mul p f e) (sub p (mul p c a) (mul p b c))) (mul p (sub p (mul p b d) (mul p a d)) (mul p e f))
-six p a b c d e f pos = solve p (search (quote, # a, # b, # c, # d, # e, # f)) (omega arith)
-
-nothing : (p a : ℕ) → 0 < p → sub p a a ≡ 0
-nothing p a pos = solve p (search (quote, # a)) (omega arith)
-
-eight : (p a b c d e f g h : ℕ) → 0 < p → mul p (mul p (sub p a b) (sub p c d)) (mul p (sub p e f) (sub p g h)) ≡ mul p (mul p (sub p b a) (sub p e f)) (mul p (sub p c d) (sub p h g))
-eight p a b c d e f g h pos = solve p (search (quote, # a, # b, # c, # d, # e, # f, # g, # h)) (omega arith)
-
-inner : (p a b : ℕ) → mul p (a % p) b ≡ mul p a b
-inner p a b = solve p (search (quote, # a, # b)) (omega arith)

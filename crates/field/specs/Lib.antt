@@ -1,2 +1,3 @@
 pub mod Mod
 pub mod Prime
+pub mod Field
