@@ -1,2 +1,4 @@
-pub mod Valid
+pub mod Refusals
 pub mod Gates
+pub mod Ways
+pub mod Valid
