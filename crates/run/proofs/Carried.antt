@@ -398,7 +398,7 @@ module _ (plan : Plan) (valid : Valid plan) (xs cs : List ℕ) (full : length cs
       party-next s m = let e : suc s - 1 ≡ s = omega arith in ap (λ (k : ℕ). getD (parties plan) k 0) (sym e) ∙ party-at plan (suc s) (omega arith) m
 
   -- the shares of the party's out number r, in its mail
-  shares-of-out : (i r : ℕ) → 1 ≤ i → i ≤ partyCount plan → r < ownOutCount plan i
+  pub shares-of-out : (i r : ℕ) → 1 ≤ i → i ≤ partyCount plan → r < ownOutCount plan i
       → sharesOfOut (partyCount plan) (ownOutCount plan i) r (mailTo i (round plan xs cs (suc (multiplies plan))))
       ≡ map (wireAt (shareTable plan xs cs) (getD (outWires plan i) r 0)) (plan .points)
   unfolding sharesOfOut ownOutCount partyCount

@@ -336,7 +336,7 @@ module _ {table : List (ℕ → ℕ)} {gates : List Gate} {z g : ℕ} {shares : 
   pub end-known : (b : ℕ) → length gates ≤ g → Known table gates z b shares
   end-known b l = record { size = known .size; inputs = known .inputs; below = λ w h m. known .below w (omega arith) m; others = known .others }
 
-getD-zeros : (n i : ℕ) → _≡_ {A = ℕ} (getD (replicate n 0) i 0) 0
+pub getD-zeros : (n i : ℕ) → _≡_ {A = ℕ} (getD (replicate n 0) i 0) 0
 getD-zeros zero i = refl
 getD-zeros (suc n) zero = refl
 getD-zeros (suc n) (suc i) = getD-zeros n i
