@@ -4,17 +4,16 @@
 --     Taken, run-taken                          a call's state and mail
 --     run-accepted                              the call's checks pass
 -- Assumes nothing.
-use mathlib.Core.Path.{_≡_, refl, sym, ap, ap₂, subst, _∙_}
-use mathlib.Core.Logic.{_≢_, _⊎_, inl, inr, ⊎-elim}
+use mathlib.Core.Path.{_≡_, refl, sym, ap, ap₂, _∙_}
+use mathlib.Core.Logic.{_≢_, _⊎_, inl, inr}
 use mathlib.Core.Bool.{Bool, true, false, cond, not, _&&_}
-use mathlib.Core.List.{List, [], _∷_, _++_, map, flatMap}
-use Prim.Native.Nat.{ℕ, zero, suc, _+_, _-_, _*_, _<_, _≤_}
+use mathlib.Core.List.{List, [], _∷_, _++_, map}
+use Prim.Native.Nat.{ℕ, zero, suc, _+_, _*_, _<_, _≤_}
 use native.Mathlib.Omega.{arith}
-use borrow.Author.Tests.{lt-ltb, le-leb, eq-eqb, ne-eqb}
-use lib.Dec.{eqb, leb, ltb}
-use lib.ListN.{length, getD, take, drop, replicate, length-replicate}
-use Rattle.numbers.specs.declared.Found.the-variants.{At, Nothing}
-use Rattle.numbers.specs.Tables.{tab, countWhere, firstFailing}
+use borrow.Author.Tests.{le-leb, eq-eqb, ne-eqb}
+use lib.Dec.{eqb, leb}
+use lib.ListN.{length, getD, take, drop, replicate, length-replicate, length-drop}
+use lib.Seq.{getD-drop}
 use Rattle.numbers.specs.Bytes.{numbers, bytesOf, holdsCount, firstOver, allBelow}
 use Rattle.numbers.proofs.Searches.{passes-nothing}
 use Rattle.numbers.proofs.Bytes.{length-bytesOf, numbers-of-bytes}
@@ -33,7 +32,7 @@ use Rattle.plan.proofs.Valid.{Valid}
 use Rattle.party.specs.Messages.{wiresByParty, sharesOfOut}
 use Rattle.party.specs.Calls.{nothingFound, openingCheck, partyChecks}
 use Rattle.run.specs.Rounds.{fresh, callOf, mailTo, round}
-use Rattle.run.specs.Shares.{shareTable, wireAt, pieces}
+use Rattle.run.specs.Shares.{shareTable, wireAt}
 use Rattle.run.proofs.Lists.{length-map, all-append, all-take, all-drop, all-getD, all-at, at-all, all-mapped}
 use Rattle.run.proofs.Blocks.{inputAt, own-inputs, length-ownBlocks, count-dealings}
 use Rattle.run.proofs.States.{getD-zeros, Known}
@@ -184,3 +183,80 @@ module _ (plan : Plan) (valid : Valid plan) (xs cs : List ℕ) (full : length cs
   pub run-taken : (k : ℕ) → k ≤ multiplies plan + 2 → Taken plan i k (stateIn plan xs cs i k) (mailIn plan xs cs i k)
   run-taken zero l = taken-first
   run-taken (suc k) l = taken-next k l
+
+-- ---- the checks
+next-passes : (c : Checked) (rest : List Checked) → c ≡ Passed → firstOf rest ≡ Passed → firstOf (c ∷ rest) ≡ Passed
+unfolding firstOf andThen
+next-passes c rest e h = ap (λ (d : Checked). andThen d (firstOf rest)) e ∙ h
+
+need-passes : (r : Refusal) (b : Bool) → b ≡ true → need r b ≡ Passed
+unfolding need
+need-passes r b e = ap (λ (c : Bool). cond c Passed (Refused r)) e
+
+count-holds : (n : ℕ) (l : List ℕ) → length l ≡ n → holdsCount n (bytesOf l) ≡ true
+unfolding holdsCount
+count-holds n l e = eq-eqb (length (bytesOf l)) (2 * n) (omega (arith, length-bytesOf l))
+
+-- numbers below p come back from their bytes
+pub back : (p : ℕ) (l : List ℕ) → p ≤ 65536 → allBelow p l ≡ true → numbers (bytesOf l) ≡ l
+back p l few h = numbers-of-bytes l (λ i m. omega (arith, allBelow-at p l i h m))
+
+values-pass : (r : ℕ → Refusal) (p : ℕ) (l : List ℕ) → p ≤ 65536 → allBelow p l ≡ true → unlessFound r (firstOver p (numbers (bytesOf l))) ≡ Passed
+unfolding unlessFound
+values-pass r p l few h = ap (λ (m : List ℕ). unlessFound r (firstOver p m)) (back p l few h) ∙ ap (unlessFound r) (nothing-firstOver p l h)
+
+both-hold : (a b : Bool) → a ≡ true → b ≡ true → (a && b) ≡ true
+both-hold a b e f = rw (e, f)
+
+module _ (plan : Plan) (few : plan .p ≤ 65536) (short : multiplies plan + 3 ≤ 65536) (i k : ℕ) (k-small : k ≤ multiplies plan + 2) (state mail : List ℕ) (taken : Taken plan i k state mail) where
+  state-entry : (w : ℕ) → w < length state → getD state w 0 < 65536
+  state-entry zero l = omega (arith, taken .number)
+  state-entry (suc w) l =
+      let e : 1 + w ≡ suc w = omega arith in
+      let q : getD (drop 1 state) w 0 ≡ getD state (suc w) 0 = getD-drop 1 state w 0 ∙ ap (λ (m : ℕ). getD state m 0) e in
+      let m : getD (drop 1 state) w 0 < plan .p = allBelow-at (plan .p) (drop 1 state) w (taken .state-below) (omega (arith, length-drop 1 state)) in
+      omega arith
+
+  pub state-back : numbers (bytesOf state) ≡ state
+  state-back = numbers-of-bytes state state-entry
+
+  number-back : getD (numbers (bytesOf state)) 0 0 ≡ k
+  number-back = ap (λ (s : List ℕ). getD s 0 0) state-back ∙ taken .number
+
+  -- the checks on a party's call, where its own inputs and coins are as they ask
+  pub checks-pass : (inputs coins : List ℕ) (room : ℕ) → 1 ≤ i → i ≤ partyCount plan
+      → length inputs ≡ ownInputCount plan i → allBelow (plan .p) inputs ≡ true
+      → length coins ≡ ownCoinCount plan i → allBelow (plan .p) coins ≡ true
+      → room ≡ 2 * writtenCount plan i k
+      → firstOf (partyChecks plan i (bytesOf inputs) (bytesOf coins) (bytesOf state) (bytesOf mail) room) ≡ Passed
+  unfolding partyChecks between
+  checks-pass inputs coins room from1 upto ni si nc sc fits =
+      next-passes _ _ (need-passes refusal.Coalition (leb 1 i && leb i (partyCount plan)) (both-hold (leb 1 i) (leb i (partyCount plan)) (le-leb 1 i from1) (le-leb i (partyCount plan) upto)))
+      (next-passes _ _ (need-passes refusal.InputCount (holdsCount (ownInputCount plan i) (bytesOf inputs)) (count-holds (ownInputCount plan i) inputs ni))
+      (next-passes _ _ (values-pass refusal.InputValue (plan .p) inputs few si)
+      (next-passes _ _ (need-passes refusal.CoinCount (holdsCount (ownCoinCount plan i) (bytesOf coins)) (count-holds (ownCoinCount plan i) coins nc))
+      (next-passes _ _ (values-pass refusal.CoinValue (plan .p) coins few sc)
+      (next-passes _ _ (need-passes refusal.StateCount (holdsCount (1 + length (plan .gates)) (bytesOf state)) (count-holds (1 + length (plan .gates)) state (taken .state-count)))
+      (next-passes _ _ (need-passes refusal.StateValue _
+      (both-hold (leb (getD (numbers (bytesOf state)) 0 0) (multiplies plan + 3)) (allBelow (plan .p) (drop 1 (numbers (bytesOf state))))
+      (le-leb (getD (numbers (bytesOf state)) 0 0) (multiplies plan + 3) (omega (arith, number-back)))
+      (ap (λ (s : List ℕ). allBelow (plan .p) (drop 1 s)) state-back ∙ taken .state-below)))
+      (next-passes _ _ (need-passes refusal.Finished _ (ap not (ne-eqb (getD (numbers (bytesOf state)) 0 0) (multiplies plan + 3) (λ e. omega (arith, number-back, e)))))
+      (next-passes _ _ (need-passes refusal.MailCount (holdsCount (mailCount plan i (getD (numbers (bytesOf state)) 0 0)) (bytesOf mail))
+      (count-holds (mailCount plan i (getD (numbers (bytesOf state)) 0 0)) mail (taken .mail-count ∙ ap (mailCount plan i) (sym number-back))))
+      (next-passes _ _ (values-pass refusal.MailValue (plan .p) mail few (taken .mail-below))
+      (next-passes _ _ (need-passes refusal.BufferLength _ (eq-eqb room (2 * writtenCount plan i (getD (numbers (bytesOf state)) 0 0)) (fits ∙ ap (λ (n : ℕ). 2 * writtenCount plan i n) (sym number-back))))
+      (next-passes _ _ (ap₂ (openingCheck plan i) number-back (back (plan .p) mail few (taken .mail-below)) ∙ taken .opening) none)))))))))))
+    where
+      none : firstOf [] ≡ Passed
+      none = unfold firstOf in refl
+
+-- no call of a run is refused
+pub run-accepted : (plan : Plan) → Valid plan → plan .p ≤ 65536 → multiplies plan + 3 ≤ 65536
+    → (xs cs : List ℕ) → allBelow (plan .p) xs ≡ true → length cs ≡ coinCount plan → allBelow (plan .p) cs ≡ true
+    → (k i : ℕ) → k ≤ multiplies plan + 2 → 1 ≤ i → i ≤ partyCount plan → (room : ℕ) → room ≡ 2 * writtenCount plan i k
+    → firstOf (partyChecks plan i (bytesOf (ownInputs plan i xs)) (bytesOf (ownCoins plan i cs)) (bytesOf (stateIn plan xs cs i k)) (bytesOf (mailIn plan xs cs i k)) room) ≡ Passed
+run-accepted plan valid few short xs cs small full small-coins k i l from1 upto room fits =
+    checks-pass plan few short i k l (stateIn plan xs cs i k) (mailIn plan xs cs i k) (run-taken plan valid xs cs full small i from1 upto k l)
+    (ownInputs plan i xs) (ownCoins plan i cs) room from1 upto
+    (own-inputs-count plan valid i xs) (own-inputs-below plan valid i xs small) (own-coins-count plan valid i cs from1 full) (own-coins-below plan valid i cs small-coins) fits

@@ -4,17 +4,16 @@
 --     mail-count, written-count, sent-all       document 01's counts
 --     for-rounds, for-calls                     rounds and calls by their kind
 -- Assumes nothing.
-use mathlib.Core.Path.{_≡_, refl, sym, ap, ap₂, subst, _∙_}
+use mathlib.Core.Path.{_≡_, refl, sym, ap, ap₂, _∙_}
 use mathlib.Core.Logic.{_≢_}
 use mathlib.Core.Bool.{Bool, true, false, cond, _&&_}
 use mathlib.Core.List.{List, [], _∷_, _++_, map, flatMap}
 use Prim.Native.Nat.{ℕ, zero, suc, _+_, _-_, _*_, _<_, _≤_}
-use native.Mathlib.Nat.{mul-zero, zero-mul, mul-suc, suc-mul, mul-add, mul-comm, mul-assoc, mod-lt}
-use native.Mathlib.Numerals.{add-one}
+use native.Mathlib.Nat.{mul-zero, zero-mul, suc-mul, mul-add, mul-comm, mul-assoc}
 use native.Mathlib.Omega.{arith}
 use borrow.Author.Tests.{ltb-true, ltb-false, lt-ltb, le-ltb, leb-true, le-leb, lt-leb, eqb-true, eqb-false, eq-eqb, ne-eqb}
 use lib.Dec.{eqb, leb, ltb}
-use lib.ListN.{length, getD, take, drop, replicate, length-append}
+use lib.ListN.{length, getD, take, drop, length-append}
 use Rattle.numbers.specs.Tables.{tab, countWhere}
 use Rattle.numbers.proofs.Tables.{tab-append, length-tab}
 use Rattle.sharing.specs.Poly.{eval}
@@ -23,17 +22,17 @@ use Rattle.sharing.specs.Sharing.{opened}
 use Rattle.plan.specs.declared.Gate.{Gate}
 use Rattle.plan.specs.declared.Gate.the-variants.{Input, Add, Scale, Offset, Multiply}
 use Rattle.plan.specs.declared.Output.{Output}
-use Rattle.plan.specs.Plans.{Plan, partyCount, parties, pointOf, dealerCount, isInput, isInputOf, wiresFrom, wiresWhere, multiplies, multiplyWire, inputWires, outWiresOf, outWires, inputCount, ownInputCount, ownOutCount, coinCount, mailCount, writtenCount, sentCount, ownInputs, ownCoins, coinsAt}
+use Rattle.plan.specs.Plans.{Plan, partyCount, parties, pointOf, dealerCount, isInput, isInputOf, wiresWhere, multiplies, multiplyWire, inputWires, outWiresOf, outWires, inputCount, ownInputCount, ownOutCount, coinCount, mailCount, writtenCount, sentCount, ownInputs, ownCoins, coinsAt}
 use Rattle.plan.specs.File.{between, gateOk, outOk}
 use Rattle.plan.proofs.Valid.{Valid}
 use Rattle.party.specs.Messages.{Called, callWith, wiresByParty, dealTo, nothing, inputPolys, sendInputs, productAt, sendProduct, sendOuts, send}
 use Rattle.party.specs.Calls.{written}
 use Rattle.run.specs.Rounds.{callOf, mailTo, round, results, sentIn, sentBefore, sentAll}
 use Rattle.run.specs.Shares.{shareTable, wireAt, coinsBelow, tableResults}
-use Rattle.run.proofs.Lists.{length-map, length-rows, flatMap-map, flatMap-nil, all-tab, all-map, all-every}
+use Rattle.run.proofs.Lists.{length-map, length-rows, flatMap-map, flatMap-nil, all-tab, all-every}
 use Rattle.run.proofs.Blocks.{count-dealers}
 use Rattle.run.proofs.States.{both, length-wires, Multiplied, multiplied}
-use Rattle.run.proofs.Carried.{each-party, length-parties, called, round-called, call-at, sentBy, sharesAt, mail-inputs, product-of, pieces-tab, mail-product, out-mail, mail-outs, results-table}
+use Rattle.run.proofs.Carried.{each-party, length-parties, called, round-called, call-at, sentBy, sharesAt, mail-inputs, product-of, pieces-tab, mail-product, out-mail, results-table}
 
 -- ---- sums over a list
 unfoldable pub total : (ℕ → ℕ) → List ℕ → ℕ
