@@ -1,20 +1,19 @@
--- How many numbers a run carries: the lengths of mail, of what a call writes, and of what all calls send; and that all are below p.
+-- How many numbers a run carries: the lengths of mail, of what a call writes, and of what all calls send.
 --     total, total-counts                       sums over parties
 --     length-wiresByParty, length-outs          every input and every out has one party
 --     mail-count, written-count, sent-all       document 01's counts
---     table-below, state-below, mail-below      all numbers are below p
+--     for-rounds, for-calls                     rounds and calls by their kind
 -- Assumes nothing.
-use mathlib.Core.Path.{_≡_, refl, sym, ap, ap₂, subst, _∙_}
-use mathlib.Core.Logic.{_⊎_, inl, inr}
+use mathlib.Core.Path.{_≡_, refl, sym, ap, ap₂, _∙_}
+use mathlib.Core.Logic.{_≢_}
 use mathlib.Core.Bool.{Bool, true, false, cond, _&&_}
 use mathlib.Core.List.{List, [], _∷_, _++_, map, flatMap}
 use Prim.Native.Nat.{ℕ, zero, suc, _+_, _-_, _*_, _<_, _≤_}
-use native.Mathlib.Nat.{mul-zero, zero-mul, mul-suc, suc-mul, mul-add, mul-comm, mul-assoc, mod-lt}
-use native.Mathlib.Numerals.{add-one}
+use native.Mathlib.Nat.{mul-zero, zero-mul, suc-mul, mul-add, mul-comm, mul-assoc}
 use native.Mathlib.Omega.{arith}
 use borrow.Author.Tests.{ltb-true, ltb-false, lt-ltb, le-ltb, leb-true, le-leb, lt-leb, eqb-true, eqb-false, eq-eqb, ne-eqb}
 use lib.Dec.{eqb, leb, ltb}
-use lib.ListN.{length, getD, take, drop, replicate, length-append}
+use lib.ListN.{length, getD, take, drop, length-append}
 use Rattle.numbers.specs.Tables.{tab, countWhere}
 use Rattle.numbers.proofs.Tables.{tab-append, length-tab}
 use Rattle.sharing.specs.Poly.{eval}
@@ -23,17 +22,17 @@ use Rattle.sharing.specs.Sharing.{opened}
 use Rattle.plan.specs.declared.Gate.{Gate}
 use Rattle.plan.specs.declared.Gate.the-variants.{Input, Add, Scale, Offset, Multiply}
 use Rattle.plan.specs.declared.Output.{Output}
-use Rattle.plan.specs.Plans.{Plan, partyCount, parties, pointOf, dealerCount, isInput, isInputOf, wiresFrom, wiresWhere, multiplies, multiplyWire, inputWires, outWiresOf, outWires, inputCount, ownInputCount, ownOutCount, coinCount, mailCount, writtenCount, sentCount, ownInputs, ownCoins, coinsAt}
+use Rattle.plan.specs.Plans.{Plan, partyCount, parties, pointOf, dealerCount, isInput, isInputOf, wiresWhere, multiplies, multiplyWire, inputWires, outWiresOf, outWires, inputCount, ownInputCount, ownOutCount, coinCount, mailCount, writtenCount, sentCount, ownInputs, ownCoins, coinsAt}
 use Rattle.plan.specs.File.{between, gateOk, outOk}
 use Rattle.plan.proofs.Valid.{Valid}
 use Rattle.party.specs.Messages.{Called, callWith, wiresByParty, dealTo, nothing, inputPolys, sendInputs, productAt, sendProduct, sendOuts, send}
 use Rattle.party.specs.Calls.{written}
 use Rattle.run.specs.Rounds.{callOf, mailTo, round, results, sentIn, sentBefore, sentAll}
 use Rattle.run.specs.Shares.{shareTable, wireAt, coinsBelow, tableResults}
-use Rattle.run.proofs.Lists.{length-map, length-rows, flatMap-map, flatMap-nil, all-tab, all-map, all-every}
+use Rattle.run.proofs.Lists.{length-map, length-rows, flatMap-map, flatMap-nil, all-tab, all-every}
 use Rattle.run.proofs.Blocks.{count-dealers}
 use Rattle.run.proofs.States.{both, length-wires, Multiplied, multiplied}
-use Rattle.run.proofs.Carried.{each-party, length-parties, called, round-called, call-at, sentBy, sharesAt, mail-inputs, product-of, pieces-tab, mail-product, out-mail, mail-outs, results-table, known-after, known-all, shares-last, state-is}
+use Rattle.run.proofs.Carried.{each-party, length-parties, called, round-called, call-at, sentBy, sharesAt, mail-inputs, product-of, pieces-tab, mail-product, out-mail, results-table}
 
 -- ---- sums over a list
 unfoldable pub total : (ℕ → ℕ) → List ℕ → ℕ
@@ -291,22 +290,30 @@ module _ (plan : Plan) (valid : Valid plan) (xs cs : List ℕ) where
       ∙ ap₂ (λ (u v : ℕ). u + v) (ap₂ (λ (u v : ℕ). u + v) (sent-before m (omega arith)) sent-in-outs) sent-in-last
       ∙ omega arith
 
+-- ---- rounds by their kind
+module _ (plan : Plan) (P : ℕ → Type 0) where
+  by-kind : (k : ℕ) (b : Bool) → ltb k (multiplies plan) ≡ b → (c : Bool) → eqb k (multiplies plan) ≡ c
+      → (k < multiplies plan → P (suc k)) → P (suc (multiplies plan)) → (multiplies plan < k → P (suc k)) → P (suc k)
+  by-kind k true e c q product outs last = product (ltb-true k (multiplies plan) e)
+  by-kind k false e true q product outs last = let r : k ≡ multiplies plan = eqb-true k (multiplies plan) q in rw r outs
+  by-kind k false e false q product outs last =
+      let m : multiplies plan ≤ k = ltb-false k (multiplies plan) e in
+      let n : k ≢ multiplies plan = eqb-false k (multiplies plan) q in
+      last (omega arith)
+
+  -- rounds 0 to M + 1: the inputs', the multiplies', the outs'
+  pub for-rounds : P 0 → ((k : ℕ) → k < multiplies plan → P (suc k)) → P (suc (multiplies plan)) → (k : ℕ) → k ≤ multiplies plan + 1 → P k
+  for-rounds first products outs zero l = first
+  for-rounds first products outs (suc k) l = by-kind k (ltb k (multiplies plan)) refl (eqb k (multiplies plan)) refl (products k) outs (λ m. absurd (omega arith))
+
+  -- calls 0 to M + 2
+  pub for-calls : P 0 → ((k : ℕ) → k < multiplies plan → P (suc k)) → P (suc (multiplies plan)) → P (suc (suc (multiplies plan))) → (k : ℕ) → k ≤ multiplies plan + 2 → P k
+  for-calls first products outs last zero l = first
+  for-calls first products outs last (suc k) l =
+      by-kind k (ltb k (multiplies plan)) refl (eqb k (multiplies plan)) refl (products k) outs (λ m. let r : k ≡ suc (multiplies plan) = omega arith in rw r last)
+
 -- ---- the lengths of mail and of what a call writes
 module _ (plan : Plan) (valid : Valid plan) (xs cs : List ℕ) (full : length cs ≡ coinCount plan) where
-  -- calls 0 to M + 2
-  for-calls : (P : ℕ → Type 0) → P 0 → ((k : ℕ) → k < multiplies plan → P (suc k)) → P (suc (multiplies plan)) → P (suc (suc (multiplies plan))) → (k : ℕ) → k ≤ multiplies plan + 2 → P k
-  for-calls P first products outs last zero l = first
-  for-calls P first products outs last (suc k) l = by (ltb k (multiplies plan)) refl (eqb k (multiplies plan)) refl
-    where
-      by : (b : Bool) → ltb k (multiplies plan) ≡ b → (c : Bool) → eqb k (multiplies plan) ≡ c → P (suc k)
-      by true e c q = products k (ltb-true k (multiplies plan) e)
-      by false e true q = let r : k ≡ multiplies plan = eqb-true k (multiplies plan) q in rw r outs
-      by false e false q =
-          let m : multiplies plan ≤ k = ltb-false k (multiplies plan) e in
-          let n : k ≡ multiplies plan → ⊥ = eqb-false k (multiplies plan) q in
-          let r : k ≡ suc (multiplies plan) = omega arith in
-          rw r last
-
   mail-count-first : (i : ℕ) → 1 ≤ i → i ≤ partyCount plan → length (mailTo i (round plan xs cs 0)) ≡ mailCount plan i 1
   unfolding mailCount
   mail-count-first i l h =
@@ -329,17 +336,10 @@ module _ (plan : Plan) (valid : Valid plan) (xs cs : List ℕ) (full : length cs
       ∙ length-rows row (length (outWires plan i)) (parties plan) (all-every (λ j. length (row j) ≡ length (outWires plan i)) (parties plan) (λ j. length-map (λ w. wireAt (shareTable plan xs cs) w (pointOf plan j)) (outWires plan i)))
       ∙ ap (λ (m : ℕ). m * length (outWires plan i)) (length-parties plan))
 
-  mail-count-by : (k i : ℕ) → k ≤ multiplies plan → 1 ≤ i → i ≤ partyCount plan → (b : Bool) → ltb k (multiplies plan) ≡ b → length (mailTo i (round plan xs cs (suc k))) ≡ mailCount plan i (suc (suc k))
-  mail-count-by k i q l h true e = mail-count-product k i (ltb-true k (multiplies plan) e) l h
-  mail-count-by k i q l h false e =
-      let m : multiplies plan ≤ k = ltb-false k (multiplies plan) e in
-      let r : k ≡ multiplies plan = omega arith in
-      subst (λ (j : ℕ). length (mailTo i (round plan xs cs (suc j))) ≡ mailCount plan i (suc (suc j))) (sym r) (mail-count-outs i l h)
-
   -- the mail of round k is what call k + 1 takes
   pub mail-count : (k i : ℕ) → k ≤ multiplies plan + 1 → 1 ≤ i → i ≤ partyCount plan → length (mailTo i (round plan xs cs k)) ≡ mailCount plan i (suc k)
-  mail-count zero i q l h = mail-count-first i l h
-  mail-count (suc k) i q l h = mail-count-by k i (omega arith) l h (ltb k (multiplies plan)) refl
+  mail-count k i q l h =
+      for-rounds plan (λ k. length (mailTo i (round plan xs cs k)) ≡ mailCount plan i (suc k)) (mail-count-first i l h) (λ k m. mail-count-product k i m l h) (mail-count-outs i l h) k q
 
   length-tableResults : (i : ℕ) → length (tableResults plan xs cs i) ≡ ownOutCount plan i
   unfolding tableResults ownOutCount
@@ -376,11 +376,5 @@ module _ (plan : Plan) (valid : Valid plan) (xs cs : List ℕ) (full : length cs
   -- what call k writes
   pub written-count : (k i : ℕ) → k ≤ multiplies plan + 2 → 1 ≤ i → i ≤ partyCount plan → length (written plan k (callOf i (round plan xs cs k))) ≡ writtenCount plan i k
   written-count k i q l h =
-      for-calls (λ k. length (written plan k (callOf i (round plan xs cs k))) ≡ writtenCount plan i k)
+      for-calls plan (λ k. length (written plan k (callOf i (round plan xs cs k))) ≡ writtenCount plan i k)
       (written-first i l h) (λ k m. written-product k i m l h) (written-outs i l h) (written-last i l h) k q
-
-  -- ---- states
-  -- the shares that a call leaves: all wires, each the table's share or 0
-  pub record SharesOf (i : ℕ) (shares : List ℕ) : Type 0 where
-    pub size : length shares ≡ length (plan .gates)
-    pub each : (w : ℕ) → (getD shares w 0 ≡ wireAt (shareTable plan xs cs) w (pointOf plan i)) ⊎ (getD shares w 0 ≡ 0)

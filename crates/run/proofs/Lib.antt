@@ -8,3 +8,4 @@ pub mod Openings
 pub mod Below
 pub mod Tables
 pub mod Wires
+pub mod Accepted
