@@ -31,12 +31,12 @@ use Rattle.plan.specs.File.{between}
 use Rattle.plan.proofs.Valid.{Valid}
 use Rattle.party.specs.Messages.{wiresByParty, sharesOfOut}
 use Rattle.party.specs.Calls.{nothingFound, openingCheck, partyChecks}
-use Rattle.run.specs.Rounds.{fresh, callOf, mailTo, round}
+use Rattle.run.specs.Rounds.{fresh, callOf, mailTo, round, stateIn, mailIn}
 use Rattle.run.specs.Shares.{shareTable, wireAt}
 use Rattle.run.proofs.Lists.{length-map, all-append, all-take, all-drop, all-getD, all-at, at-all, all-mapped}
 use Rattle.run.proofs.Blocks.{inputAt, own-inputs, length-ownBlocks, count-dealings}
 use Rattle.run.proofs.States.{getD-zeros, Known}
-use Rattle.run.proofs.Carried.{mailIn, sharesAt, state-is, mail-inputs, mail-product, out-mail, shares-of-out, known-after, known-all, shares-last}
+use Rattle.run.proofs.Carried.{sharesAt, state-is, mail-inputs, mail-product, out-mail, shares-of-out, known-after, known-all, shares-last}
 use Rattle.run.proofs.Counts.{length-inputWires, for-rounds, for-calls, mail-count}
 use Rattle.run.proofs.Below.{share-below, shares-below, pieces-below, flatMap-below}
 use Rattle.run.proofs.Openings.{none-off}
@@ -76,11 +76,6 @@ module _ (plan : Plan) (valid : Valid plan) where
   own-coins-below i cs small = all-below (plan .p) (ownBlocks (plan .t) i (dealings plan) cs) (all-ownBlocks (λ v. v < plan .p) (plan .t) i (dealings plan) cs (below-all (plan .p) cs small))
 
 -- ---- a call's state and mail
--- the state that party i's call number k takes
-unfoldable pub stateIn : Plan → List ℕ → List ℕ → ℕ → ℕ → List ℕ
-stateIn plan xs cs i zero = fresh plan
-stateIn plan xs cs i (suc k) = callOf i (round plan xs cs k) .state
-
 -- what call number k takes is as its checks ask
 pub record Taken (plan : Plan) (i k : ℕ) (state mail : List ℕ) : Type 0 where
   pub number : getD state 0 0 ≡ k

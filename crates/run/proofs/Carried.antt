@@ -27,7 +27,7 @@ use Rattle.plan.specs.Plans.{Plan, partyCount, parties, pointOf, dealerCount, d
 use Rattle.plan.specs.File.{between, gateOk, outOk}
 use Rattle.plan.proofs.Valid.{Valid}
 use Rattle.party.specs.Messages.{Called, callWith, call, setAll, wiresByParty, reduced, learn, dealTo, nothing, inputPolys, sendInputs, productAt, sendProduct, sendOuts, send, sharesOfOut, resultsOf}
-use Rattle.run.specs.Rounds.{fresh, noCall, callOf, mailTo, round, results, mails, viewOf, view}
+use Rattle.run.specs.Rounds.{fresh, noCall, callOf, mailTo, round, mailIn, results, mails, viewOf, view}
 use Rattle.run.specs.Shares.{wireAt, dealtAt, sharings, piecesAt, gateShare, shareTable, coinsBelow, pieces, tableMails, tableResults, tableViewOf}
 use Rattle.run.proofs.Lists.{map-all, flatMap-all, flatMap-tabs, flatMap-nil, flatMap-single, flatMap-append, flatMap-map, map-flatMap, length-map, getD-map-in, getD-rows, all-tab, all-map, all-cond, in-tab, in-flatMap}
 use Rattle.run.proofs.Blocks.{inputAt, own-inputs, own-coins-input, own-coins-product}
@@ -57,12 +57,7 @@ module _ (plan : Plan) where
     at-point f d = getD-map-in f (plan .points) (i - 1) 0 d (omega arith)
 
 -- ---- a run's calls
--- the mail that party i's call number k takes
-unfoldable pub mailIn : Plan → List ℕ → List ℕ → ℕ → ℕ → List ℕ
-mailIn plan xs cs i zero = []
-mailIn plan xs cs i (suc k) = mailTo i (round plan xs cs k)
-
--- its shares after that call
+-- party i's shares after its call number k
 unfoldable pub sharesAt : Plan → List ℕ → List ℕ → ℕ → ℕ → List ℕ
 sharesAt plan xs cs i zero = replicate (length (plan .gates)) 0
 sharesAt plan xs cs i (suc k) = learn plan (suc k) (sharesAt plan xs cs i k) (mailIn plan xs cs i (suc k))

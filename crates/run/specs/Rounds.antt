@@ -28,6 +28,15 @@ round plan xs coins zero =
 round plan xs coins (suc k) =
     map (λ i. call plan i (ownInputs plan i xs) (ownCoins plan i coins) (callOf i (round plan xs coins k) .state) (mailTo i (round plan xs coins k))) (parties plan)
 
+-- the state that party i's call number k of a run takes, and its mail
+unfoldable pub stateIn : Plan → List ℕ → List ℕ → ℕ → ℕ → List ℕ
+stateIn plan xs coins i zero = fresh plan
+stateIn plan xs coins i (suc k) = callOf i (round plan xs coins k) .state
+
+unfoldable pub mailIn : Plan → List ℕ → List ℕ → ℕ → ℕ → List ℕ
+mailIn plan xs coins i zero = []
+mailIn plan xs coins i (suc k) = mailTo i (round plan xs coins k)
+
 -- a party's results are those of its last call
 unfoldable pub results : Plan → List ℕ → List ℕ → ℕ → List ℕ
 results plan xs coins i = callOf i (round plan xs coins (multiplies plan + 2)) .results

@@ -12,7 +12,7 @@ use Rattle.plan.specs.declared.Checked.the-variants.{Passed, Refused}
 use Rattle.plan.specs.declared.Refusal.the-variants as refusal
 use Rattle.plan.specs.Refusals.{firstOf, andThen, need, unlessFound}
 use Rattle.plan.specs.Plans.{Plan, partyCount, parties, pointOf, dealerCount, dealerPoints, openingPoints, isInput, isInputOf, isMultiply, dealersOf, deals, dealings, wiresFrom, wiresWhere, multiplies, multiplyWire, inputWires, outWiresOf, outWires, inputCount, ownInputCount, coinCount, dealingsBelow, ownCoinCount, ownOutCount, mailCount, writtenCount, ownInputsOf, ownInputs, ownBlocks, ownCoins, coinsAt}
-use Rattle.plan.specs.File.{magic, sameBytes, between, gateOf, gateAt, outAt, gateOk, outOk, layoutOk, planChecks, planCheck, planOf}
+use Rattle.plan.specs.File.{magic, sameBytes, between, gateOf, gateAt, outAt, gateOk, outOk, gateKept, outKept, layoutOk, planChecks, planCheck, planOf}
 use Rattle.party.specs.Messages.{setAll, wiresByParty, reduced, workGate, workFrom, learn, dealTo, nothing, inputPolys, sendInputs, productAt, sendProduct, sendOuts, send, sharesOfOut, resultsOf, callWith, call}
 use Rattle.run.specs.Rounds.{fresh, noCall, callOf, mailTo, round, results, mails, viewOf, view}
 use Rattle.run.specs.Ideal.{inputsTaken, gateValue, valuesFrom, values, granted}
@@ -27,7 +27,7 @@ body : List ℕ
 body = 1 ∷ 0 ∷ 1 ∷ 0 ∷ 0 ∷ 0 ∷ 1 ∷ 0 ∷ 2 ∷ 0 ∷ 0 ∷ 0 ∷ 5 ∷ 0 ∷ 0 ∷ 0 ∷ 1 ∷ 0 ∷ 2 ∷ 0 ∷ 2 ∷ 0 ∷ 0 ∷ 0 ∷ 3 ∷ 3 ∷ 0 ∷ []
 
 k-passes : planCheck (header 3 1 11 0 ++ body) ≡ Passed
-unfolding header body planCheck firstOf andThen planChecks need unlessFound firstFailing firstFrom magic sameBytes between gateOf gateAt outAt gateOk outOk layoutOk wordAt isPrime divisorOf divisorFrom
+unfolding header body planCheck firstOf andThen planChecks need unlessFound firstFailing firstFrom magic sameBytes between gateOf gateAt outAt gateOk outOk layoutOk wordAt isPrime divisorOf divisorFrom gateKept outKept
 k-passes = refl
 
 p3 : view (planOf (header 3 1 11 0 ++ body)) (3 ∷ []) (4 ∷ 5 ∷ []) (2 ∷ 3 ∷ 1 ∷ 5 ∷ 7 ∷ []) ≡ 7 ∷ 10 ∷ 3 ∷ 7 ∷ 4 ∷ 7 ∷ 10 ∷ 7 ∷ 4 ∷ 2 ∷ []

@@ -11,7 +11,7 @@ use Rattle.plan.specs.Plans.{Plan, partyCount, parties, multiplies, inputCount,
 use Rattle.plan.specs.File.{planCheck, planOf}
 use Rattle.plan.specs.Coalitions.{members, setOk}
 use Rattle.party.specs.Calls.{callAnswer, stateAfter, outAfter}
-use Rattle.run.specs.Rounds.{fresh, callOf, mailTo, round, results, view, sentAll}
+use Rattle.run.specs.Rounds.{stateIn, mailIn, results, view, sentAll}
 use Rattle.run.specs.Ideal.{granted}
 use Rattle.run.specs.BenchCalls.{benchAnswer, viewAfter}
 use Rattle.matching.specs.Matching.{matchedCoins}
@@ -41,22 +41,13 @@ pub record Total : Type 0 where
       → matchAnswer bs set xs ys coins (length out) ≡ Refused r → matchedAfter bs set xs ys coins out ≡ out
 
 -- ---- demand 2
--- the state that party i's call number k of a run takes, and its mail
-unfoldable pub stateBefore : Plan → List ℕ → List ℕ → ℕ → ℕ → List ℕ
-stateBefore plan xs coins zero i = fresh plan
-stateBefore plan xs coins (suc k) i = callOf i (round plan xs coins k) .state
-
-unfoldable pub mailBefore : Plan → List ℕ → List ℕ → ℕ → ℕ → List ℕ
-mailBefore plan xs coins zero i = []
-mailBefore plan xs coins (suc k) i = mailTo i (round plan xs coins k)
-
 pub record Right (bytes : List ℕ) (xs coins : List ℕ) : Type 0 where
   -- no call of a run is refused
   pub accepted :
       (k i : ℕ) → k ≤ multiplies (planOf bytes) + 2 → 1 ≤ i → i ≤ partyCount (planOf bytes)
       → (room : ℕ) → room ≡ 2 * writtenCount (planOf bytes) i k
       → callAnswer bytes i (bytesOf (ownInputs (planOf bytes) i xs)) (bytesOf (ownCoins (planOf bytes) i coins))
-      (bytesOf (stateBefore (planOf bytes) xs coins k i)) (bytesOf (mailBefore (planOf bytes) xs coins k i)) room
+      (bytesOf (stateIn (planOf bytes) xs coins i k)) (bytesOf (mailIn (planOf bytes) xs coins i k)) room
       ≡ Passed
   -- each party's results are the plan's own arithmetic
   pub correct : map (results (planOf bytes) xs coins) (parties (planOf bytes)) ≡ map (granted (planOf bytes) xs) (parties (planOf bytes))
@@ -65,7 +56,8 @@ pub record Right (bytes : List ℕ) (xs coins : List ℕ) : Type 0 where
 
 abbrev pub Demand2 : Type 0
 Demand2 =
-    (bytes xs coins : List ℕ) → planCheck bytes ≡ Passed → Inputs (planOf bytes) xs → Coins (planOf bytes) coins → Right bytes xs coins
+    (bytes xs coins : List ℕ) → allBelow 256 bytes ≡ true → planCheck bytes ≡ Passed
+    → Inputs (planOf bytes) xs → Coins (planOf bytes) coins → Right bytes xs coins
 
 -- ---- demand 3: the matching is a bijection of settings of coins that keeps the members' coins, and the coalition sees the same run
 pub record Private (plan : Plan) (ms xs ys : List ℕ) : Type 0 where
