@@ -31,7 +31,7 @@ use Rattle.plan.specs.Plans.{Plan, partyCount, dealerCount}
 use Rattle.plan.specs.File.{nAt, tAt, pAt, gateCountAt, outCountAt, between, gateAt, outAt, gateKept, outKept, layoutOk, planChecks, planCheck, planOf, headerOf, readPlan}
 use Rattle.plan.specs.Planned.{Planned, ReadAs}
 use Rattle.plan.proofs.Refusals.{passed-both, passed-need, passed-found}
-use Rattle.plan.proofs.Ways.{check-of-passed, check-of-refused, header-of-passed}
+use Rattle.plan.proofs.Ways.{check-of-passed, check-of-refused, header-of-passed, read-outcome}
 
 -- ---- the checks of a plan that passes
 pub record Passing (bs : List ℕ) : Type 0 where
@@ -116,6 +116,9 @@ planned-read bs r h a e =
 
 pub refused-read : (bs : List ℕ) (r : Reading) (q : Refusal) → ReadAs bs r → r ≡ reading.Refused q → planCheck bs ≡ Refused q
 refused-read bs r q a e = sym (check-of-refused bs r q (a .eq) e)
+
+-- what a caller of `read` goes on with
+pub ruleset planning = (planned-read, refused-read, read-outcome)
 
 -- ---- the plan by its contents
 module _ (bs : List ℕ) where

@@ -34,7 +34,8 @@ use Rattle.plan.specs.declared.Refusal.{Refusal}
 use Rattle.plan.specs.declared.Refusal.the-variants as refusal
 use Rattle.plan.specs.Refusals.{firstOf, andThen, need, unlessFound}
 use Rattle.plan.proofs.Refusals.{andThen-passed, andThen-refused, firstOf-append}
-use Rattle.plan.specs.File.{magic, sameBytes, between, gateAt, outAt, gateOk, outOk, gateKept, outKept, layoutOk, planChecks, planCheck, headerOf, readingOf, readPlan}
+use Rattle.plan.specs.File.{magic, sameBytes, between, gateAt, outAt, gateOk, outOk, gateKept, outKept, layoutOk, planChecks, planCheck, headerOf, readingOf, outcomeOf, readPlan}
+use Rattle.plan.specs.Planned.{ReadAs}
 
 -- ---- small tests
 pub between-under : (a b x : ℕ) → x < a → false ≡ between a b x
@@ -332,8 +333,26 @@ pub check-of-refused : (s : List ℕ) (r : Reading) (q : Refusal) → r ≡ read
 unfolding readPlan
 check-of-refused s r q e f = sym (of-refused (planCheck s) (headerOf s) q (sym e ∙ f))
 
+pub outcome-passed : (r : Reading) (h : Header) → r ≡ reading.Passed h → Passed ≡ outcomeOf r
+unfolding outcomeOf
+outcome-passed r h e = rw e
+
+pub outcome-refused : (r : Reading) (q : Refusal) → r ≡ reading.Refused q → Refused q ≡ outcomeOf r
+unfolding outcomeOf
+outcome-refused r q e = rw e
+
+of-outcome : (c : Checked) (h : Header) → outcomeOf (readingOf c h) ≡ c
+unfolding outcomeOf readingOf
+of-outcome Passed h = refl
+of-outcome (Refused r) h = refl
+
+-- a reading's outcome is the plan's check
+pub read-outcome : (s : List ℕ) (r : Reading) (c : Checked) → ReadAs s r → c ≡ outcomeOf r → c ≡ planCheck s
+unfolding readPlan
+read-outcome s r c a e = e ∙ ap outcomeOf (a .eq) ∙ of-outcome (planCheck s) (headerOf s)
+
 pub header-of-passed : (s : List ℕ) (h : Header) → readPlan s ≡ reading.Passed h → h ≡ headerOf s
 unfolding readPlan
 header-of-passed s h e = of-passed (planCheck s) (headerOf s) h e .1
 
-pub ruleset reads = (needs, reading-passed, reading-refused, reading-no-field, reading-low-prime, reading-on, read-contents, read-further, check-of-passed, check-of-refused)
+pub ruleset reads = (needs, reading-passed, reading-refused, reading-no-field, reading-low-prime, reading-on, read-contents, read-further, outcome-passed, outcome-refused, read-outcome)

@@ -139,3 +139,8 @@ readingOf (Refused r) h = reading.Refused r
 -- what reading a plan answers
 unfoldable pub readPlan : List ℕ → Reading
 readPlan bs = readingOf (planCheck bs) (headerOf bs)
+
+-- what a reading answers as a check
+unfoldable pub outcomeOf : Reading → Checked
+outcomeOf (reading.Passed h) = Passed
+outcomeOf (reading.Refused r) = Refused r
