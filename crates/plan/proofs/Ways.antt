@@ -1,10 +1,10 @@
 -- What each way through the reader says of its definition.
---     rules, seeking, beginning, laying, contents, body     what closes the needs of the functions that check a plan
+--     rules, seeking, beginning, laying, contents, body, reads     what closes the needs of the functions that read a plan
 -- Assumes nothing.
 use mathlib.Core.Path.{_≡_, refl, sym, ap, _∙_}
 use mathlib.Core.Bool.{Bool, true, false, cond, _&&_}
 use mathlib.Core.List.{List, [], _∷_}
-use Prim.Native.Nat.{ℕ, suc, _+_, _-_, _*_, _<_, _≤_}
+use Prim.Native.Nat.{ℕ, _+_, _-_, _*_, _<_, _≤_}
 use native.Mathlib.Omega.{arith}
 use borrow.Author.Needs.{needs}
 use borrow.Author.Tests.{not-true, not-false, lt-ltb, le-ltb, le-leb, lt-leb, eq-eqb, ne-eqb}
@@ -12,7 +12,7 @@ use mir.Syntax.{w8}
 use mir.Val.{Fits}
 use lib.Dec.{eqb, leb, ltb}
 use lib.ListN.{length, getD, take, drop, take-append-drop}
-use Rattle.numbers.specs.Tables.{firstFrom, firstFailing}
+use Rattle.numbers.specs.Tables.{firstFailing}
 use Rattle.numbers.specs.Bytes.{wordAt}
 use Rattle.numbers.specs.declared.Found.{Found}
 use Rattle.numbers.specs.declared.Found.the-variants.{At, Nothing}

@@ -3,7 +3,7 @@
 -- Assumes nothing.
 use Prim.Native.Nat.{ℕ, _/_, _%_}
 use mathlib.Core.Path.{_≡_, refl}
-use mathlib.Core.Bool.{Bool, true, false}
+use mathlib.Core.Bool.{true, false}
 use mathlib.Core.List.{List, [], _∷_, _++_, map, flatMap}
 use Rattle.numbers.specs.Tables.{tab, firstFrom, firstFailing, countWhere}
 use Rattle.numbers.specs.Bytes.{wordAt}
@@ -12,7 +12,7 @@ use Rattle.plan.specs.declared.Checked.{Checked}
 use Rattle.plan.specs.declared.Checked.the-variants.{Passed, Refused}
 use Rattle.plan.specs.declared.Refusal.the-variants as refusal
 use Rattle.plan.specs.Refusals.{firstOf, andThen, need, unlessFound}
-use Rattle.plan.specs.Plans.{partyCount, dealerCount, isInput, isInputOf, isMultiply, deals, dealersOf, dealings, wiresFrom, wiresWhere, multiplies, multiplyWire, outWiresOf, outWires, inputCount, ownInputCount, ownCoinCount, coinCount, ownOutCount, mailCount, writtenCount, sentCount}
+use Rattle.plan.specs.Plans.{partyCount, dealerCount, isInput, isInputOf, isMultiply, dealersOf, dealings, wiresFrom, wiresWhere, multiplies, multiplyWire, outWiresOf, outWires, inputCount, ownInputCount, coinCount, ownOutCount, mailCount, writtenCount, sentCount}
 use Rattle.plan.specs.File.{magic, sameBytes, between, gateOf, gateAt, outAt, gateOk, outOk, gateKept, outKept, layoutOk, planChecks, planCheck, planOf}
 use Rattle.plan.specs.Coalitions.{inSet, membersFrom, members, setOk}
 
