@@ -9,3 +9,4 @@ pub mod Factors
 pub mod Rows
 pub mod Openings
 pub mod OnOne
+pub mod Worked
