@@ -3,3 +3,5 @@ pub mod Interpolation
 pub mod Roots
 pub mod Deltas
 pub mod Shares
+pub mod Coding
+pub mod Weighing
