@@ -1,5 +1,6 @@
 -- What each way through the code of a call's learning says of its definition.
---     working      a gate worked on the shares
+--     working              a gate worked on the shares
+--     Worked, going-on     the gates up to the next multiply
 -- Assumes nothing.
 use mathlib.Core.Path.{_≡_, refl, sym, ap, _∙_}
 use mathlib.Core.Bool.{Bool, true, false, cond, _&&_}
@@ -10,8 +11,8 @@ use native.Mathlib.Omega.{arith}
 use borrow.Author.Needs.{needs}
 use borrow.Author.Tests.{ltb-true, ltb-false, eqb-true, eqb-false}
 use lib.Dec.{eqb, leb, ltb}
-use lib.ListN.{length, getD, take, drop, set, length-set}
-use lib.Seq.{set-getD, getD-set-same, getD-set-other}
+use lib.ListN.{length, getD, take, drop, set, length-set, drop-of-length-le}
+use lib.Seq.{drop-cons, set-getD, getD-set-same, getD-set-other}
 use Rattle.numbers.specs.Tables.{tab}
 use Rattle.numbers.specs.Bytes.{numbers, stored, allBelow}
 use Rattle.numbers.proofs.Bytes.{numbers-stored}
@@ -21,9 +22,12 @@ use Rattle.sharing.specs.Ready.{Ready}
 use Rattle.sharing.proofs.Coding.{entry-below}
 use Rattle.plan.specs.declared.Gate.{Gate}
 use Rattle.plan.specs.declared.Gate.the-variants.{Input, Add, Scale, Offset, Multiply}
-use Rattle.plan.specs.File.{gateOk}
+use Rattle.plan.specs.declared.Header.{Header}
+use Rattle.plan.specs.Plans.{Plan, isMultiply}
+use Rattle.plan.specs.File.{gateAt, gateOk, planOf}
 use Rattle.party.specs.Lent.{Elements, Holds}
-use Rattle.party.specs.Messages.{workGate}
+use Rattle.party.specs.Planned.{Planned}
+use Rattle.party.specs.Messages.{workGate, workFrom}
 
 -- ---- lists of elements
 pub read-below : (p : ℕ) (s : List ℕ) (i x : ℕ) → Ready p → allBelow p (numbers s) ≡ true → x ≡ getD (numbers s) i 0 → x < p
@@ -82,3 +86,57 @@ module _ (p g : ℕ) (gate : Gate) (xs : List ℕ) (r : ℕ) where
   work-offset a c x e f q = rw (e, q, f)
 
 pub ruleset working = (needs, read-below, scale-constant, offset-constant, work-input, work-multiply, work-add, work-scale, work-offset, written-holds)
+
+-- ---- the gates up to the next multiply
+pub multiply-yes : (gate : Gate) (a b : ℕ) → gate ≡ Multiply a b → true ≡ isMultiply gate
+unfolding isMultiply
+multiply-yes gate a b e = rw e
+
+pub multiply-not-input : (gate : Gate) (s : ℕ) → gate ≡ Input s → false ≡ isMultiply gate
+unfolding isMultiply
+multiply-not-input gate s e = rw e
+
+pub multiply-not-add : (gate : Gate) (a b : ℕ) → gate ≡ Add a b → false ≡ isMultiply gate
+unfolding isMultiply
+multiply-not-add gate a b e = rw e
+
+pub multiply-not-scale : (gate : Gate) (a c : ℕ) → gate ≡ Scale a c → false ≡ isMultiply gate
+unfolding isMultiply
+multiply-not-scale gate a c e = rw e
+
+pub multiply-not-offset : (gate : Gate) (a c : ℕ) → gate ≡ Offset a c → false ≡ isMultiply gate
+unfolding isMultiply
+multiply-not-offset gate a c e = rw e
+
+-- the gates of a plan from g on
+gates-from : (bs : List ℕ) (h : Header) (g : ℕ) → Planned bs h → g < h .gates → drop g (planOf bs .gates) ≡ gateAt bs g ∷ drop (suc g) (planOf bs .gates)
+gates-from bs h g pl l = rw (drop-cons (planOf bs .gates) g (Input 0) (omega (arith, pl .gate-count)), pl .gate-is g l)
+
+pub gate-kept : (bs : List ℕ) (h : Header) (g : ℕ) (gate : Gate) → Planned bs h → g < h .gates → gate ≡ gateAt bs g → gateOk (h .n) (h .field .p) g gate ≡ true
+gate-kept bs h g gate pl l e = rw e (pl .gate-ok g l)
+
+-- the invariant at gate g: the shares are s, and were s₀; what is left to work gives what there is to work
+pub record Worked (bs : List ℕ) (p from : ℕ) (s₀ s : List ℕ) (g : ℕ) : Type 0 where
+  pub rest : workFrom p g (drop g (planOf bs .gates)) (numbers s) ≡ workFrom p from (drop from (planOf bs .gates)) (numbers s₀)
+  pub below : allBelow p (numbers s) ≡ true
+  pub long : length s ≡ length s₀
+
+module _ (bs : List ℕ) (h : Header) (from : ℕ) (s₀ : List ℕ) where
+  pub work-none : allBelow (h .field .p) (numbers s₀) ≡ true → Worked bs (h .field .p) from s₀ s₀ from
+  work-none b = record { rest = refl; below = b; long = refl }
+
+  module _ (s : List ℕ) (g : ℕ) (w : Worked bs (h .field .p) from s₀ s g) (pl : Planned bs h) where
+    pub work-end : h .gates ≤ g → Holds (h .field .p) (workFrom (h .field .p) from (drop from (planOf bs .gates)) (numbers s₀)) s
+    unfolding workFrom
+    work-end l = record { eq = rw (drop-of-length-le (planOf bs .gates) {i = g} (omega (arith, pl .gate-count))) at (w .rest); below = w .below }
+
+    module _ (gate : Gate) (t : Bool) (l : g < h .gates) (e : gate ≡ gateAt bs g) (m : t ≡ isMultiply gate) where
+      pub work-stop : t ≡ true → Holds (h .field .p) (workFrom (h .field .p) from (drop from (planOf bs .gates)) (numbers s₀)) s
+      unfolding workFrom
+      work-stop y = record { eq = rw (gates-from bs h g pl l, ← e, ← m, y) at (w .rest); below = w .below }
+
+      pub work-next : (d : List ℕ) → t ≡ false → Holds (h .field .p) (workGate (h .field .p) g gate (numbers s)) d → length d ≡ length s → Worked bs (h .field .p) from s₀ d (g + 1)
+      unfolding workFrom
+      work-next d n k j = record { rest = rw (add-one, k .eq) (rw (gates-from bs h g pl l, ← e, ← m, n) at (w .rest)); below = k .below; long = j ∙ w .long }
+
+pub ruleset going-on = (needs, multiply-yes, multiply-not-input, multiply-not-add, multiply-not-scale, multiply-not-offset, gate-kept, work-none, work-end, work-stop, work-next)
