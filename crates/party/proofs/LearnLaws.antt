@@ -1,10 +1,12 @@
 -- What each way through the code of a call's learning says of its definition.
 --     working              a gate worked on the shares
 --     Worked, going-on     the gates up to the next multiply
+--     Learning, learning-own       the wires of one party's inputs
+--     Gathered, gathering          those of all parties' inputs
 -- Assumes nothing.
 use mathlib.Core.Path.{_≡_, refl, sym, ap, _∙_}
 use mathlib.Core.Bool.{Bool, true, false, cond, _&&_}
-use mathlib.Core.List.{List, [], _∷_, _++_}
+use mathlib.Core.List.{List, [], _∷_, _++_, flatMap}
 use Prim.Native.Nat.{ℕ, zero, suc, _+_, _-_, _*_, _/_, _<_, _≤_}
 use native.Mathlib.Numerals.{add-one}
 use native.Mathlib.Omega.{arith}
@@ -12,9 +14,10 @@ use borrow.Author.Needs.{needs}
 use borrow.Author.Tests.{ltb-true, ltb-false, eqb-true, eqb-false}
 use lib.Dec.{eqb, leb, ltb}
 use lib.ListN.{length, getD, take, drop, set, length-set, drop-of-length-le}
-use lib.Seq.{drop-cons, set-getD, getD-set-same, getD-set-other}
-use Rattle.numbers.specs.Tables.{tab}
+use lib.Seq.{drop-cons, drop-drop, getD-drop, set-getD, getD-set-same, getD-set-other}
+use Rattle.numbers.specs.Tables.{tab, countWhere}
 use Rattle.numbers.specs.Bytes.{numbers, stored, allBelow}
+use Rattle.numbers.proofs.Tables.{length-tab, drop-tab, getD-tab}
 use Rattle.numbers.proofs.Bytes.{numbers-stored}
 use Rattle.numbers.proofs.Below.{allBelow-at, at-allBelow}
 use Rattle.field.specs.Mod.{add, mul}
@@ -23,11 +26,11 @@ use Rattle.sharing.proofs.Coding.{entry-below}
 use Rattle.plan.specs.declared.Gate.{Gate}
 use Rattle.plan.specs.declared.Gate.the-variants.{Input, Add, Scale, Offset, Multiply}
 use Rattle.plan.specs.declared.Header.{Header}
-use Rattle.plan.specs.Plans.{Plan, isMultiply}
+use Rattle.plan.specs.Plans.{Plan, partyCount, parties, isInputOf, isMultiply, wiresFrom, wiresWhere, inputWires, ownInputCount}
 use Rattle.plan.specs.File.{gateAt, gateOk, planOf}
 use Rattle.party.specs.Lent.{Elements, Holds}
 use Rattle.party.specs.Planned.{Planned}
-use Rattle.party.specs.Messages.{workGate, workFrom}
+use Rattle.party.specs.Messages.{workGate, workFrom, setAll, wiresByParty}
 
 -- ---- lists of elements
 pub read-below : (p : ℕ) (s : List ℕ) (i x : ℕ) → Ready p → allBelow p (numbers s) ≡ true → x ≡ getD (numbers s) i 0 → x < p
@@ -140,3 +143,168 @@ module _ (bs : List ℕ) (h : Header) (from : ℕ) (s₀ : List ℕ) where
       work-next d n k j = record { rest = rw (add-one, k .eq) (rw (gates-from bs h g pl l, ← e, ← m, n) at (w .rest)); below = k .below; long = j ∙ w .long }
 
 pub ruleset going-on = (needs, multiply-yes, multiply-not-input, multiply-not-add, multiply-not-scale, multiply-not-offset, gate-kept, work-none, work-end, work-stop, work-next)
+
+-- ---- the wires of one party's inputs
+pub input-is : (i : ℕ) (gate : Gate) (s : ℕ) → gate ≡ Input s → eqb i s ≡ isInputOf i gate
+unfolding isInputOf
+input-is i gate s e = rw e
+
+pub input-not-add : (i : ℕ) (gate : Gate) (a b : ℕ) → gate ≡ Add a b → false ≡ isInputOf i gate
+unfolding isInputOf
+input-not-add i gate a b e = rw e
+
+pub input-not-scale : (i : ℕ) (gate : Gate) (a c : ℕ) → gate ≡ Scale a c → false ≡ isInputOf i gate
+unfolding isInputOf
+input-not-scale i gate a c e = rw e
+
+pub input-not-offset : (i : ℕ) (gate : Gate) (a c : ℕ) → gate ≡ Offset a c → false ≡ isInputOf i gate
+unfolding isInputOf
+input-not-offset i gate a c e = rw e
+
+pub input-not-multiply : (i : ℕ) (gate : Gate) (a b : ℕ) → gate ≡ Multiply a b → false ≡ isInputOf i gate
+unfolding isInputOf
+input-not-multiply i gate a b e = rw e
+
+-- one gate
+module _ (p i g : ℕ) (gate : Gate) (mail s : List ℕ) (at : ℕ) (t : Bool) (e : t ≡ isInputOf i gate) (r : Ready p) (b : allBelow p (numbers s) ≡ true) where
+  pub input-learnt : (x : ℕ) (d : List ℕ) → t ≡ true → allBelow p (numbers mail) ≡ true → x ≡ getD (numbers mail) at 0 → d ≡ stored s g x
+      → Holds p (cond (isInputOf i gate) (set (numbers s) g (getD (numbers mail) at 0)) (numbers s)) d
+  input-learnt x d y m q w = written-holds p s d (cond (isInputOf i gate) (set (numbers s) g (getD (numbers mail) at 0)) (numbers s)) g x (r .small) b (read-below p mail at x r m q) w (rw (← e, y, q))
+
+  pub input-passed : t ≡ false → Holds p (cond (isInputOf i gate) (set (numbers s) g (getD (numbers mail) at 0)) (numbers s)) s
+  input-passed n = record { eq = rw (← e, n); below = b }
+
+pub one-learnt : (i at : ℕ) (gate : Gate) (t : Bool) → t ≡ isInputOf i gate → t ≡ true → at + 1 ≡ at + cond (isInputOf i gate) 1 0
+one-learnt i at gate t e y = rw (← e, y)
+
+pub none-learnt : (i at : ℕ) (gate : Gate) (t : Bool) → t ≡ isInputOf i gate → t ≡ false → at ≡ at + cond (isInputOf i gate) 1 0
+none-learnt i at gate t e n = rw (← e, n) (omega arith)
+
+pub ruleset learning-one = (needs, input-is, input-not-add, input-not-scale, input-not-offset, input-not-multiply, read-below, input-learnt, input-passed, one-learnt, none-learnt)
+
+set-cons : (xs ws vs : List ℕ) (g : ℕ) → setAll xs (g ∷ ws) vs ≡ setAll (set xs g (getD vs 0 0)) ws (drop 1 vs)
+unfolding setAll
+set-cons xs ws vs g = refl
+
+first-of : (vs : List ℕ) (at : ℕ) → getD (drop at vs) 0 0 ≡ getD vs at 0
+first-of vs at = let z : at + 0 ≡ at = omega arith in getD-drop at vs 0 0 ∙ ap (λ (n : ℕ). getD vs n 0) z
+
+set-step : (t : Bool) (xs ws vs : List ℕ) (g at : ℕ) → setAll (cond t (set xs g (getD vs at 0)) xs) ws (drop (at + cond t 1 0) vs) ≡ setAll xs (cond t (g ∷ ws) ws) (drop at vs)
+set-step true xs ws vs g at = sym (set-cons xs ws (drop at vs) g ∙ rw (first-of vs at, drop-drop 1 at vs))
+set-step false xs ws vs g at = let z : at + 0 ≡ at = omega arith in ap (λ (n : ℕ). setAll xs ws (drop n vs)) z
+
+count-step : (t : Bool) (at n : ℕ) → at + cond t 1 0 + n ≡ at + cond t (suc n) n
+count-step true at n = omega arith
+count-step false at n = omega arith
+
+-- the invariant at gate g, when number `at` of the mail is the next
+pub record Learning (bs mail : List ℕ) (p i from : ℕ) (s₀ s : List ℕ) (at g : ℕ) : Type 0 where
+  pub rest : setAll (numbers s) (wiresFrom (isInputOf i) g (drop g (planOf bs .gates))) (drop at (numbers mail)) ≡ setAll (numbers s₀) (inputWires (planOf bs) i) (drop from (numbers mail))
+  pub next : at + countWhere (isInputOf i) (drop g (planOf bs .gates)) ≡ from + ownInputCount (planOf bs) i
+  pub few : at ≤ from + g
+  pub within : g ≤ 1024
+  pub below : allBelow p (numbers s) ≡ true
+  pub long : length s ≡ length s₀
+
+module _ (bs mail : List ℕ) (h : Header) (i from : ℕ) (s₀ : List ℕ) where
+  pub learn-none : allBelow (h .field .p) (numbers s₀) ≡ true → Learning bs mail (h .field .p) i from s₀ s₀ from 0
+  unfolding inputWires wiresWhere ownInputCount
+  learn-none b = record { rest = refl; next = refl; few = omega arith; within = omega arith; below = b; long = refl }
+
+  module _ (s : List ℕ) (at g : ℕ) (w : Learning bs mail (h .field .p) i from s₀ s at g) (pl : Planned bs h) where
+    pub learn-next : (gate : Gate) (d : List ℕ) (r : ℕ) → g < h .gates → gate ≡ gateAt bs g
+        → Holds (h .field .p) (cond (isInputOf i gate) (set (numbers s) g (getD (numbers mail) at 0)) (numbers s)) d
+        → r ≡ at + cond (isInputOf i gate) 1 0 → r ≤ at + 1 → length d ≡ length s → Learning bs mail (h .field .p) i from s₀ d r (g + 1)
+    unfolding wiresFrom countWhere
+    learn-next gate d r l e k n m j = record {
+      rest = rw (add-one, k .eq, n) (set-step (isInputOf i gate) (numbers s) (wiresFrom (isInputOf i) (suc g) (drop (suc g) (planOf bs .gates))) (numbers mail) g at ∙ rw (gates-from bs h g pl l, ← e) at (w .rest));
+      next = rw (add-one, n) (count-step (isInputOf i gate) at (countWhere (isInputOf i) (drop (suc g) (planOf bs .gates))) ∙ rw (gates-from bs h g pl l, ← e) at (w .next));
+      few = omega (arith, w .few);
+      within = omega (arith, pl .gates-most);
+      below = k .below;
+      long = j ∙ w .long;
+    }
+
+    pub place-small : from < 60000 → at < 65536
+    place-small l = omega (arith, w .few, w .within)
+
+    pub learn-end : h .gates ≤ g → Holds (h .field .p) (setAll (numbers s₀) (inputWires (planOf bs) i) (drop from (numbers mail))) s
+    unfolding wiresFrom setAll
+    learn-end l = record { eq = rw (drop-of-length-le (planOf bs .gates) {i = g} (omega (arith, pl .gate-count))) at (w .rest); below = w .below }
+
+    pub learn-count : h .gates ≤ g → at ≡ from + ownInputCount (planOf bs) i
+    unfolding countWhere
+    learn-count l = omega (arith, rw (drop-of-length-le (planOf bs .gates) {i = g} (omega (arith, pl .gate-count))) at (w .next))
+
+pub ruleset learning-own = (needs, learn-none, learn-next, place-small, learn-end, learn-count)
+
+-- ---- the wires of all parties' inputs
+-- wires set in two parts
+pub setAll-append : (xs ws us vs : List ℕ) → setAll xs (ws ++ us) vs ≡ setAll (setAll xs ws vs) us (drop (length ws) vs)
+unfolding setAll
+setAll-append xs [] us vs = refl
+setAll-append xs (w ∷ ws) us vs =
+    let e : 1 + length ws ≡ suc (length ws) = omega arith in
+    setAll-append (set xs w (getD vs 0 0)) ws us (drop 1 vs)
+    ∙ ap (setAll (setAll (set xs w (getD vs 0 0)) ws (drop 1 vs)) us) (drop-drop (length ws) 1 vs ∙ ap (λ (n : ℕ). drop n vs) e)
+
+by-test : (t : Bool) (g : ℕ) (ws : List ℕ) → length (cond t (g ∷ ws) ws) ≡ cond t (suc (length ws)) (length ws)
+by-test true g ws = refl
+by-test false g ws = refl
+
+pub length-wiresFrom : (f : Gate → Bool) (g : ℕ) (gates : List Gate) → length (wiresFrom f g gates) ≡ countWhere f gates
+unfolding wiresFrom countWhere
+length-wiresFrom f g [] = refl
+length-wiresFrom f g (x ∷ xs) = rw (by-test, length-wiresFrom f (suc g) xs)
+
+pub length-inputWires : (plan : Plan) (i : ℕ) → length (inputWires plan i) ≡ ownInputCount plan i
+unfolding inputWires wiresWhere ownInputCount
+length-inputWires plan i = length-wiresFrom (isInputOf i) 0 (plan .gates)
+
+parties-are : (bs : List ℕ) (h : Header) → Planned bs h → parties (planOf bs) ≡ tab suc (h .n)
+unfolding parties partyCount
+parties-are bs h pl = rw (pl .points-are, length-tab)
+
+-- the parties from the (i + 1)-th on
+parties-from : (bs : List ℕ) (h : Header) (i : ℕ) → Planned bs h → i < h .n → drop i (parties (planOf bs)) ≡ (i + 1) ∷ drop (i + 1) (parties (planOf bs))
+parties-from bs h i pl l = rw (parties-are bs h pl, drop-cons (tab suc (h .n)) i 0 (rw length-tab l), getD-tab suc (h .n) i 0 l, add-one)
+
+-- the invariant after the first i parties, when number `at` of the mail is the next
+pub record Gathered (bs mail : List ℕ) (p : ℕ) (s₀ s : List ℕ) (at i : ℕ) : Type 0 where
+  pub rest : setAll (numbers s) (flatMap (inputWires (planOf bs)) (drop i (parties (planOf bs)))) (drop at (numbers mail)) ≡ setAll (numbers s₀) (wiresByParty (planOf bs)) (numbers mail)
+  pub few : at ≤ 1024 * i
+  pub within : i ≤ 15
+  pub below : allBelow p (numbers s) ≡ true
+  pub long : length s ≡ length s₀
+
+module _ (bs mail : List ℕ) (h : Header) (s₀ : List ℕ) where
+  pub gather-none : allBelow (h .field .p) (numbers s₀) ≡ true → Gathered bs mail (h .field .p) s₀ s₀ 0 0
+  unfolding wiresByParty
+  gather-none b = record { rest = refl; few = omega arith; within = omega arith; below = b; long = refl }
+
+  module _ (s : List ℕ) (at i : ℕ) (w : Gathered bs mail (h .field .p) s₀ s at i) (pl : Planned bs h) where
+    joined : (l : i < h .n) → setAll (setAll (numbers s) (inputWires (planOf bs) (i + 1)) (drop at (numbers mail))) (flatMap (inputWires (planOf bs)) (drop (i + 1) (parties (planOf bs)))) (drop (at + ownInputCount (planOf bs) (i + 1)) (numbers mail))
+        ≡ setAll (numbers s₀) (wiresByParty (planOf bs)) (numbers mail)
+    unfolding flatMap
+    joined l =
+        rw (← length-inputWires (planOf bs) (i + 1), ← drop-drop, ← setAll-append (numbers s) (inputWires (planOf bs) (i + 1)) (flatMap (inputWires (planOf bs)) (drop (i + 1) (parties (planOf bs)))) (drop at (numbers mail)))
+        (rw (parties-from bs h i pl l) at (w .rest))
+
+    pub gather-next : (d : List ℕ) (r : ℕ) → i < h .n → Holds (h .field .p) (setAll (numbers s) (inputWires (planOf bs) (i + 1)) (drop at (numbers mail))) d
+        → r ≡ at + ownInputCount (planOf bs) (i + 1) → r ≤ at + 1024 → length d ≡ length s → Gathered bs mail (h .field .p) s₀ d r (i + 1)
+    gather-next d r l k n m j = record {
+      rest = rw (k .eq, n) (joined l);
+      few = omega (arith, w .few);
+      within = omega (arith, pl .n-most);
+      below = k .below;
+      long = j ∙ w .long;
+    }
+
+    pub begin-small : at < 60000
+    begin-small = omega (arith, w .few, w .within)
+
+    pub gather-end : h .n ≤ i → Holds (h .field .p) (setAll (numbers s₀) (wiresByParty (planOf bs)) (numbers mail)) s
+    unfolding setAll flatMap
+    gather-end l = record { eq = rw (drop-of-length-le (parties (planOf bs)) {i = i} (rw (parties-are bs h pl, length-tab) l)) at (w .rest); below = w .below }
+
+pub ruleset gathering = (needs, gather-none, gather-next, begin-small, gather-end)

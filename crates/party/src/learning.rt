@@ -2,16 +2,16 @@
 use plan::Gate;
 use plan::Header;
 ghost use mathlib.Core.Path.{_≡_};
-ghost use mathlib.Core.Bool.{true};
-ghost use Prim.Native.Nat.{_<_, _*_};
-ghost use lib.ListN.{length, drop, set};
+ghost use mathlib.Core.Bool.{true, cond};
+ghost use Prim.Native.Nat.{_<_, _≤_, _+_};
+ghost use lib.ListN.{drop, getD, set};
 ghost use Rattle.numbers.specs.Bytes.{numbers, allBelow};
 ghost use Rattle.sharing.specs.Ready.{Ready};
-ghost use Rattle.plan.specs.Plans.{isMultiply};
+ghost use Rattle.plan.specs.Plans.{isInputOf, isMultiply, inputWires, ownInputCount};
 ghost use Rattle.plan.specs.File.{gateOk, planOf};
-ghost use Rattle.party.specs.Lent.{Elements, Holds};
+ghost use Rattle.party.specs.Lent.{Holds};
 ghost use Rattle.party.specs.Planned.{Planned};
-ghost use Rattle.party.specs.Messages.{workGate, workFrom};
+ghost use Rattle.party.specs.Messages.{workGate, workFrom, setAll, wiresByParty};
 
 // The share of wire g once gate g is worked. Those of inputs and multiplies come from mail, and stay as they are.
 fn gate_share(h: Header, g: usize, gate: Gate, shares: &[u8]) -> u64
@@ -67,5 +67,73 @@ fn work_from(plan: &[u8], h: Header, from: usize, shares: &mut [u8])
         }
         work_gate(h, g, gate, shares);
         g += 1;
+    }
+}
+
+fn is_input_of(i: usize, gate: Gate) -> bool
+    ensures { λ r. ⌜ r ≡ isInputOf i gate ⌝ }
+{
+    match gate {
+        Gate::Input(s) => i == s,
+        Gate::Add(_, _) => false,
+        Gate::Scale(_, _) => false,
+        Gate::Offset(_, _) => false,
+        Gate::Multiply(_, _) => false,
+    }
+}
+
+// Learns wire g from number `at` of the mail where gate g is an input of party i. Answers the place of the next number.
+fn learn_input(h: Header, i: usize, g: usize, gate: Gate, mail: &[u8], at: usize, shares: &mut [u8]) -> usize
+    requires { ⌜ Ready (h .field .p) ⌝ }
+    requires { ⌜ at < 65536 ⌝ }
+    requires { ⌜ allBelow (h .field .p) (numbers (now mail)) ≡ true ⌝ }
+    requires { ⌜ allBelow (h .field .p) (numbers (now shares)) ≡ true ⌝ }
+    ensures { λ r. ⌜ record {
+        shares : Holds (h .field .p) (cond (isInputOf i gate) (set (numbers (now (shares .entry))) g (getD (numbers (now (mail .entry))) at 0)) (numbers (now (shares .entry)))) (now (shares .exit));
+        next : r ≡ at + cond (isInputOf i gate) 1 0;
+        most : r ≤ at + 1;
+      } ⌝ }
+{
+    if is_input_of(i, gate) {
+        numbers::write(shares, g, numbers::read(mail, at));
+        return at + 1;
+    }
+    at
+}
+
+// Learns the wires of party i's inputs from the mail, whose number `from` is the first of them. Answers the place after the last.
+fn learn_inputs_of(plan: &[u8], h: Header, i: usize, mail: &[u8], from: usize, shares: &mut [u8]) -> usize
+    requires { ⌜ Planned (now plan) h ⌝ }
+    requires { ⌜ from < 60000 ⌝ }
+    requires { ⌜ allBelow (h .field .p) (numbers (now mail)) ≡ true ⌝ }
+    requires { ⌜ allBelow (h .field .p) (numbers (now shares)) ≡ true ⌝ }
+    ensures { λ r. ⌜ record {
+        shares : Holds (h .field .p) (setAll (numbers (now (shares .entry))) (inputWires (planOf (now (plan .entry))) i) (drop from (numbers (now (mail .entry))))) (now (shares .exit));
+        next : r ≡ from + ownInputCount (planOf (now (plan .entry))) i;
+        most : r ≤ from + 1024;
+      } ⌝ }
+{
+    let mut at = from;
+    let mut g = 0;
+    while g < h.gates {
+        let gate = plan::gate_at(plan, g);
+        at = learn_input(h, i, g, gate, mail, at, shares);
+        g += 1;
+    }
+    at
+}
+
+// Learns all input wires from round 0's mail, in its order: by party, then by gate.
+fn learn_inputs(plan: &[u8], h: Header, mail: &[u8], shares: &mut [u8])
+    requires { ⌜ Planned (now plan) h ⌝ }
+    requires { ⌜ allBelow (h .field .p) (numbers (now mail)) ≡ true ⌝ }
+    requires { ⌜ allBelow (h .field .p) (numbers (now shares)) ≡ true ⌝ }
+    ensures { λ _. ⌜ Holds (h .field .p) (setAll (numbers (now (shares .entry))) (wiresByParty (planOf (now (plan .entry)))) (numbers (now (mail .entry)))) (now (shares .exit)) ⌝ }
+{
+    let mut at = 0;
+    let mut i = 0;
+    while i < h.n {
+        at = learn_inputs_of(plan, h, i + 1, mail, at, shares);
+        i += 1;
     }
 }
