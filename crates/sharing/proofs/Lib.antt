@@ -5,3 +5,6 @@ pub mod Deltas
 pub mod Shares
 pub mod Coding
 pub mod Weighing
+pub mod Factors
+pub mod Rows
+pub mod Openings
