@@ -28,9 +28,39 @@ use Rattle.plan.specs.declared.Gate.the-variants.{Input, Add, Scale, Offset, Mu
 use Rattle.plan.specs.declared.Header.{Header}
 use Rattle.plan.specs.Plans.{Plan, partyCount, parties, isInputOf, isMultiply, wiresFrom, wiresWhere, inputWires, ownInputCount}
 use Rattle.plan.specs.File.{gateAt, gateOk, planOf}
+use Rattle.plan.specs.Planned.{Planned}
+use Rattle.plan.proofs.Planned.{plan-p, plan-t, plan-n, plan-points, plan-gates, plan-gate}
+use Rattle.plan.proofs.Valid.{Valid, valid}
 use Rattle.party.specs.Lent.{Elements, Holds}
-use Rattle.party.specs.Planned.{Planned}
 use Rattle.party.specs.Messages.{workGate, workFrom, setAll, wiresByParty}
+
+-- ---- a plan that passes
+module _ (bs : List ℕ) (h : Header) (k : Planned bs h) where
+  pub planned-ready : Ready (h .field .p)
+  planned-ready = record { prime = rw (plan-p k) at (valid bs (k .passes) .prime); small = k .p-high }
+
+  pub gate-kept : (g : ℕ) (gate : Gate) → g < h .gates → gate ≡ gateAt bs g → gateOk (h .n) (h .field .p) g gate ≡ true
+  gate-kept g gate l e =
+      let m : g < length (planOf bs .gates) = rw (plan-gates k) l in
+      rw (e, ← plan-gate k g l, ← plan-n k, ← plan-p k) (valid bs (k .passes) .gates g m)
+
+  -- its gates from g on
+  gates-from : (g : ℕ) → g < h .gates → drop g (planOf bs .gates) ≡ gateAt bs g ∷ drop (suc g) (planOf bs .gates)
+  gates-from g l = rw (drop-cons (planOf bs .gates) g (Input 0) (rw (plan-gates k) l), plan-gate k g l)
+
+  gates-past : (g : ℕ) → h .gates ≤ g → drop g (planOf bs .gates) ≡ []
+  gates-past g l = drop-of-length-le (planOf bs .gates) {i = g} (rw (plan-gates k) l)
+
+  parties-are : parties (planOf bs) ≡ tab suc (h .n)
+  unfolding parties
+  parties-are = rw (plan-n k)
+
+  -- its parties from the (i + 1)-th on
+  parties-from : (i : ℕ) → i < h .n → drop i (parties (planOf bs)) ≡ (i + 1) ∷ drop (i + 1) (parties (planOf bs))
+  parties-from i l = rw (parties-are, drop-cons (tab suc (h .n)) i 0 (rw length-tab l), getD-tab suc (h .n) i 0 l, add-one)
+
+  parties-past : (i : ℕ) → h .n ≤ i → drop i (parties (planOf bs)) ≡ []
+  parties-past i l = drop-of-length-le (parties (planOf bs)) {i = i} (rw (parties-are, length-tab) l)
 
 -- ---- lists of elements
 pub read-below : (p : ℕ) (s : List ℕ) (i x : ℕ) → Ready p → allBelow p (numbers s) ≡ true → x ≡ getD (numbers s) i 0 → x < p
@@ -111,13 +141,6 @@ pub multiply-not-offset : (gate : Gate) (a c : ℕ) → gate ≡ Offset a c → 
 unfolding isMultiply
 multiply-not-offset gate a c e = rw e
 
--- the gates of a plan from g on
-gates-from : (bs : List ℕ) (h : Header) (g : ℕ) → Planned bs h → g < h .gates → drop g (planOf bs .gates) ≡ gateAt bs g ∷ drop (suc g) (planOf bs .gates)
-gates-from bs h g pl l = rw (drop-cons (planOf bs .gates) g (Input 0) (omega (arith, pl .gate-count)), pl .gate-is g l)
-
-pub gate-kept : (bs : List ℕ) (h : Header) (g : ℕ) (gate : Gate) → Planned bs h → g < h .gates → gate ≡ gateAt bs g → gateOk (h .n) (h .field .p) g gate ≡ true
-gate-kept bs h g gate pl l e = rw e (pl .gate-ok g l)
-
 -- the invariant at gate g: the shares are s, and were s₀; what is left to work gives what there is to work
 pub record Worked (bs : List ℕ) (p from : ℕ) (s₀ s : List ℕ) (g : ℕ) : Type 0 where
   pub rest : workFrom p g (drop g (planOf bs .gates)) (numbers s) ≡ workFrom p from (drop from (planOf bs .gates)) (numbers s₀)
@@ -131,18 +154,18 @@ module _ (bs : List ℕ) (h : Header) (from : ℕ) (s₀ : List ℕ) where
   module _ (s : List ℕ) (g : ℕ) (w : Worked bs (h .field .p) from s₀ s g) (pl : Planned bs h) where
     pub work-end : h .gates ≤ g → Holds (h .field .p) (workFrom (h .field .p) from (drop from (planOf bs .gates)) (numbers s₀)) s
     unfolding workFrom
-    work-end l = record { eq = rw (drop-of-length-le (planOf bs .gates) {i = g} (omega (arith, pl .gate-count))) at (w .rest); below = w .below }
+    work-end l = record { eq = rw (gates-past bs h pl g l) at (w .rest); below = w .below }
 
     module _ (gate : Gate) (t : Bool) (l : g < h .gates) (e : gate ≡ gateAt bs g) (m : t ≡ isMultiply gate) where
       pub work-stop : t ≡ true → Holds (h .field .p) (workFrom (h .field .p) from (drop from (planOf bs .gates)) (numbers s₀)) s
       unfolding workFrom
-      work-stop y = record { eq = rw (gates-from bs h g pl l, ← e, ← m, y) at (w .rest); below = w .below }
+      work-stop y = record { eq = rw (gates-from bs h pl g l, ← e, ← m, y) at (w .rest); below = w .below }
 
       pub work-next : (d : List ℕ) → t ≡ false → Holds (h .field .p) (workGate (h .field .p) g gate (numbers s)) d → length d ≡ length s → Worked bs (h .field .p) from s₀ d (g + 1)
       unfolding workFrom
-      work-next d n k j = record { rest = rw (add-one, k .eq) (rw (gates-from bs h g pl l, ← e, ← m, n) at (w .rest)); below = k .below; long = j ∙ w .long }
+      work-next d n k j = record { rest = rw (add-one, k .eq) (rw (gates-from bs h pl g l, ← e, ← m, n) at (w .rest)); below = k .below; long = j ∙ w .long }
 
-pub ruleset going-on = (needs, multiply-yes, multiply-not-input, multiply-not-add, multiply-not-scale, multiply-not-offset, gate-kept, work-none, work-end, work-stop, work-next)
+pub ruleset going-on = (needs, multiply-yes, multiply-not-input, multiply-not-add, multiply-not-scale, multiply-not-offset, planned-ready, gate-kept, work-none, work-end, work-stop, work-next)
 
 -- ---- the wires of one party's inputs
 pub input-is : (i : ℕ) (gate : Gate) (s : ℕ) → gate ≡ Input s → eqb i s ≡ isInputOf i gate
@@ -217,10 +240,10 @@ module _ (bs mail : List ℕ) (h : Header) (i from : ℕ) (s₀ : List ℕ) wher
         → r ≡ at + cond (isInputOf i gate) 1 0 → r ≤ at + 1 → length d ≡ length s → Learning bs mail (h .field .p) i from s₀ d r (g + 1)
     unfolding wiresFrom countWhere
     learn-next gate d r l e k n m j = record {
-      rest = rw (add-one, k .eq, n) (set-step (isInputOf i gate) (numbers s) (wiresFrom (isInputOf i) (suc g) (drop (suc g) (planOf bs .gates))) (numbers mail) g at ∙ rw (gates-from bs h g pl l, ← e) at (w .rest));
-      next = rw (add-one, n) (count-step (isInputOf i gate) at (countWhere (isInputOf i) (drop (suc g) (planOf bs .gates))) ∙ rw (gates-from bs h g pl l, ← e) at (w .next));
+      rest = rw (add-one, k .eq, n) (set-step (isInputOf i gate) (numbers s) (wiresFrom (isInputOf i) (suc g) (drop (suc g) (planOf bs .gates))) (numbers mail) g at ∙ rw (gates-from bs h pl g l, ← e) at (w .rest));
+      next = rw (add-one, n) (count-step (isInputOf i gate) at (countWhere (isInputOf i) (drop (suc g) (planOf bs .gates))) ∙ rw (gates-from bs h pl g l, ← e) at (w .next));
       few = omega (arith, w .few);
-      within = omega (arith, pl .gates-most);
+      within = omega (arith, pl .gates-high);
       below = k .below;
       long = j ∙ w .long;
     }
@@ -230,13 +253,13 @@ module _ (bs mail : List ℕ) (h : Header) (i from : ℕ) (s₀ : List ℕ) wher
 
     pub learn-end : h .gates ≤ g → Holds (h .field .p) (setAll (numbers s₀) (inputWires (planOf bs) i) (drop from (numbers mail))) s
     unfolding wiresFrom setAll
-    learn-end l = record { eq = rw (drop-of-length-le (planOf bs .gates) {i = g} (omega (arith, pl .gate-count))) at (w .rest); below = w .below }
+    learn-end l = record { eq = rw (gates-past bs h pl g l) at (w .rest); below = w .below }
 
     pub learn-count : h .gates ≤ g → at ≡ from + ownInputCount (planOf bs) i
     unfolding countWhere
-    learn-count l = omega (arith, rw (drop-of-length-le (planOf bs .gates) {i = g} (omega (arith, pl .gate-count))) at (w .next))
+    learn-count l = omega (arith, rw (gates-past bs h pl g l) at (w .next))
 
-pub ruleset learning-own = (needs, learn-none, learn-next, place-small, learn-end, learn-count)
+pub ruleset learning-own = (needs, planned-ready, learn-none, learn-next, place-small, learn-end, learn-count)
 
 -- ---- the wires of all parties' inputs
 -- wires set in two parts
@@ -261,14 +284,6 @@ pub length-inputWires : (plan : Plan) (i : ℕ) → length (inputWires plan i) �
 unfolding inputWires wiresWhere ownInputCount
 length-inputWires plan i = length-wiresFrom (isInputOf i) 0 (plan .gates)
 
-parties-are : (bs : List ℕ) (h : Header) → Planned bs h → parties (planOf bs) ≡ tab suc (h .n)
-unfolding parties partyCount
-parties-are bs h pl = rw (pl .points-are, length-tab)
-
--- the parties from the (i + 1)-th on
-parties-from : (bs : List ℕ) (h : Header) (i : ℕ) → Planned bs h → i < h .n → drop i (parties (planOf bs)) ≡ (i + 1) ∷ drop (i + 1) (parties (planOf bs))
-parties-from bs h i pl l = rw (parties-are bs h pl, drop-cons (tab suc (h .n)) i 0 (rw length-tab l), getD-tab suc (h .n) i 0 l, add-one)
-
 -- the invariant after the first i parties, when number `at` of the mail is the next
 pub record Gathered (bs mail : List ℕ) (p : ℕ) (s₀ s : List ℕ) (at i : ℕ) : Type 0 where
   pub rest : setAll (numbers s) (flatMap (inputWires (planOf bs)) (drop i (parties (planOf bs)))) (drop at (numbers mail)) ≡ setAll (numbers s₀) (wiresByParty (planOf bs)) (numbers mail)
@@ -287,15 +302,15 @@ module _ (bs mail : List ℕ) (h : Header) (s₀ : List ℕ) where
         ≡ setAll (numbers s₀) (wiresByParty (planOf bs)) (numbers mail)
     unfolding flatMap
     joined l =
-        rw (← length-inputWires (planOf bs) (i + 1), ← drop-drop, ← setAll-append (numbers s) (inputWires (planOf bs) (i + 1)) (flatMap (inputWires (planOf bs)) (drop (i + 1) (parties (planOf bs)))) (drop at (numbers mail)))
-        (rw (parties-from bs h i pl l) at (w .rest))
+        rw (← length-inputWires (planOf bs) (i + 1), ← drop-drop (length (inputWires (planOf bs) (i + 1))) at (numbers mail), ← setAll-append (numbers s) (inputWires (planOf bs) (i + 1)) (flatMap (inputWires (planOf bs)) (drop (i + 1) (parties (planOf bs)))) (drop at (numbers mail)))
+        (rw (parties-from bs h pl i l) at (w .rest))
 
     pub gather-next : (d : List ℕ) (r : ℕ) → i < h .n → Holds (h .field .p) (setAll (numbers s) (inputWires (planOf bs) (i + 1)) (drop at (numbers mail))) d
         → r ≡ at + ownInputCount (planOf bs) (i + 1) → r ≤ at + 1024 → length d ≡ length s → Gathered bs mail (h .field .p) s₀ d r (i + 1)
     gather-next d r l k n m j = record {
       rest = rw (k .eq, n) (joined l);
       few = omega (arith, w .few);
-      within = omega (arith, pl .n-most);
+      within = omega (arith, pl .n-high);
       below = k .below;
       long = j ∙ w .long;
     }
@@ -305,6 +320,6 @@ module _ (bs mail : List ℕ) (h : Header) (s₀ : List ℕ) where
 
     pub gather-end : h .n ≤ i → Holds (h .field .p) (setAll (numbers s₀) (wiresByParty (planOf bs)) (numbers mail)) s
     unfolding setAll flatMap
-    gather-end l = record { eq = rw (drop-of-length-le (parties (planOf bs)) {i = i} (rw (parties-are bs h pl, length-tab) l)) at (w .rest); below = w .below }
+    gather-end l = record { eq = rw (parties-past bs h pl i l) at (w .rest); below = w .below }
 
 pub ruleset gathering = (needs, gather-none, gather-next, begin-small, gather-end)

@@ -9,8 +9,8 @@ ghost use Rattle.numbers.specs.Bytes.{numbers, allBelow};
 ghost use Rattle.sharing.specs.Ready.{Ready};
 ghost use Rattle.plan.specs.Plans.{isInputOf, isMultiply, inputWires, ownInputCount};
 ghost use Rattle.plan.specs.File.{gateOk, planOf};
+ghost use Rattle.plan.specs.Planned.{Planned};
 ghost use Rattle.party.specs.Lent.{Holds};
-ghost use Rattle.party.specs.Planned.{Planned};
 ghost use Rattle.party.specs.Messages.{workGate, workFrom, setAll, wiresByParty};
 
 // The share of wire g once gate g is worked. Those of inputs and multiplies come from mail, and stay as they are.
