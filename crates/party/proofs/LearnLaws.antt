@@ -8,21 +8,28 @@ use mathlib.Core.Path.{_≡_, refl, sym, ap, _∙_}
 use mathlib.Core.Bool.{Bool, true, false, cond, _&&_}
 use mathlib.Core.List.{List, [], _∷_, _++_, flatMap}
 use Prim.Native.Nat.{ℕ, zero, suc, _+_, _-_, _*_, _/_, _<_, _≤_}
+use native.Mathlib.Nat.{mod-eq-of-lt}
 use native.Mathlib.Numerals.{add-one}
 use native.Mathlib.Omega.{arith}
 use borrow.Author.Needs.{needs}
 use borrow.Author.Tests.{ltb-true, ltb-false, eqb-true, eqb-false}
 use lib.Dec.{eqb, leb, ltb}
 use lib.ListN.{length, getD, take, drop, set, length-set, drop-of-length-le}
-use lib.Seq.{drop-cons, drop-drop, getD-drop, set-getD, getD-set-same, getD-set-other}
+use lib.Seq.{length-take-le, take-take, drop-cons, drop-drop, getD-drop, set-getD, getD-set-same, getD-set-other}
 use Rattle.numbers.specs.Tables.{tab, countWhere}
 use Rattle.numbers.specs.Bytes.{numbers, stored, allBelow}
-use Rattle.numbers.proofs.Tables.{length-tab, drop-tab, getD-tab}
+use Rattle.numbers.proofs.Tables.{length-tab, getD-tab, take-tab, tab-ext}
 use Rattle.numbers.proofs.Bytes.{numbers-stored}
-use Rattle.numbers.proofs.Below.{allBelow-at, at-allBelow}
+use Rattle.numbers.proofs.Below.{allBelow-set, allBelow-tab}
+use Rattle.numbers.proofs.Fills.{Filled, filling, filled}
 use Rattle.field.specs.Mod.{add, mul}
-use Rattle.sharing.specs.Ready.{Ready}
+use Rattle.field.specs.Field.{Is}
+use Rattle.sharing.specs.Interp.{weights, dot, interpolate}
+use Rattle.sharing.specs.Sharing.{opened}
+use Rattle.sharing.specs.Ready.{Ready, Openable}
+use Rattle.sharing.proofs.Rows.{length-weights}
 use Rattle.sharing.proofs.Coding.{entry-below}
+use Rattle.party.proofs.PointLaws.{first-points, points-below}
 use Rattle.plan.specs.declared.Gate.{Gate}
 use Rattle.plan.specs.declared.Gate.the-variants.{Input, Add, Scale, Offset, Multiply}
 use Rattle.plan.specs.declared.Header.{Header}
@@ -31,7 +38,7 @@ use Rattle.plan.specs.File.{gateAt, gateOk, planOf}
 use Rattle.plan.specs.Planned.{Planned}
 use Rattle.plan.proofs.Planned.{plan-p, plan-t, plan-n, plan-points, plan-gates, plan-gate}
 use Rattle.plan.proofs.Valid.{Valid, valid}
-use Rattle.party.specs.Lent.{Elements, Holds}
+use Rattle.party.specs.Lent.{Holds, Dealers}
 use Rattle.party.specs.Messages.{workGate, workFrom, setAll, wiresByParty}
 
 -- ---- a plan that passes
@@ -66,22 +73,11 @@ module _ (bs : List ℕ) (h : Header) (k : Planned bs h) where
 pub read-below : (p : ℕ) (s : List ℕ) (i x : ℕ) → Ready p → allBelow p (numbers s) ≡ true → x ≡ getD (numbers s) i 0 → x < p
 read-below p s i x r h e = omega (arith, entry-below p (numbers s) i r h)
 
-set-at-below : (p : ℕ) (xs : List ℕ) (i v : ℕ) → allBelow p xs ≡ true → v < p → (j : ℕ) → j < length xs → (t : Bool) → eqb j i ≡ t → getD (set xs i v) j 0 < p
-set-at-below p xs i v h l j m true e =
-    let q : j ≡ i = eqb-true j i e in
-    let n : i < length xs = omega arith in
-    rw (q, getD-set-same xs i v 0 n) l
-set-at-below p xs i v h l j m false e = rw (getD-set-other xs i j v 0 (eqb-false j i e)) (allBelow-at p xs j h m)
-
--- a list of elements with one more set
-pub set-below : (p : ℕ) (xs : List ℕ) (i v : ℕ) → allBelow p xs ≡ true → v < p → allBelow p (set xs i v) ≡ true
-set-below p xs i v h l = at-allBelow p (set xs i v) (λ j m. set-at-below p xs i v h l j (rw length-set at m) (eqb j i) refl)
-
 -- an element is written
 pub written-holds : (p : ℕ) (s d xs : List ℕ) (i v : ℕ) → p < 65536 → allBelow p (numbers s) ≡ true → v < p → d ≡ stored s i v → set (numbers s) i v ≡ xs → Holds p xs d
 written-holds p s d xs i v m h l e q =
     let w : numbers d ≡ set (numbers s) i v = ap numbers e ∙ numbers-stored s i v (omega arith) in
-    record { eq = w ∙ q; below = rw w (set-below p (numbers s) i v h l) }
+    record { eq = w ∙ q; below = rw w (allBelow-set p i v (numbers s) h l) }
 
 -- ---- a gate
 last-true : (a b : Bool) → (a && b) ≡ true → b ≡ true
@@ -323,3 +319,70 @@ module _ (bs mail : List ℕ) (h : Header) (s₀ : List ℕ) where
     gather-end l = record { eq = rw (parties-past bs h pl i l) at (w .rest); below = w .below }
 
 pub ruleset gathering = (needs, gather-none, gather-next, begin-small, gather-end)
+
+-- ---- the share of a product
+-- an array is filled
+pub fifteen-filled : (f : ℕ → ℕ) (d₀ d : List ℕ) (j : ℕ) → length d₀ ≡ 15 → 15 ≤ j → Filled f d₀ d j → d ≡ tab f 15
+fifteen-filled f d₀ d j e l w = filled f d₀ d j (omega (arith, w .long)) w ∙ ap (tab f) e
+
+pub ruleset reading = (filling, fifteen-filled)
+
+dot-nil : (p : ℕ) (ws : List ℕ) → dot p ws [] ≡ 0
+unfolding dot
+dot-nil p [] = refl
+dot-nil p (w ∷ ws) = refl
+
+add-zeros : (p w : ℕ) → 0 < p → add p (mul p w 0) 0 ≡ 0
+unfolding add mul
+add-zeros p w l = let z : w * 0 ≡ 0 = omega arith in rw (z, mod-eq-of-lt {n = 0} {m = p} l, mod-eq-of-lt {n = 0 + 0} {m = p} l)
+
+-- numbers that are missing weigh nothing
+dot-read : (p : ℕ) → 0 < p → (ws vs : List ℕ) (m : ℕ) → length ws ≤ m → dot p ws (tab (λ j. getD vs j 0) m) ≡ dot p ws vs
+unfolding dot tab
+dot-read p l [] vs m h = refl
+dot-read p l (w ∷ ws) vs zero h = absurd (omega arith)
+dot-read p l (w ∷ ws) [] (suc m) h = rw (dot-read p l ws [] m (omega arith), dot-nil p ws) (add-zeros p w l)
+dot-read p l (w ∷ ws) (v ∷ vs) (suc m) h = rw (dot-read p l ws vs m (omega arith))
+
+first-long : (f : ℕ → ℕ) (xs : List ℕ) (m : ℕ) → xs ≡ tab f 15 → m ≤ 15 → length (take m xs) ≡ m
+first-long f xs m e l = length-take-le m xs (rw (e, length-tab) l)
+
+module _ (h : Header) (d : Dealers h) where
+  dealers-few : h .t + h .t + 1 ≤ h .n
+  dealers-few = omega (arith, d .majority)
+
+  dealers-fifteen : h .t + h .t + 1 ≤ 15
+  dealers-fifteen = omega (arith, dealers-few, d .few)
+
+  pub dealers-long : (f : ℕ → ℕ) (xs : List ℕ) → xs ≡ tab f 15 → length (take (h .t + h .t + 1) xs) ≡ h .t + h .t + 1
+  dealers-long f xs e = first-long f xs (h .t + h .t + 1) e dealers-fifteen
+
+  module _ (points pieces mail : List ℕ) (e : points ≡ tab suc 15) (q : pieces ≡ tab (λ j. getD (numbers mail) j 0) 15) where
+    taken : take (h .t + h .t + 1) pieces ≡ tab (λ j. getD (numbers mail) j 0) (h .t + h .t + 1)
+    taken = rw (q, take-tab (λ j. getD (numbers mail) j 0) 15 (h .t + h .t + 1) dealers-fifteen)
+
+    dealt : take (h .t + h .t + 1) points ≡ tab suc (h .t + h .t + 1)
+    dealt = first-points points (h .t + h .t + 1) e dealers-fifteen
+
+    pub pieces-openable : allBelow (h .field .p) (numbers mail) ≡ true → Openable (h .field .p) (h .t + h .t) (take (h .t + h .t + 1) points) (take (h .t + h .t + 1) pieces)
+    pieces-openable b = record {
+      ready = d .ready;
+      elements = rw dealt (points-below (h .field .p) (h .t + h .t + 1) (omega (arith, dealers-few, d .elements)));
+      known = rw taken (allBelow-tab (h .field .p) (λ j. getD (numbers mail) j 0) (h .t + h .t + 1) (λ j l. entry-below (h .field .p) (numbers mail) j (d .ready) b));
+      threshold = omega (arith, dealers-long suc points e);
+      few = omega (arith, dealers-long suc points e, dealers-fifteen);
+      each = dealers-long (λ j. getD (numbers mail) j 0) pieces q ∙ sym (dealers-long suc points e);
+    }
+
+    same-opening : opened (h .field .p) (h .t + h .t) (take (h .t + h .t + 1) points) (take (h .t + h .t + 1) pieces) ≡ opened (h .field .p) (h .t + h .t) (tab suc (h .n)) (numbers mail)
+    unfolding opened interpolate
+    same-opening =
+        let w : take (h .t + h .t + 1) (take (h .t + h .t + 1) points) ≡ tab suc (h .t + h .t + 1) = take-take (h .t + h .t + 1) (h .t + h .t + 1) points (omega arith) ∙ dealt in
+        let v : take (h .t + h .t + 1) (tab suc (h .n)) ≡ tab suc (h .t + h .t + 1) = take-tab suc (h .n) (h .t + h .t + 1) dealers-few in
+        let n : length (weights (h .field .p) 0 (tab suc (h .t + h .t + 1))) ≤ h .t + h .t + 1 = rw (length-weights, length-tab) (omega arith) in
+        rw (w, v, taken) (dot-read (h .field .p) (omega (arith, d .elements)) (weights (h .field .p) 0 (tab suc (h .t + h .t + 1))) (numbers mail) (h .t + h .t + 1) n)
+
+    pub reduced-is : (r : ℕ) → Is (h .field .p) (opened (h .field .p) (h .t + h .t) (take (h .t + h .t + 1) points) (take (h .t + h .t + 1) pieces)) r → Is (h .field .p) (opened (h .field .p) (h .t + h .t) (tab suc (h .n)) (numbers mail)) r
+    reduced-is r i = record { eq = i .eq ∙ same-opening; lt = i .lt }
+
+pub ruleset reducing = (needs, dealers-long, pieces-openable, reduced-is)
