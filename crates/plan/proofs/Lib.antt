@@ -3,4 +3,5 @@ pub mod Gates
 pub mod Ways
 pub mod Codes
 pub mod Planned
+pub mod Counts
 pub mod Valid
