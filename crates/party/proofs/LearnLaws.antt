@@ -12,7 +12,7 @@ use native.Mathlib.Nat.{mod-eq-of-lt}
 use native.Mathlib.Numerals.{add-one}
 use native.Mathlib.Omega.{arith}
 use borrow.Author.Needs.{needs}
-use borrow.Author.Tests.{ltb-true, ltb-false, eqb-true, eqb-false}
+use borrow.Author.Tests.{ltb-true, lt-ltb, le-ltb}
 use lib.Dec.{eqb, leb, ltb}
 use lib.ListN.{length, getD, take, drop, set, length-set, drop-of-length-le}
 use lib.Seq.{length-take-le, take-take, drop-cons, drop-drop, getD-drop, set-getD, getD-set-same, getD-set-other}
@@ -33,13 +33,13 @@ use Rattle.party.proofs.PointLaws.{first-points, points-below}
 use Rattle.plan.specs.declared.Gate.{Gate}
 use Rattle.plan.specs.declared.Gate.the-variants.{Input, Add, Scale, Offset, Multiply}
 use Rattle.plan.specs.declared.Header.{Header}
-use Rattle.plan.specs.Plans.{Plan, partyCount, parties, isInputOf, isMultiply, wiresFrom, wiresWhere, inputWires, ownInputCount}
+use Rattle.plan.specs.Plans.{Plan, partyCount, parties, dealerCount, dealerPoints, isInputOf, isMultiply, multiplies, multiplyWire, wiresFrom, wiresWhere, inputWires, ownInputCount}
 use Rattle.plan.specs.File.{gateAt, gateOk, planOf}
 use Rattle.plan.specs.Planned.{Planned}
 use Rattle.plan.proofs.Planned.{plan-p, plan-t, plan-n, plan-points, plan-gates, plan-gate}
 use Rattle.plan.proofs.Valid.{Valid, valid}
 use Rattle.party.specs.Lent.{Holds, Dealers}
-use Rattle.party.specs.Messages.{workGate, workFrom, setAll, wiresByParty}
+use Rattle.party.specs.Messages.{workGate, workFrom, setAll, wiresByParty, reduced, learn}
 
 -- ---- a plan that passes
 module _ (bs : List ℕ) (h : Header) (k : Planned bs h) where
@@ -386,3 +386,55 @@ module _ (h : Header) (d : Dealers h) where
     reduced-is r i = record { eq = i .eq ∙ same-opening; lt = i .lt }
 
 pub ruleset reducing = (needs, dealers-long, pieces-openable, reduced-is)
+
+-- ---- a call
+module _ (bs : List ℕ) (h : Header) (k : Planned bs h) where
+  pub planned-dealers : Dealers h
+  planned-dealers = record { ready = planned-ready bs h k; majority = k .majority; few = k .n-high; elements = k .p-low }
+
+  reduced-opened : (vs : List ℕ) → opened (h .field .p) (h .t + h .t) (tab suc (h .n)) vs ≡ reduced (planOf bs) vs
+  unfolding reduced dealerPoints dealerCount opened interpolate
+  reduced-opened vs = rw (plan-p k, plan-t k, plan-points k)
+
+  -- product j
+  pub product-set : (j w v : ℕ) (mail s d : List ℕ) → w ≡ multiplyWire (planOf bs) j → Is (h .field .p) (opened (h .field .p) (h .t + h .t) (tab suc (h .n)) (numbers mail)) v
+      → allBelow (h .field .p) (numbers s) ≡ true → d ≡ stored s w v → Holds (h .field .p) (set (numbers s) (multiplyWire (planOf bs) j) (reduced (planOf bs) (numbers mail))) d
+  product-set j w v mail s d e i b q =
+      written-holds (h .field .p) s d (set (numbers s) (multiplyWire (planOf bs) j) (reduced (planOf bs) (numbers mail))) w v (k .p-high) b (i .lt) q (rw (← e, i .eq, reduced-opened (numbers mail)))
+
+  pub product-worked : (w w′ : ℕ) (xs d e : List ℕ) → w′ ≡ w → Holds (h .field .p) xs d → Holds (h .field .p) (workFrom (h .field .p) (w′ + 1) (drop (w′ + 1) (planOf bs .gates)) (numbers d)) e
+      → Holds (h .field .p) (workFrom (h .field .p) (w + 1) (drop (w + 1) (planOf bs .gates)) xs) e
+  product-worked w w′ xs d e q m n = record { eq = rw (n .eq, m .eq, q); below = n .below }
+
+  pub inputs-worked : (mail s d e : List ℕ) → Holds (h .field .p) (setAll (numbers s) (wiresByParty (planOf bs)) (numbers mail)) d
+      → Holds (h .field .p) (workFrom (h .field .p) 0 (drop 0 (planOf bs .gates)) (numbers d)) e → Holds (h .field .p) (learn (planOf bs) 1 (numbers s) (numbers mail)) e
+  unfolding learn
+  inputs-worked mail s d e m n = record { eq = rw (n .eq, m .eq, plan-p k); below = n .below }
+
+  module _ (c : ℕ) (mail s : List ℕ) where
+    pub learnt-nothing : c ≡ 0 → allBelow (h .field .p) (numbers s) ≡ true → Holds (h .field .p) (learn (planOf bs) c (numbers s) (numbers mail)) s
+    unfolding learn
+    learnt-nothing z b = record { eq = rw z; below = b }
+
+    pub learnt-inputs : (d : List ℕ) → c ≡ 1 → Holds (h .field .p) (learn (planOf bs) 1 (numbers s) (numbers mail)) d → Holds (h .field .p) (learn (planOf bs) c (numbers s) (numbers mail)) d
+    learnt-inputs d e m = rw e m
+
+    module _ (lo : c ≡ 0 → ⊥) (hi : c ≡ 1 → ⊥) (n : ℕ) (q : n ≡ multiplies (planOf bs)) where
+      after : c ≡ suc (suc (c - 2))
+      after = omega (arith, lo, hi)
+
+      pub learnt-product : (d : List ℕ) → c - 2 < n
+          → Holds (h .field .p) (workFrom (h .field .p) (multiplyWire (planOf bs) (c - 2) + 1) (drop (multiplyWire (planOf bs) (c - 2) + 1) (planOf bs .gates)) (set (numbers s) (multiplyWire (planOf bs) (c - 2)) (reduced (planOf bs) (numbers mail)))) d
+          → Holds (h .field .p) (learn (planOf bs) c (numbers s) (numbers mail)) d
+      unfolding learn
+      learnt-product d l m =
+          let e : learn (planOf bs) c (numbers s) (numbers mail) ≡ learn (planOf bs) (suc (suc (c - 2))) (numbers s) (numbers mail) = ap (λ (x : ℕ). learn (planOf bs) x (numbers s) (numbers mail)) after in
+          record { eq = rw (e, ← q, lt-ltb (c - 2) n l, plan-p k, ← add-one) (m .eq); below = m .below }
+
+      pub learnt-no-more : n ≤ c - 2 → allBelow (h .field .p) (numbers s) ≡ true → Holds (h .field .p) (learn (planOf bs) c (numbers s) (numbers mail)) s
+      unfolding learn
+      learnt-no-more l b =
+          let e : learn (planOf bs) c (numbers s) (numbers mail) ≡ learn (planOf bs) (suc (suc (c - 2))) (numbers s) (numbers mail) = ap (λ (x : ℕ). learn (planOf bs) x (numbers s) (numbers mail)) after in
+          record { eq = rw (e, ← q, le-ltb (c - 2) n l); below = b }
+
+pub ruleset learning = (needs, planned-dealers, product-set, product-worked, inputs-worked, learnt-nothing, learnt-inputs, learnt-product, learnt-no-more)

@@ -11,11 +11,11 @@ ghost use Rattle.numbers.specs.Tables.{tab};
 ghost use Rattle.field.specs.Field.{Is};
 ghost use Rattle.sharing.specs.Sharing.{opened};
 ghost use Rattle.sharing.specs.Ready.{Ready};
-ghost use Rattle.plan.specs.Plans.{isInputOf, isMultiply, inputWires, ownInputCount};
+ghost use Rattle.plan.specs.Plans.{isInputOf, isMultiply, multiplyWire, inputWires, ownInputCount};
 ghost use Rattle.plan.specs.File.{gateOk, planOf};
 ghost use Rattle.plan.specs.Planned.{Planned};
 ghost use Rattle.party.specs.Lent.{Holds, Dealers};
-ghost use Rattle.party.specs.Messages.{workGate, workFrom, setAll, wiresByParty};
+ghost use Rattle.party.specs.Messages.{workGate, workFrom, setAll, wiresByParty, reduced, learn};
 
 // The share of wire g once gate g is worked. Those of inputs and multiplies come from mail, and stay as they are.
 fn gate_share(h: Header, g: usize, gate: Gate, shares: &[u8]) -> u64
@@ -180,4 +180,52 @@ fn reduced(h: Header, mail: &[u8]) -> u64
     let pieces = first_numbers(mail);
     let m = h.t + h.t + 1;
     sharing::opened(h.field, h.t + h.t, &all[..m], &pieces[..m])
+}
+
+// Learns the share of product k, counted from 0, and works the gates after it.
+fn learn_product(plan: &[u8], h: Header, k: usize, mail: &[u8], shares: &mut [u8])
+    requires { ⌜ Planned (now plan) h ⌝ }
+    requires { ⌜ allBelow (h .field .p) (numbers (now mail)) ≡ true ⌝ }
+    requires { ⌜ allBelow (h .field .p) (numbers (now shares)) ≡ true ⌝ }
+    ensures { λ _.
+      let made = planOf (now (plan .entry)) in
+      let w = multiplyWire made k in
+      ⌜ Holds (h .field .p) (workFrom (h .field .p) (w + 1) (drop (w + 1) (made .gates)) (set (numbers (now (shares .entry))) w (reduced made (numbers (now (mail .entry)))))) (now (shares .exit)) ⌝ }
+{
+    let w = plan::multiply_wire(plan, h, k);
+    let v = reduced(h, mail);
+    numbers::write(shares, w, v);
+    work_from(plan, h, w + 1, shares);
+}
+
+// Learns all inputs and works the gates up to the first multiply.
+fn learn_first(plan: &[u8], h: Header, mail: &[u8], shares: &mut [u8])
+    requires { ⌜ Planned (now plan) h ⌝ }
+    requires { ⌜ allBelow (h .field .p) (numbers (now mail)) ≡ true ⌝ }
+    requires { ⌜ allBelow (h .field .p) (numbers (now shares)) ≡ true ⌝ }
+    ensures { λ _. ⌜ Holds (h .field .p) (learn (planOf (now (plan .entry))) 1 (numbers (now (shares .entry))) (numbers (now (mail .entry)))) (now (shares .exit)) ⌝ }
+{
+    learn_inputs(plan, h, mail, shares);
+    work_from(plan, h, 0, shares);
+}
+
+// What call number k learns from its mail and works on the shares: nothing in call 0; the inputs in call 1; product k - 2 after that,
+// while there is one.
+pub fn learn(plan: &[u8], h: Header, k: usize, mail: &[u8], shares: &mut [u8])
+    requires { ⌜ Planned (now plan) h ⌝ }
+    requires { ⌜ allBelow (h .field .p) (numbers (now mail)) ≡ true ⌝ }
+    requires { ⌜ allBelow (h .field .p) (numbers (now shares)) ≡ true ⌝ }
+    ensures { λ _. ⌜ Holds (h .field .p) (learn (planOf (now (plan .entry))) k (numbers (now (shares .entry))) (numbers (now (mail .entry)))) (now (shares .exit)) ⌝ }
+{
+    if k == 0 {
+        return;
+    }
+    if k == 1 {
+        learn_first(plan, h, mail, shares);
+        return;
+    }
+    if k - 2 < plan::multiply_count(plan, h) {
+        learn_product(plan, h, k - 2, mail, shares);
+        return;
+    }
 }
