@@ -79,6 +79,9 @@ written-holds p s d xs i v m h l e q =
     let w : numbers d ≡ set (numbers s) i v = ap numbers e ∙ numbers-stored s i v (omega arith) in
     record { eq = w ∙ q; below = rw w (allBelow-set p i v (numbers s) h l) }
 
+pub written-below : (p : ℕ) (s d : List ℕ) (i v : ℕ) → p < 65536 → allBelow p (numbers s) ≡ true → v < p → d ≡ stored s i v → allBelow p (numbers d) ≡ true
+written-below p s d i v m h l e = written-holds p s d (set (numbers s) i v) i v m h l e refl .below
+
 -- ---- a gate
 last-true : (a b : Bool) → (a && b) ≡ true → b ≡ true
 last-true true b h = h
@@ -388,6 +391,15 @@ module _ (h : Header) (d : Dealers h) where
 pub ruleset reducing = (needs, dealers-long, pieces-openable, reduced-is)
 
 -- ---- a call
+learn-product : (plan : Plan) (shares mail : List ℕ) (j : ℕ) → j < multiplies plan
+    → learn plan (suc (suc j)) shares mail ≡ workFrom (plan .p) (multiplyWire plan j + 1) (drop (multiplyWire plan j + 1) (plan .gates)) (set shares (multiplyWire plan j) (reduced plan mail))
+unfolding learn
+learn-product plan shares mail j l = rw (lt-ltb j (multiplies plan) l, add-one)
+
+learn-no-more : (plan : Plan) (shares mail : List ℕ) (j : ℕ) → multiplies plan ≤ j → learn plan (suc (suc j)) shares mail ≡ shares
+unfolding learn
+learn-no-more plan shares mail j l = rw (le-ltb j (multiplies plan) l)
+
 module _ (bs : List ℕ) (h : Header) (k : Planned bs h) where
   pub planned-dealers : Dealers h
   planned-dealers = record { ready = planned-ready bs h k; majority = k .majority; few = k .n-high; elements = k .p-low }
@@ -426,15 +438,19 @@ module _ (bs : List ℕ) (h : Header) (k : Planned bs h) where
       pub learnt-product : (d : List ℕ) → c - 2 < n
           → Holds (h .field .p) (workFrom (h .field .p) (multiplyWire (planOf bs) (c - 2) + 1) (drop (multiplyWire (planOf bs) (c - 2) + 1) (planOf bs .gates)) (set (numbers s) (multiplyWire (planOf bs) (c - 2)) (reduced (planOf bs) (numbers mail)))) d
           → Holds (h .field .p) (learn (planOf bs) c (numbers s) (numbers mail)) d
-      unfolding learn
       learnt-product d l m =
-          let e : learn (planOf bs) c (numbers s) (numbers mail) ≡ learn (planOf bs) (suc (suc (c - 2))) (numbers s) (numbers mail) = ap (λ (x : ℕ). learn (planOf bs) x (numbers s) (numbers mail)) after in
-          record { eq = rw (e, ← q, lt-ltb (c - 2) n l, plan-p k, ← add-one) (m .eq); below = m .below }
+          let w : ℕ = multiplyWire (planOf bs) (c - 2) in
+          let j : c - 2 < multiplies (planOf bs) = omega arith in
+          record {
+            eq = m .eq
+                ∙ sym (ap (λ (x : ℕ). learn (planOf bs) x (numbers s) (numbers mail)) after ∙ learn-product (planOf bs) (numbers s) (numbers mail) (c - 2) j
+                ∙ ap (λ (q : ℕ). workFrom q (w + 1) (drop (w + 1) (planOf bs .gates)) (set (numbers s) w (reduced (planOf bs) (numbers mail)))) (plan-p k));
+            below = m .below;
+          }
 
       pub learnt-no-more : n ≤ c - 2 → allBelow (h .field .p) (numbers s) ≡ true → Holds (h .field .p) (learn (planOf bs) c (numbers s) (numbers mail)) s
-      unfolding learn
       learnt-no-more l b =
-          let e : learn (planOf bs) c (numbers s) (numbers mail) ≡ learn (planOf bs) (suc (suc (c - 2))) (numbers s) (numbers mail) = ap (λ (x : ℕ). learn (planOf bs) x (numbers s) (numbers mail)) after in
-          record { eq = rw (e, ← q, le-ltb (c - 2) n l); below = b }
+          let j : multiplies (planOf bs) ≤ c - 2 = omega arith in
+          record { eq = sym (ap (λ (x : ℕ). learn (planOf bs) x (numbers s) (numbers mail)) after ∙ learn-no-more (planOf bs) (numbers s) (numbers mail) (c - 2) j); below = b }
 
 pub ruleset learning = (needs, planned-dealers, product-set, product-worked, inputs-worked, learnt-nothing, learnt-inputs, learnt-product, learnt-no-more)

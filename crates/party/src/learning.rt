@@ -188,9 +188,9 @@ fn learn_product(plan: &[u8], h: Header, k: usize, mail: &[u8], shares: &mut [u8
     requires { ⌜ allBelow (h .field .p) (numbers (now mail)) ≡ true ⌝ }
     requires { ⌜ allBelow (h .field .p) (numbers (now shares)) ≡ true ⌝ }
     ensures { λ _.
-      let made = planOf (now (plan .entry)) in
-      let w = multiplyWire made k in
-      ⌜ Holds (h .field .p) (workFrom (h .field .p) (w + 1) (drop (w + 1) (made .gates)) (set (numbers (now (shares .entry))) w (reduced made (numbers (now (mail .entry)))))) (now (shares .exit)) ⌝ }
+        let made = planOf (now (plan .entry)) in
+        let w = multiplyWire made k in
+        ⌜ Holds (h .field .p) (workFrom (h .field .p) (w + 1) (drop (w + 1) (made .gates)) (set (numbers (now (shares .entry))) w (reduced made (numbers (now (mail .entry)))))) (now (shares .exit)) ⌝ }
 {
     let w = plan::multiply_wire(plan, h, k);
     let v = reduced(h, mail);
