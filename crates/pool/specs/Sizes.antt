@@ -18,15 +18,21 @@ unfoldable pub valueOf : Checked → ℕ → ℕ
 valueOf Passed v = 256 * v
 valueOf (Refused r) v = codeOf (Refused r)
 
--- the numbers of what a party's call takes or writes: own inputs, own coins, state, mail, what is written; 0 where there is no such call or list
+-- the numbers of mail that party i's call takes, and of what it writes; 0 where there is no such call
+unfoldable pub mailOfCall : Plan → ℕ → ℕ → ℕ
+mailOfCall plan i call = cond (leb call (multiplies plan + 2)) (mailCount plan i call) 0
+
+unfoldable pub writtenByCall : Plan → ℕ → ℕ → ℕ
+writtenByCall plan i call = cond (leb call (multiplies plan + 2)) (writtenCount plan i call) 0
+
+-- the numbers of a party's list: 0 its own inputs, 1 its own coins, 2 its state, 3 a call's mail, 4 what a call writes; any other: none
 unfoldable pub seatCount : Plan → ℕ → ℕ → ℕ → ℕ
 seatCount plan i call what =
     cond (eqb what 0) (ownInputCount plan i)
     (cond (eqb what 1) (ownCoinCount plan i)
     (cond (eqb what 2) (1 + length (plan .gates))
-    (cond (leb call (multiplies plan + 2))
-    (cond (eqb what 3) (mailCount plan i call) (cond (eqb what 4) (writtenCount plan i call) 0))
-    0)))
+    (cond (eqb what 3) (mailOfCall plan i call)
+    (cond (eqb what 4) (writtenByCall plan i call) 0))))
 
 -- in bytes
 unfoldable pub seatSize : List ℕ → ℕ → ℕ → ℕ → ℕ

@@ -1,7 +1,15 @@
 // The C interface: include/pool.h is its manual.
+use plan::Checked;
+use plan::Header;
+use plan::Reading;
+use plan::Refusal;
 ghost use mathlib.Core.Path.{_≡_};
+ghost use Prim.Native.Nat.{_*_, _<_, _≤_};
 ghost use Rattle.plan.specs.Refusals.{codeOf};
-ghost use Rattle.plan.specs.File.{planCheck};
+ghost use Rattle.plan.specs.File.{planCheck, planOf};
+ghost use Rattle.plan.specs.Planned.{Planned};
+ghost use Rattle.plan.specs.Plans.{ownCoinCount};
+ghost use Rattle.pool.specs.Sizes.{mailOfCall, writtenByCall, seatCount, seatSize, callCount};
 
 // Checks a plan: refusals 1 to 8.
 #[no_mangle]
@@ -9,4 +17,85 @@ pub extern "C" fn pool_plan_check(plan: &[u8]) -> u64
     ensures { λ r. ⌜ r ≡ codeOf (planCheck (now (plan .entry))) ⌝ }
 {
     plan::code(plan::check(plan))
+}
+
+// An answer with a value, which stands above the low byte.
+fn value(v: usize) -> u64
+    requires { ⌜ v < 4294967296 ⌝ }
+    ensures { λ r. ⌜ r ≡ 256 * v ⌝ }
+{
+    256 * (v as u64)
+}
+
+fn mail_of_call(plan: &[u8], h: Header, i: usize, call: usize) -> usize
+    requires { ⌜ Planned (now plan) h ⌝ }
+    ensures { λ r. ⌜ record { eq : r ≡ mailOfCall (planOf (now (plan .entry))) i call; le : r ≤ 15360 } ⌝ }
+{
+    if call <= plan::multiply_count(plan, h) + 2 {
+        return plan::mail_count(plan, h, i, call);
+    }
+    0
+}
+
+fn written_by_call(plan: &[u8], h: Header, i: usize, call: usize) -> usize
+    requires { ⌜ Planned (now plan) h ⌝ }
+    ensures { λ r. ⌜ record { eq : r ≡ writtenByCall (planOf (now (plan .entry))) i call; le : r ≤ 15360 } ⌝ }
+{
+    if call <= plan::multiply_count(plan, h) + 2 {
+        return plan::written_count(plan, h, i, call);
+    }
+    0
+}
+
+fn own_coin_count(plan: &[u8], h: Header, i: usize) -> usize
+    requires { ⌜ Planned (now plan) h ⌝ }
+    ensures { λ r. ⌜ record { eq : r ≡ ownCoinCount (planOf (now (plan .entry))) i; le : r ≤ 15360 } ⌝ }
+{
+    h.t * plan::own_dealing_count(plan, h, i)
+}
+
+// The numbers of one of a party's lists.
+fn seat_count(plan: &[u8], h: Header, i: usize, call: usize, what: u16) -> usize
+    requires { ⌜ Planned (now plan) h ⌝ }
+    ensures { λ r. ⌜ record { eq : r ≡ seatCount (planOf (now (plan .entry))) i call what; le : r ≤ 15360 } ⌝ }
+{
+    match what {
+        0 => plan::own_input_count(plan, h, i),
+        1 => own_coin_count(plan, h, i),
+        2 => 1 + h.gates,
+        3 => mail_of_call(plan, h, i, call),
+        4 => written_by_call(plan, h, i, call),
+        _ => 0,
+    }
+}
+
+// The bytes of one of a party's lists: 0 its own figures, 1 its own coins, 2 its state, 3 a call's mail, 4 what a call writes.
+#[no_mangle]
+pub extern "C" fn pool_seat_size(plan: &[u8], seat: u16, call: u16, what: u16) -> u64
+    ensures { λ r. ⌜ r ≡ seatSize (now (plan .entry)) seat call what ⌝ }
+{
+    let r = plan::read(plan);
+    let Reading::Passed(h) = r else {
+        return plan::code(plan::outcome(r));
+    };
+    let i = seat as usize;
+    if i < 1 {
+        return plan::code(Checked::Refused(Refusal::Coalition));
+    }
+    if h.n < i {
+        return plan::code(Checked::Refused(Refusal::Coalition));
+    }
+    value(2 * seat_count(plan, h, i, call as usize, what))
+}
+
+// How many calls each party makes.
+#[no_mangle]
+pub extern "C" fn pool_calls(plan: &[u8]) -> u64
+    ensures { λ r. ⌜ r ≡ callCount (now (plan .entry)) ⌝ }
+{
+    let r = plan::read(plan);
+    let Reading::Passed(h) = r else {
+        return plan::code(plan::outcome(r));
+    };
+    value(plan::multiply_count(plan, h) + 3)
 }

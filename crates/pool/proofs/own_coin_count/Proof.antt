@@ -1,0 +1,21 @@
+use borrow.Author.Needs.{needs}
+use Rattle.pool.proofs.own_coin_count.Statement.{statement}
+use Rattle.pool.proofs.own_coin_count.Tie as tie
+use Rattle.pool.proofs.own_coin_count.Reads as reads
+use Rattle.pool.proofs.own_coin_count.Lts as lts
+use Rattle.plan.proofs.own_dealing_count.Reads as own-dealing-count-reads
+
+-- src/lib.rt:54:11
+own-dealing-count-requires : tie.Need-own-dealing-count-requires
+own-dealing-count-requires c κs = search needs
+
+-- src/lib.rt:54:5
+mul-result : tie.Need-mul-result
+mul-result c = ?
+
+-- src/lib.rt:50:1
+returns : tie.Need-returns
+returns c = ?
+
+pub own-coin-count-spec : {M : Type 1} → statement M
+own-coin-count-spec = tie.close (tie.spec own-dealing-count-requires mul-result returns)
