@@ -1,4 +1,4 @@
-use borrow.Author.Needs.{needs}
+use Rattle.pool.proofs.Answers.{counting}
 use Rattle.pool.proofs.mail_of_call.Statement.{statement}
 use Rattle.pool.proofs.mail_of_call.Tie as tie
 use Rattle.pool.proofs.mail_of_call.Reads as reads
@@ -8,23 +8,23 @@ use Rattle.plan.proofs.multiply_count.Reads as multiply-count-reads
 
 -- src/lib.rt:34:16
 multiply-count-requires : tie.Need-multiply-count-requires
-multiply-count-requires c κs = search needs
+multiply-count-requires c κs = search counting
 
 -- src/lib.rt:34:16
 add-if1 : tie.Need-add-if1
-add-if1 c = search needs
+add-if1 c = search counting
 
 -- src/lib.rt:35:9
 mail-count-requires : tie.Need-mail-count-requires
-mail-count-requires c κs = search needs
+mail-count-requires c κs = search counting
 
 -- src/lib.rt:35:9
 returns : tie.Need-returns
-returns c = ?
+returns c = search counting
 
 -- src/lib.rt:30:1
 returns-2 : tie.Need-returns-2
-returns-2 c = ?
+returns-2 c = search counting
 
 pub mail-of-call-spec : {M : Type 1} → statement M
 mail-of-call-spec =

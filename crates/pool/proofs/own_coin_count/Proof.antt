@@ -1,4 +1,4 @@
-use borrow.Author.Needs.{needs}
+use Rattle.pool.proofs.Answers.{counting}
 use Rattle.pool.proofs.own_coin_count.Statement.{statement}
 use Rattle.pool.proofs.own_coin_count.Tie as tie
 use Rattle.pool.proofs.own_coin_count.Reads as reads
@@ -7,15 +7,15 @@ use Rattle.plan.proofs.own_dealing_count.Reads as own-dealing-count-reads
 
 -- src/lib.rt:54:11
 own-dealing-count-requires : tie.Need-own-dealing-count-requires
-own-dealing-count-requires c κs = search needs
+own-dealing-count-requires c κs = search counting
 
 -- src/lib.rt:54:5
 mul-result : tie.Need-mul-result
-mul-result c = ?
+mul-result c = search counting
 
 -- src/lib.rt:50:1
 returns : tie.Need-returns
-returns c = ?
+returns c = search counting
 
 pub own-coin-count-spec : {M : Type 1} → statement M
 own-coin-count-spec = tie.close (tie.spec own-dealing-count-requires mul-result returns)

@@ -1,4 +1,4 @@
-use borrow.Author.Needs.{needs}
+use Rattle.pool.proofs.Answers.{answering}
 use Rattle.pool.proofs.pool_calls.Statement.{statement}
 use Rattle.pool.proofs.pool_calls.Tie as tie
 use Rattle.pool.proofs.pool_calls.Reads as reads
@@ -11,43 +11,43 @@ use Rattle.pool.proofs.value.Reads as value-reads
 
 -- src/lib.rt:96:9
 read-requires : tie.Need-read-requires
-read-requires c κs = search needs
+read-requires c κs = search answering
 
 -- src/lib.rt:97:25
 enum-known-r : tie.Need-enum-known-r
-enum-known-r c = search needs
+enum-known-r c = search answering
 
 -- src/lib.rt:98:27
 enum-told : tie.Need-enum-told
-enum-told c = search needs
+enum-told c = search answering
 
 -- src/lib.rt:98:27
 outcome-requires : tie.Need-outcome-requires
-outcome-requires c κs = search needs
+outcome-requires c κs = search answering
 
 -- src/lib.rt:98:9
 code-requires : tie.Need-code-requires
-code-requires c κs = search needs
+code-requires c κs = search answering
 
 -- src/lib.rt:98:9
 returns : tie.Need-returns
-returns c = ?
+returns c = search answering
 
 -- src/lib.rt:100:11
 multiply-count-requires : tie.Need-multiply-count-requires
-multiply-count-requires c κs = ?
+multiply-count-requires c κs = search answering
 
 -- src/lib.rt:100:11
 add-value : tie.Need-add-value
-add-value c = search needs
+add-value c = search answering
 
 -- src/lib.rt:100:5
 value-requires : tie.Need-value-requires
-value-requires c κs = search needs
+value-requires c κs = search answering
 
 -- src/lib.rt:92:1
 returns-2 : tie.Need-returns-2
-returns-2 c = ?
+returns-2 c = search answering
 
 pub pool-calls-spec : {M : Type 1} → statement M
 pool-calls-spec =

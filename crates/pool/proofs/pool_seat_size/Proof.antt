@@ -1,4 +1,4 @@
-use borrow.Author.Needs.{needs}
+use Rattle.pool.proofs.Answers.{answering}
 use Rattle.pool.proofs.pool_seat_size.Statement.{statement}
 use Rattle.pool.proofs.pool_seat_size.Tie as tie
 use Rattle.pool.proofs.pool_seat_size.Reads as reads
@@ -11,59 +11,59 @@ use Rattle.pool.proofs.value.Reads as value-reads
 
 -- src/lib.rt:77:9
 read-requires : tie.Need-read-requires
-read-requires c κs = search needs
+read-requires c κs = search answering
 
 -- src/lib.rt:78:25
 enum-known-r : tie.Need-enum-known-r
-enum-known-r c = search needs
+enum-known-r c = search answering
 
 -- src/lib.rt:79:27
 enum-told : tie.Need-enum-told
-enum-told c = search needs
+enum-told c = search answering
 
 -- src/lib.rt:79:27
 outcome-requires : tie.Need-outcome-requires
-outcome-requires c κs = search needs
+outcome-requires c κs = search answering
 
 -- src/lib.rt:79:9
 code-requires : tie.Need-code-requires
-code-requires c κs = search needs
+code-requires c κs = search answering
 
 -- src/lib.rt:79:9
 returns : tie.Need-returns
-returns c = ?
+returns c = search answering
 
 -- src/lib.rt:83:9
 code-requires-2 : tie.Need-code-requires-2
-code-requires-2 c κs = search needs
+code-requires-2 c κs = search answering
 
 -- src/lib.rt:83:9
 returns-2 : tie.Need-returns-2
-returns-2 c = ?
+returns-2 c = search answering
 
 -- src/lib.rt:86:9
 code-requires-3 : tie.Need-code-requires-3
-code-requires-3 c κs = search needs
+code-requires-3 c κs = search answering
 
 -- src/lib.rt:86:9
 returns-3 : tie.Need-returns-3
-returns-3 c = ?
+returns-3 c = search answering
 
 -- src/lib.rt:88:15
 seat-count-requires : tie.Need-seat-count-requires
-seat-count-requires c κs = ?
+seat-count-requires c κs = search answering
 
 -- src/lib.rt:88:11
 mul-value : tie.Need-mul-value
-mul-value c = search needs
+mul-value c = search answering
 
 -- src/lib.rt:88:5
 value-requires : tie.Need-value-requires
-value-requires c κs = search needs
+value-requires c κs = search answering
 
 -- src/lib.rt:73:1
 returns-4 : tie.Need-returns-4
-returns-4 c = ?
+returns-4 c = search answering
 
 pub pool-seat-size-spec : {M : Type 1} → statement M
 pool-seat-size-spec =
