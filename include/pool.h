@@ -86,6 +86,9 @@ extern "C" {
 #define POOL_REFUSAL(answer) ((unsigned)((answer) & 0xff))
 #define POOL_PLACE(answer) ((uint32_t)(((answer) >> 8) & 0xffffffff))
 
+/* The value in an answer that has one: a size, a count; only where nothing is refused. */
+#define POOL_VALUE(answer) ((uint64_t)(answer) >> 8)
+
 /*
  * Checks a plan.
  *
@@ -95,6 +98,68 @@ extern "C" {
  * place. Writes nothing.
  */
 uint64_t pool_plan_check(const uint8_t *plan, size_t plan_len);
+
+/*
+ * How many calls each party makes: M + 3, numbered 0 to M + 2, with M the
+ * multiply gates.
+ *
+ * Answers the count as its value, or the first of refusals 1 to 8.
+ */
+uint64_t pool_calls(const uint8_t *plan, size_t plan_len);
+
+/* The lists of a party, for pool_seat_size. */
+enum {
+    POOL_SEAT_FIGURES = 0, /* its own inputs */
+    POOL_SEAT_COINS = 1,   /* its own coins */
+    POOL_SEAT_STATE = 2,   /* its state */
+    POOL_SEAT_MAIL = 3,    /* the mail that a call takes */
+    POOL_SEAT_OUT = 4      /* what a call writes */
+};
+
+/*
+ * The size in bytes of one of a party's lists.
+ *
+ * plan, plan_len: the plan file.
+ * seat:           the party, 1 to n.
+ * call:           the number of a call, for POOL_SEAT_MAIL and POOL_SEAT_OUT.
+ * what:           one of the lists above.
+ *
+ * Answers the size as its value, 0 where there is no such call or list; or
+ * the first of refusals 1 to 9.
+ */
+uint64_t pool_seat_size(const uint8_t *plan, size_t plan_len, uint16_t seat,
+    uint16_t call, uint16_t what);
+
+/*
+ * One call of a party.
+ *
+ * plan, plan_len:       the plan file, the same for all parties and calls.
+ * seat:                 the party, 1 to n.
+ * figures, figures_len: its own inputs, in the plan's order.
+ * coins, coins_len:     its own coins, in the plan's order: fresh, uniform
+ *                       below p and secret, the same in every call of a run.
+ * state, state_len:     its state: all 0 before call 0, then as the call
+ *                       before left it. Its first number is the next call's.
+ * mail, mail_len:       what all parties sent to this one in the call before,
+ *                       the senders ascending, its own included; for call 0
+ *                       nothing.
+ * out, out_len:         written: what this call sends, the receivers
+ *                       ascending; in the last call the party's results, in
+ *                       the order of its outs.
+ *
+ * Of what a call sends each party gets a part, one after the other: of call 0
+ * and of the calls that deal a product all parts have the same size; of call
+ * M + 1 party i's part has a share for each of its outs.
+ *
+ * Answers 0 and has written state and out, or answers the first of refusals 1
+ * to 20 and has written nothing.
+ */
+uint64_t pool_seat_call(const uint8_t *plan, size_t plan_len, uint16_t seat,
+    const uint8_t *figures, size_t figures_len,
+    const uint8_t *coins, size_t coins_len,
+    uint8_t *state, size_t state_len,
+    const uint8_t *mail, size_t mail_len,
+    uint8_t *out, size_t out_len);
 
 #ifdef __cplusplus
 }

@@ -1,0 +1,82 @@
+/* Plans for the C tests, and a count of what held. */
+#ifndef PLANS_H
+#define PLANS_H
+
+#include <stdio.h>
+#include <string.h>
+
+#include "pool.h"
+
+static int passed, failed;
+
+/* An answer without a value: a refusal and its place, or 0 and 0. */
+static void expect(const char *what, uint64_t answer, unsigned number, uint32_t place)
+{
+    if (answer >> 40 == 0 && POOL_REFUSAL(answer) == number && POOL_PLACE(answer) == place) {
+        passed++;
+    } else {
+        failed++;
+        printf("%s: number %u place %u, not %u %u\n", what, POOL_REFUSAL(answer), POOL_PLACE(answer), number, place);
+    }
+}
+
+static inline void expect_bytes(const char *what, const uint8_t *got, const uint8_t *want, size_t len)
+{
+    if (memcmp(got, want, len) == 0) {
+        passed++;
+    } else {
+        failed++;
+        printf("%s: other bytes\n", what);
+    }
+}
+
+static void put(uint8_t *at, unsigned v)
+{
+    at[0] = v & 0xff;
+    at[1] = v >> 8;
+}
+
+/* The contents of a plan with G gates and O outs. */
+static void contents(uint8_t *plan, unsigned n, unsigned t, unsigned p, unsigned gates, unsigned outs)
+{
+    memcpy(plan, "POOL", 4);
+    plan[4] = 1;
+    plan[5] = n;
+    plan[6] = t;
+    plan[7] = 0;
+    put(plan + 8, p);
+    put(plan + 10, 18);
+    put(plan + 12, gates);
+    put(plan + 14, 18 + 6 * gates);
+    put(plan + 16, outs);
+}
+
+static void gate(uint8_t *plan, unsigned g, unsigned kind, unsigned a, unsigned b)
+{
+    uint8_t *at = plan + 18 + 6 * g;
+    at[0] = kind;
+    at[1] = 0;
+    put(at + 2, a);
+    put(at + 4, b);
+}
+
+static void out(uint8_t *plan, unsigned gates, unsigned o, unsigned party, unsigned wire)
+{
+    uint8_t *at = plan + 18 + 6 * gates + 3 * o;
+    at[0] = party;
+    put(at + 1, wire);
+}
+
+/* Plan K: n=3, t=1, p=11; input 1, input 2, multiply 0 1, add 2 0; out to party 3 of wire 3. */
+static size_t plan_k(uint8_t *plan)
+{
+    contents(plan, 3, 1, 11, 4, 1);
+    gate(plan, 0, 1, 1, 0);
+    gate(plan, 1, 1, 2, 0);
+    gate(plan, 2, 5, 0, 1);
+    gate(plan, 3, 2, 2, 0);
+    out(plan, 4, 0, 3, 3);
+    return 18 + 6 * 4 + 3;
+}
+
+#endif
