@@ -1,1 +1,3 @@
 pub mod PointLaws
+pub mod SendLaws
+pub mod DealLaws
