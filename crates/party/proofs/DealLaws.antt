@@ -17,6 +17,8 @@ use Rattle.numbers.specs.Tables.{tab}
 use Rattle.numbers.specs.Bytes.{numbers, allBelow}
 use Rattle.numbers.proofs.Tables.{tab-next, tab-zero, length-tab, getD-tab, is-tab}
 use Rattle.numbers.proofs.Below.{at-allBelow}
+use Rattle.field.specs.Field.{Is}
+use Rattle.sharing.specs.Poly.{eval}
 use Rattle.sharing.specs.Ready.{Ready}
 use Rattle.sharing.proofs.Coding.{entry-below}
 use Rattle.party.specs.Sending.{Dealing, coinsFrom}
@@ -62,7 +64,15 @@ pub dealing-below : (p t s : ℕ) (cs : List ℕ) (at : ℕ) → Dealing p t s c
 unfolding allBelow
 dealing-below p t s cs at d f e = rw (e, lt-ltb s p (d .secret)) (coinsFrom-below p t at cs (d .ready) (d .coins))
 
-pub ruleset dealing = (needs, dealing-below)
+-- the coefficients as the code has them
+module _ (t s : ℕ) (cs : List ℕ) (at : ℕ) (d : List ℕ) (e : take (t + 1) d ≡ s ∷ coinsFrom t at cs) where
+  pub coefficients-long : length (take (t + 1) d) ≡ t + 1
+  coefficients-long = ap length e ∙ omega (arith, length-coinsFrom t at cs)
+
+  pub share-is : (p x r : ℕ) → Is p (eval p (take (t + 1) d) x) r → Is p (eval p (s ∷ coinsFrom t at cs) x) r
+  share-is p x r h = record { eq = h .eq ∙ ap (λ (f : List ℕ). eval p f x) e; lt = h .lt }
+
+pub ruleset dealing = (needs, dealing-below, coefficients-long, share-is)
 
 -- the coins of a dealing, where there are as many
 pub coinsFrom-part : (t at : ℕ) (cs : List ℕ) → at + t ≤ length cs → coinsFrom t at cs ≡ take t (drop at cs)
