@@ -6,3 +6,5 @@ pub mod Shares
 pub mod Coding
 pub mod Weighing
 pub mod Factors
+pub mod Rows
+pub mod Openings

@@ -86,7 +86,7 @@ pub record Weighed (p z : ℕ) (ys : List ℕ) (x above below j : ℕ) : Type 0 
   pub under : below < p
   pub whole : mul p (mul p above (inv p below)) (weight p z (drop j ys) x) ≡ weight p z ys x
 
-weight-canon : {p : ℕ} → Prime p → (z : ℕ) (ys : List ℕ) (x : ℕ) → Canon p (weight p z ys x)
+pub weight-canon : {p : ℕ} → Prime p → (z : ℕ) (ys : List ℕ) (x : ℕ) → Canon p (weight p z ys x)
 unfolding weight
 weight-canon prime z [] x = one-canon prime
 weight-canon prime z (y ∷ ys) x = mul-canon _ _
