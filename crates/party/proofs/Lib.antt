@@ -1,3 +1,4 @@
 pub mod PointLaws
 pub mod SendLaws
 pub mod DealLaws
+pub mod InputLaws

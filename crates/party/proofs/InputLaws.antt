@@ -1,0 +1,155 @@
+-- Laws of the dealings of a party's own inputs.
+--     gating               what a test of a gate says
+--     Inputting, inputting the loop over the gates that writes a share of each
+-- Assumes nothing.
+use mathlib.Core.Path.{_≡_, refl, sym, ap, ap₂, _∙_}
+use mathlib.Core.Bool.{Bool, true, false, cond}
+use mathlib.Core.List.{List, [], _∷_, _++_, map, map-append}
+use Prim.Native.Nat.{ℕ, zero, suc, _+_, _-_, _*_, _/_, _<_, _≤_}
+use native.Mathlib.Numerals.{add-one}
+use native.Mathlib.Nat.{mul-le-mul, mul-le-mul-left, mul-suc}
+use native.Mathlib.Omega.{arith}
+use borrow.Author.Needs.{needs}
+use lib.Dec.{eqb, leb}
+use lib.ListN.{length, getD, take, drop, length-append, take-append-drop}
+use lib.Seq.{take-suc, take-all, drop-drop, getD-drop, length-take-le}
+use Rattle.numbers.specs.Tables.{countWhere}
+use Rattle.numbers.specs.Bytes.{numbers, allBelow, stored}
+use Rattle.field.specs.Field.{Is}
+use Rattle.numbers.proofs.Bytes.{numbers-length}
+use Rattle.numbers.proofs.Counts.{countWhere-append, countWhere-take-suc, Counted, count-none, count-next}
+use Rattle.sharing.specs.Poly.{eval}
+use Rattle.sharing.specs.Ready.{Ready}
+use Rattle.sharing.proofs.Coding.{entry-below}
+use Rattle.plan.specs.declared.Gate.{Gate}
+use Rattle.plan.specs.declared.Gate.the-variants.{Input, Add, Scale, Offset, Multiply}
+use Rattle.plan.specs.declared.Header.{Header}
+use Rattle.plan.specs.Plans.{Plan, dealerCount, isInputOf, deals, wiresFrom, wiresWhere, inputWires, dealingsBelow, ownCoinCount, coinsAt}
+use Rattle.plan.specs.File.{gateAt, planOf}
+use Rattle.plan.specs.Planned.{Planned}
+use Rattle.plan.proofs.Planned.{plan-t, plan-p, plan-gates, plan-gate, plan-dealers}
+use Rattle.plan.proofs.Valid.{valid}
+use Rattle.party.specs.Messages.{inputPolys}
+use Rattle.party.specs.Sending.{Sent, Dealing, Own, coinsFrom, inputShares}
+use Rattle.party.proofs.SendLaws.{sent-none, sent-more, sent-unless, sent-where}
+use Rattle.party.proofs.DealLaws.{coinsFrom-part}
+
+-- ---- a test of a gate
+module _ (g : Gate) (i : ℕ) where
+  pub own-input : (s : ℕ) → g ≡ Input s → eqb i s ≡ isInputOf i g
+  unfolding isInputOf
+  own-input s e = rw e
+
+  pub own-add : (a b : ℕ) → g ≡ Add a b → false ≡ isInputOf i g
+  unfolding isInputOf
+  own-add a b e = rw e
+
+  pub own-scale : (a b : ℕ) → g ≡ Scale a b → false ≡ isInputOf i g
+  unfolding isInputOf
+  own-scale a b e = rw e
+
+  pub own-offset : (a b : ℕ) → g ≡ Offset a b → false ≡ isInputOf i g
+  unfolding isInputOf
+  own-offset a b e = rw e
+
+  pub own-multiply : (a b : ℕ) → g ≡ Multiply a b → false ≡ isInputOf i g
+  unfolding isInputOf
+  own-multiply a b e = rw e
+
+  module _ (plan : Plan) (r : ℕ) where
+    pub deals-input : (s : ℕ) → g ≡ Input s → r ≡ cond (eqb i s) 1 0 → r ≡ cond (deals plan i g) 1 0
+    unfolding deals
+    deals-input s e q = rw e q
+
+    pub deals-add : (a b : ℕ) → g ≡ Add a b → _≡_ {A = ℕ} 0 (cond (deals plan i g) 1 0)
+    unfolding deals
+    deals-add a b e = rw e
+
+    pub deals-scale : (a b : ℕ) → g ≡ Scale a b → _≡_ {A = ℕ} 0 (cond (deals plan i g) 1 0)
+    unfolding deals
+    deals-scale a b e = rw e
+
+    pub deals-offset : (a b : ℕ) → g ≡ Offset a b → _≡_ {A = ℕ} 0 (cond (deals plan i g) 1 0)
+    unfolding deals
+    deals-offset a b e = rw e
+
+pub deals-multiply : (g : Gate) (i r a b : ℕ) (bs : List ℕ) (h : Header) → Planned bs h → g ≡ Multiply a b → r ≡ cond (leb i (h .t + h .t + 1)) 1 0 → r ≡ cond (deals (planOf bs) i g) 1 0
+unfolding deals
+deals-multiply g i r a b bs h k e q = rw (e, plan-dealers k) q
+
+pub ruleset gating = (needs, own-input, own-add, own-scale, own-offset, own-multiply, deals-input, deals-add, deals-scale, deals-offset, deals-multiply)
+
+
+-- a share is written where the gate is an own input
+module _ (t b : Bool) (e : t ≡ b) (v at : ℕ) (old : List ℕ) where
+  pub gate-unless : t ≡ false → Sent (cond b (v ∷ []) []) at old old at
+  gate-unless f = sent-unless b v at old (sym e ∙ f)
+
+  pub gate-where : (w p : ℕ) (new : List ℕ) → t ≡ true → Is p v w → p < 65536 → new ≡ stored old at w → Sent (cond b (v ∷ []) []) at old new (at + 1)
+  gate-where w p new f is l to =
+      rw (← is .eq) (sent-where b w at old new (sym e ∙ f) to (omega (arith, is .lt)))
+
+pub small-prime : (p t s : ℕ) (cs : List ℕ) (at : ℕ) → Dealing p t s cs at → p < 65536
+small-prime p t s cs at d = d .ready .small
+
+pub ruleset input-sending = (needs, gate-unless, gate-where, small-prime)
+
+-- ---- the wires of a list of gates, and the shares of the dealings there
+module _ (f : Gate → Bool) where
+  cond-cons : (b : Bool) (s : ℕ) (xs ys zs : List ℕ) → xs ≡ ys ++ zs → cond b (s ∷ xs) xs ≡ cond b (s ∷ ys) ys ++ zs
+  cond-cons true s xs ys zs e = ap (λ (l : List ℕ). s ∷ l) e
+  cond-cons false s xs ys zs e = e
+
+  cond-one : (b : Bool) (s n : ℕ) → s ≡ n → cond b (s ∷ []) [] ≡ cond b (n ∷ []) []
+  cond-one b s n e = ap (λ (m : ℕ). cond b (m ∷ []) []) e
+
+  wires-snoc : (s : ℕ) (xs : List Gate) (y : Gate) → wiresFrom f s (xs ++ (y ∷ [])) ≡ wiresFrom f s xs ++ cond (f y) ((s + length xs) ∷ []) []
+  unfolding wiresFrom
+  wires-snoc s [] y = cond-one (f y) s (s + 0) (omega arith)
+  wires-snoc s (x ∷ xs) y =
+      cond-cons (f x) s (wiresFrom f (suc s) (xs ++ (y ∷ []))) (wiresFrom f (suc s) xs) (cond (f y) ((s + suc (length xs)) ∷ []) [])
+      (wires-snoc (suc s) xs y ∙ ap (λ (l : List ℕ). wiresFrom f (suc s) xs ++ l) (cond-one (f y) (suc s + length xs) (s + suc (length xs)) (omega arith)))
+
+  pub wires-next : (xs : List Gate) (g : ℕ) (d : Gate) → g < length xs → wiresFrom f 0 (take (g + 1) xs) ≡ wiresFrom f 0 (take g xs) ++ cond (f (getD xs g d)) (g ∷ []) []
+  wires-next xs g d l =
+      let e : 0 + length (take g xs) ≡ g = omega (arith, length-take-le g xs (omega arith)) in
+      ap (wiresFrom f 0) (ap (λ (n : ℕ). take n xs) (add-one g) ∙ take-suc xs g d l)
+      ∙ wires-snoc 0 (take g xs) (getD xs g d)
+      ∙ ap (λ (l : List ℕ). wiresFrom f 0 (take g xs) ++ l) (cond-one (f (getD xs g d)) (0 + length (take g xs)) g e)
+
+  pub wires-none : (xs : List Gate) → wiresFrom f 0 (take 0 xs) ≡ []
+  unfolding wiresFrom
+  wires-none xs = refl
+
+length-map : {A B : Type 0} (f : A → B) (xs : List A) → length (map f xs) ≡ length xs
+length-map f [] = refl
+length-map f (x ∷ xs) = ap suc (length-map f xs)
+
+module _ (plan : Plan) (i : ℕ) where
+  polys-append : (ws vs inputs coins : List ℕ) → inputPolys plan i (ws ++ vs) inputs coins ≡ inputPolys plan i ws inputs coins ++ inputPolys plan i vs (drop (length ws) inputs) coins
+  unfolding inputPolys
+  polys-append [] vs inputs coins = refl
+  polys-append (w ∷ ws) vs inputs coins =
+      ap (λ (l : List (List ℕ)). (getD inputs 0 0 ∷ coinsAt plan i w coins) ∷ l)
+      (polys-append ws vs (drop 1 inputs) coins
+      ∙ ap (λ (l : List ℕ). inputPolys plan i ws (drop 1 inputs) coins ++ inputPolys plan i vs l coins) (drop-drop (length ws) 1 inputs ∙ ap (λ (n : ℕ). drop n inputs) (native.Mathlib.Nat.add-comm 1 (length ws) ∙ add-one (length ws))))
+
+  polys-length : (ws inputs coins : List ℕ) → length (inputPolys plan i ws inputs coins) ≡ length ws
+  unfolding inputPolys
+  polys-length [] inputs coins = refl
+  polys-length (w ∷ ws) inputs coins = ap suc (polys-length ws (drop 1 inputs) coins)
+
+  module _ (inputs coins : List ℕ) (x : ℕ) where
+    pub input-shares-none : inputShares plan i [] inputs coins x ≡ []
+    unfolding inputShares inputPolys
+    input-shares-none = refl
+
+    pub input-shares-append : (ws vs : List ℕ) → inputShares plan i (ws ++ vs) inputs coins x ≡ inputShares plan i ws inputs coins x ++ inputShares plan i vs (drop (length ws) inputs) coins x
+    unfolding inputShares
+    input-shares-append ws vs =
+        ap (map (λ f. eval (plan .p) f x)) (polys-append ws vs inputs coins)
+        ∙ map-append (λ f. eval (plan .p) f x) (inputPolys plan i ws inputs coins) (inputPolys plan i vs (drop (length ws) inputs) coins)
+
+    pub input-shares-length : (ws : List ℕ) → length (inputShares plan i ws inputs coins x) ≡ length ws
+    unfolding inputShares
+    input-shares-length ws = length-map (λ f. eval (plan .p) f x) (inputPolys plan i ws inputs coins) ∙ polys-length ws inputs coins
