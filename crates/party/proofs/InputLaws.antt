@@ -3,13 +3,14 @@
 --     Inputting, inputting the loop over the gates that writes a share of each
 -- Assumes nothing.
 use mathlib.Core.Path.{_≡_, refl, sym, ap, ap₂, _∙_}
-use mathlib.Core.Bool.{Bool, true, false, cond}
+use mathlib.Core.Bool.{Bool, true, false, cond, not}
 use mathlib.Core.List.{List, [], _∷_, _++_, map, map-append}
 use Prim.Native.Nat.{ℕ, zero, suc, _+_, _-_, _*_, _/_, _<_, _≤_}
 use native.Mathlib.Numerals.{add-one}
 use native.Mathlib.Nat.{mul-le-mul, mul-le-mul-left, mul-suc}
 use native.Mathlib.Omega.{arith}
 use borrow.Author.Needs.{needs}
+use borrow.Author.Tests.{not-true, not-false}
 use lib.Dec.{eqb, leb}
 use lib.ListN.{length, getD, take, drop, length-append, take-append-drop}
 use lib.Seq.{take-suc, take-all, drop-drop, getD-drop, length-take-le}
@@ -82,12 +83,12 @@ pub ruleset gating = (needs, own-input, own-add, own-scale, own-offset, own-mult
 
 -- a share is written where the gate is an own input
 module _ (t b : Bool) (e : t ≡ b) (v at : ℕ) (old : List ℕ) where
-  pub gate-unless : t ≡ false → Sent (cond b (v ∷ []) []) at old old at
-  gate-unless f = sent-unless b v at old (sym e ∙ f)
+  pub gate-unless : not t ≡ true → Sent (cond b (v ∷ []) []) at old old at
+  gate-unless f = sent-unless b v at old (sym e ∙ not-true t f)
 
-  pub gate-where : (w p : ℕ) (new : List ℕ) → t ≡ true → Is p v w → p < 65536 → new ≡ stored old at w → Sent (cond b (v ∷ []) []) at old new (at + 1)
+  pub gate-where : (w p : ℕ) (new : List ℕ) → not t ≡ false → Is p v w → p < 65536 → new ≡ stored old at w → Sent (cond b (v ∷ []) []) at old new (at + 1)
   gate-where w p new f is l to =
-      rw (← is .eq) (sent-where b w at old new (sym e ∙ f) to (omega (arith, is .lt)))
+      rw (← is .eq) (sent-where b w at old new (sym e ∙ not-false t f) to (omega (arith, is .lt)))
 
 pub small-prime : (p t s : ℕ) (cs : List ℕ) (at : ℕ) → Dealing p t s cs at → p < 65536
 small-prime p t s cs at d = d .ready .small
@@ -153,3 +154,78 @@ module _ (plan : Plan) (i : ℕ) where
     pub input-shares-length : (ws : List ℕ) → length (inputShares plan i ws inputs coins x) ≡ length ws
     unfolding inputShares
     input-shares-length ws = length-map (λ f. eval (plan .p) f x) (inputPolys plan i ws inputs coins) ∙ polys-length ws inputs coins
+
+-- ---- a dealing's coins
+own-deals : (plan : Plan) (i : ℕ) (g : Gate) → isInputOf i g ≡ true → deals plan i g ≡ true
+unfolding isInputOf deals
+own-deals plan i (Input s) h = h
+own-deals plan i (Add a b) h = h
+own-deals plan i (Scale a b) h = h
+own-deals plan i (Offset a b) h = h
+own-deals plan i (Multiply a b) h = let z : _≡_ {A = ℕ} 0 1 = cc in absurd (omega arith)
+
+-- there are coins for each dealing
+module _ (plan : Plan) (i g : ℕ) (l : g < length (plan .gates)) (here : deals plan i (getD (plan .gates) g (Input 0)) ≡ true) where
+  split-gates : countWhere (deals plan i) (take (g + 1) (plan .gates)) + countWhere (deals plan i) (drop (g + 1) (plan .gates)) ≡ countWhere (deals plan i) (plan .gates)
+  split-gates = sym (countWhere-append (deals plan i) (take (g + 1) (plan .gates)) (drop (g + 1) (plan .gates))) ∙ ap (countWhere (deals plan i)) (take-append-drop (g + 1) (plan .gates))
+
+  one-more : countWhere (deals plan i) (take (g + 1) (plan .gates)) ≡ dealingsBelow plan i g + 1
+  unfolding dealingsBelow
+  one-more = countWhere-take-suc (deals plan i) (plan .gates) g (Input 0) l ∙ rw here
+
+  pub dealing-counted : dealingsBelow plan i g + 1 ≤ countWhere (deals plan i) (plan .gates)
+  dealing-counted = omega (arith, split-gates, one-more)
+
+  pub coins-there : plan .t * dealingsBelow plan i g + plan .t ≤ ownCoinCount plan i
+  unfolding ownCoinCount
+  coins-there =
+      let e : plan .t * (dealingsBelow plan i g + 1) ≡ plan .t * dealingsBelow plan i g + plan .t = rw (add-one, mul-suc) in
+      rw (← e) (mul-le-mul-left (plan .t) dealing-counted)
+
+  pub coins-at : (own : List ℕ) → length own ≡ ownCoinCount plan i → coinsAt plan i g own ≡ coinsFrom (plan .t) (plan .t * dealingsBelow plan i g) own
+  unfolding coinsAt
+  coins-at own e = sym (coinsFrom-part (plan .t) (plan .t * dealingsBelow plan i g) own (rw e coins-there))
+
+-- ---- the loop over the gates: the shares of the inputs below gate g stand, and k dealings are passed
+pub record Inputting (bs : List ℕ) (i : ℕ) (inputs coins : List ℕ) (x at : ℕ) (d₀ d : List ℕ) (place k g : ℕ) : Type 0 where
+  pub low : at ≤ place
+  pub high : place ≤ at + g
+  pub passed : Counted (deals (planOf bs) i) (planOf bs .gates) k g
+  pub sent : Sent (inputShares (planOf bs) i (wiresFrom (isInputOf i) 0 (take g (planOf bs .gates))) (numbers inputs) (numbers coins) x) at d₀ d place
+
+module _ (bs : List ℕ) (i : ℕ) (inputs coins : List ℕ) (x at : ℕ) where
+  pub inputs-none : (d : List ℕ) → Inputting bs i inputs coins x at d d at 0 0
+  inputs-none d = record {
+    low = omega arith;
+    high = omega arith;
+    passed = count-none (deals (planOf bs) i) (planOf bs .gates);
+    sent = rw (wires-none (isInputOf i) (planOf bs .gates), input-shares-none (planOf bs) i (numbers inputs) (numbers coins) x) (sent-none d at);
+  }
+
+  -- what a gate adds
+  module _ (g m : ℕ) (q : ℕ) (cs : List ℕ) where
+    one-share : (b : Bool) → (b ≡ true → coinsAt (planOf bs) i g (numbers coins) ≡ cs)
+        → inputShares (planOf bs) i (cond b (g ∷ []) []) (drop m (numbers inputs)) (numbers coins) x ≡ cond b (eval (planOf bs .p) (getD (numbers inputs) m 0 ∷ cs) x ∷ []) []
+    unfolding inputShares inputPolys
+    one-share true e =
+        let z : m + 0 ≡ m = omega arith in
+        rw (e refl, getD-drop m (numbers inputs) 0 0, z)
+    one-share false e = refl
+
+  module _ (h : Header) (w : Planned bs h) (own : Own (planOf bs) i inputs coins) (d₀ d : List ℕ) (place k g : ℕ) (v : Inputting bs i inputs coins x at d₀ d place k g) (l : g < h .gates) where
+    below-gates : g < length (planOf bs .gates)
+    below-gates = rw (plan-gates w) l
+
+    many : length (numbers coins) ≡ ownCoinCount (planOf bs) i
+    many = omega (arith, numbers-length coins, own .coins-long)
+
+    passed-is : k ≡ dealingsBelow (planOf bs) i g
+    unfolding dealingsBelow
+    passed-is = v .passed .is
+
+    wires-passed : place - at ≡ length (wiresFrom (isInputOf i) 0 (take g (planOf bs .gates)))
+    wires-passed = omega (arith, v .sent .place, input-shares-length (planOf bs) i (numbers inputs) (numbers coins) x (wiresFrom (isInputOf i) 0 (take g (planOf bs .gates))))
+
+    coins-here : isInputOf i (getD (planOf bs .gates) g (Input 0)) ≡ true → coinsAt (planOf bs) i g (numbers coins) ≡ coinsFrom (h .t) (h .t * k) (numbers coins)
+    coins-here e =
+        rw (← plan-t w, passed-is) (coins-at (planOf bs) i g below-gates (own-deals (planOf bs) i (getD (planOf bs .gates) g (Input 0)) e) (numbers coins) many)
