@@ -5,7 +5,7 @@
 use mathlib.Core.Path.{_≡_, refl, sym, ap, ap₂, _∙_}
 use mathlib.Core.Bool.{Bool, true, false, cond, not}
 use mathlib.Core.List.{List, [], _∷_, _++_, map, map-append}
-use Prim.Native.Nat.{ℕ, zero, suc, _+_, _-_, _*_, _/_, _<_, _≤_}
+use Prim.Native.Nat.{ℕ, zero, suc, _+_, _-_, _*_, _/_, _^_, _<_, _≤_}
 use native.Mathlib.Numerals.{add-one}
 use native.Mathlib.Nat.{mul-le-mul, mul-le-mul-left, mul-suc}
 use native.Mathlib.Omega.{arith}
@@ -80,7 +80,6 @@ deals-multiply g i r a b bs h k e q = rw (e, plan-dealers k) q
 
 pub ruleset gating = (needs, own-input, own-add, own-scale, own-offset, own-multiply, deals-input, deals-add, deals-scale, deals-offset, deals-multiply)
 
-
 -- a share is written where the gate is an own input
 module _ (t b : Bool) (e : t ≡ b) (v at : ℕ) (old : List ℕ) where
   pub gate-unless : not t ≡ true → Sent (cond b (v ∷ []) []) at old old at
@@ -94,6 +93,14 @@ pub small-prime : (p t s : ℕ) (cs : List ℕ) (at : ℕ) → Dealing p t s cs 
 small-prime p t s cs at d = d .ready .small
 
 pub ruleset input-sending = (needs, gate-unless, gate-where, small-prime)
+
+-- the field of a plan that passes
+pub prime-of : {bs : List ℕ} {h : Header} → Planned bs h → Ready (h .field .p)
+prime-of {bs} {h} w = record { prime = rw (← plan-p w) (valid bs (w .passes) .prime); small = w .p-high }
+
+one-long : (b : Bool) (v : ℕ) → length (cond b (v ∷ []) []) ≤ 1
+one-long true v = omega arith
+one-long false v = omega arith
 
 -- ---- the wires of a list of gates, and the shares of the dealings there
 module _ (f : Gate → Bool) where
@@ -229,3 +236,50 @@ module _ (bs : List ℕ) (i : ℕ) (inputs coins : List ℕ) (x at : ℕ) where
     coins-here : isInputOf i (getD (planOf bs .gates) g (Input 0)) ≡ true → coinsAt (planOf bs) i g (numbers coins) ≡ coinsFrom (h .t) (h .t * k) (numbers coins)
     coins-here e =
         rw (← plan-t w, passed-is) (coins-at (planOf bs) i g below-gates (own-deals (planOf bs) i (getD (planOf bs .gates) g (Input 0)) e) (numbers coins) many)
+
+    few-coins : h .t * k ≤ 7 * 1024
+    few-coins = mul-le-mul {n₁ = h .t} {m₁ = k} {n₂ = 7} {m₂ = 1024} (omega (arith, w .majority, w .n-high)) (omega (arith, v .passed .small, w .gates-high))
+
+    pub inputs-fit : h .t * k < 2 ^ 64
+    inputs-fit = omega (arith, few-coins)
+
+    -- the shares up to gate g + 1
+    shares-next : (gate : Gate) (s : ℕ) → gate ≡ gateAt bs g → s ≡ getD (numbers inputs) (place - at) 0
+        → inputShares (planOf bs) i (wiresFrom (isInputOf i) 0 (take (g + 1) (planOf bs .gates))) (numbers inputs) (numbers coins) x
+        ≡ inputShares (planOf bs) i (wiresFrom (isInputOf i) 0 (take g (planOf bs .gates))) (numbers inputs) (numbers coins) x
+        ++ cond (isInputOf i gate) (eval (h .field .p) (s ∷ coinsFrom (h .t) (h .t * k) (numbers coins)) x ∷ []) []
+    shares-next gate s eg es =
+        let ws = wiresFrom (isInputOf i) 0 (take g (planOf bs .gates)) in
+        let e : gate ≡ getD (planOf bs .gates) g (Input 0) = eg ∙ sym (plan-gate w g l) in
+        ap (λ (l : List ℕ). inputShares (planOf bs) i l (numbers inputs) (numbers coins) x) (wires-next (isInputOf i) (planOf bs .gates) g (Input 0) below-gates)
+        ∙ input-shares-append (planOf bs) i (numbers inputs) (numbers coins) x ws (cond (isInputOf i (getD (planOf bs .gates) g (Input 0))) (g ∷ []) [])
+        ∙ ap (λ (l : List ℕ). inputShares (planOf bs) i ws (numbers inputs) (numbers coins) x ++ l)
+        (one-share g (length ws) 0 (coinsFrom (h .t) (h .t * k) (numbers coins)) (isInputOf i (getD (planOf bs .gates) g (Input 0))) coins-here
+        ∙ rw (← wires-passed, ← es, ← e, plan-p w))
+
+    pub inputs-next : (gate : Gate) (s b next : ℕ) (d′ : List ℕ) → gate ≡ gateAt bs g → s ≡ getD (numbers inputs) (place - at) 0
+        → Sent (cond (isInputOf i gate) (eval (h .field .p) (s ∷ coinsFrom (h .t) (h .t * k) (numbers coins)) x ∷ []) []) place d d′ next
+        → b ≡ cond (deals (planOf bs) i gate) 1 0
+        → Inputting bs i inputs coins x at d₀ d′ next (k + b) (g + 1)
+    inputs-next gate s b next d′ eg es to eb = record {
+      low = omega (arith, v .low, to .place);
+      high = omega (arith, v .high, to .place, one-long (isInputOf i gate) (eval (h .field .p) (s ∷ coinsFrom (h .t) (h .t * k) (numbers coins)) x));
+      passed = count-next (deals (planOf bs) i) (planOf bs .gates) k g (v .passed) b (Input 0) below-gates (rw (plan-gate w g l, ← eg) eb);
+      sent = rw (shares-next gate s eg es) (sent-more _ _ d₀ d d′ at place next (v .sent) to);
+    }
+
+    pub inputs-dealing : (s : ℕ) → s ≡ getD (numbers inputs) (place - at) 0 → Dealing (h .field .p) (h .t) s (numbers coins) (h .t * k)
+    inputs-dealing s es = record {
+      ready = prime-of w;
+      few = omega (arith, w .majority, w .n-high);
+      near = omega (arith, few-coins);
+      secret = rw es (entry-below (h .field .p) (numbers inputs) (place - at) (prime-of w) (rw (← plan-p w) (own .inputs-below)));
+      coins = rw (← plan-p w) (own .coins-below);
+    }
+
+  pub inputs-done : (h : Header) (d₀ d : List ℕ) (place k g : ℕ) → Planned bs h → Inputting bs i inputs coins x at d₀ d place k g → h .gates ≤ g
+      → Sent (inputShares (planOf bs) i (inputWires (planOf bs) i) (numbers inputs) (numbers coins) x) at d₀ d place
+  unfolding inputWires wiresWhere
+  inputs-done h d₀ d place k g w v l = rw (take-all g (planOf bs .gates) (rw (plan-gates w) l)) at (v .sent)
+
+pub ruleset inputting = (needs, inputs-none, inputs-next, inputs-dealing, inputs-fit, inputs-done)

@@ -80,7 +80,17 @@ fn one_if(t: bool) -> usize
 }
 
 // Writes party i's share at x of a gate that is an input of its own; answers the next place.
-fn send_input(h: Header, i: usize, gate: Gate, secret: u64, coins: &[u8], from: usize, x: u64, place: usize, out: &mut [u8]) -> usize
+fn send_input(
+    h: Header,
+    i: usize,
+    gate: Gate,
+    secret: u64,
+    coins: &[u8],
+    from: usize,
+    x: u64,
+    place: usize,
+    out: &mut [u8],
+) -> usize
     requires { ⌜ Dealing (h .field .p) (h .t) secret (numbers (now coins)) from ⌝ }
     requires { ⌜ x < h .field .p ⌝ }
     requires { ⌜ place ≤ 65536 ⌝ }
@@ -94,7 +104,16 @@ fn send_input(h: Header, i: usize, gate: Gate, secret: u64, coins: &[u8], from: 
 }
 
 // Writes the shares at x of party i's inputs from a place on; answers the next place.
-fn send_inputs_to(plan: &[u8], h: Header, i: usize, inputs: &[u8], coins: &[u8], x: u64, at: usize, out: &mut [u8]) -> usize
+fn send_inputs_to(
+    plan: &[u8],
+    h: Header,
+    i: usize,
+    inputs: &[u8],
+    coins: &[u8],
+    x: u64,
+    at: usize,
+    out: &mut [u8],
+) -> usize
     requires { ⌜ Planned (now plan) h ⌝ }
     requires { ⌜ Own (planOf (now plan)) i (now inputs) (now coins) ⌝ }
     requires { ⌜ x < h .field .p ⌝ }
