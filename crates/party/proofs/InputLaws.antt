@@ -4,7 +4,7 @@
 -- Assumes nothing.
 use mathlib.Core.Path.{_≡_, refl, sym, ap, ap₂, _∙_}
 use mathlib.Core.Bool.{Bool, true, false, cond, not}
-use mathlib.Core.List.{List, [], _∷_, _++_, map, map-append}
+use mathlib.Core.List.{List, [], _∷_, _++_, map, map-append, flatMap}
 use Prim.Native.Nat.{ℕ, zero, suc, _+_, _-_, _*_, _/_, _^_, _<_, _≤_}
 use native.Mathlib.Numerals.{add-one}
 use native.Mathlib.Nat.{mul-le-mul, mul-le-mul-left, mul-suc}
@@ -14,25 +14,26 @@ use borrow.Author.Tests.{not-true, not-false}
 use lib.Dec.{eqb, leb}
 use lib.ListN.{length, getD, take, drop, length-append, take-append-drop}
 use lib.Seq.{take-suc, take-all, drop-drop, getD-drop, length-take-le}
-use Rattle.numbers.specs.Tables.{countWhere}
+use Rattle.numbers.specs.Tables.{tab, countWhere}
 use Rattle.numbers.specs.Bytes.{numbers, allBelow, stored}
 use Rattle.field.specs.Field.{Is}
 use Rattle.numbers.proofs.Bytes.{numbers-length}
-use Rattle.numbers.proofs.Counts.{countWhere-append, countWhere-take-suc, Counted, count-none, count-next}
+use Rattle.numbers.proofs.Tables.{length-tab, getD-tab, tab-map, tab-ext}
+use Rattle.numbers.proofs.Counts.{countWhere-append, countWhere-le-length, countWhere-take-suc, Counted, count-none, count-next}
 use Rattle.sharing.specs.Poly.{eval}
 use Rattle.sharing.specs.Ready.{Ready}
 use Rattle.sharing.proofs.Coding.{entry-below}
 use Rattle.plan.specs.declared.Gate.{Gate}
 use Rattle.plan.specs.declared.Gate.the-variants.{Input, Add, Scale, Offset, Multiply}
 use Rattle.plan.specs.declared.Header.{Header}
-use Rattle.plan.specs.Plans.{Plan, dealerCount, isInputOf, deals, wiresFrom, wiresWhere, inputWires, dealingsBelow, ownCoinCount, coinsAt}
+use Rattle.plan.specs.Plans.{Plan, partyCount, ownInputCount, dealerCount, isInputOf, deals, wiresFrom, wiresWhere, inputWires, dealingsBelow, ownCoinCount, coinsAt}
 use Rattle.plan.specs.File.{gateAt, planOf}
 use Rattle.plan.specs.Planned.{Planned}
-use Rattle.plan.proofs.Planned.{plan-t, plan-p, plan-gates, plan-gate, plan-dealers}
+use Rattle.plan.proofs.Planned.{plan-t, plan-p, plan-n, plan-points, plan-gates, plan-gate, plan-dealers}
 use Rattle.plan.proofs.Valid.{valid}
-use Rattle.party.specs.Messages.{inputPolys}
+use Rattle.party.specs.Messages.{inputPolys, dealTo, sendInputs}
 use Rattle.party.specs.Sending.{Sent, Dealing, Own, coinsFrom, inputShares}
-use Rattle.party.proofs.SendLaws.{sent-none, sent-more, sent-unless, sent-where}
+use Rattle.party.proofs.SendLaws.{sent-none, sent-more, sent-unless, sent-where, flat, Rows, rows-none, rows-next, rows-all, rows-length}
 use Rattle.party.proofs.DealLaws.{coinsFrom-part}
 
 -- ---- a test of a gate
@@ -283,3 +284,50 @@ module _ (bs : List ℕ) (i : ℕ) (inputs coins : List ℕ) (x at : ℕ) where
   inputs-done h d₀ d place k g w v l = rw (take-all g (planOf bs .gates) (rw (plan-gates w) l)) at (v .sent)
 
 pub ruleset inputting = (needs, inputs-none, inputs-next, inputs-dealing, inputs-fit, inputs-done)
+
+-- ---- the loop over the receiving parties
+wires-few : (f : Gate → Bool) (s : ℕ) (xs : List Gate) → length (wiresFrom f s xs) ≡ countWhere f xs
+unfolding wiresFrom countWhere
+wires-few f s [] = refl
+wires-few f s (x ∷ xs) = by (f x) (wiresFrom f (suc s) xs) (countWhere f xs) (wires-few f (suc s) xs)
+  where
+    by : (b : Bool) (ws : List ℕ) (n : ℕ) → length ws ≡ n → length (cond b (s ∷ ws) ws) ≡ cond b (suc n) n
+    by true ws n e = ap suc e
+    by false ws n e = e
+
+pub inputs-long : (plan : Plan) (i : ℕ) (inputs coins : List ℕ) (x : ℕ) → length (inputShares plan i (inputWires plan i) inputs coins x) ≡ ownInputCount plan i
+unfolding inputWires wiresWhere ownInputCount
+inputs-long plan i inputs coins x = input-shares-length plan i inputs coins x (wiresFrom (isInputOf i) 0 (plan .gates)) ∙ wires-few (isInputOf i) 0 (plan .gates)
+
+point-at : (pts : List ℕ) (j n : ℕ) → pts ≡ tab suc 15 → n ≤ 15 → j < n → getD pts j 0 ≡ suc j
+point-at pts j n e l m = rw (e, getD-tab suc 15 j 0 (omega arith))
+
+module _ (bs : List ℕ) (h : Header) (w : Planned bs h) (pts : List ℕ) (e : pts ≡ tab suc 15) where
+  pub point-within : (j : ℕ) → j < h .n → j < length pts
+  point-within j l = rw (e, length-tab suc 15) (omega (arith, w .n-high))
+
+  pub point-below : (j : ℕ) → j < h .n → getD pts j 0 < h .field .p
+  point-below j l = rw (point-at pts j (h .n) e (w .n-high) l) (omega (arith, w .p-low))
+
+  module _ (i : ℕ) (inputs coins : List ℕ) where
+    pub inputs-few : (x : ℕ) → length (inputShares (planOf bs) i (inputWires (planOf bs) i) inputs coins x) ≤ 1024
+    unfolding ownInputCount
+    inputs-few x = omega (arith, inputs-long (planOf bs) i inputs coins x, countWhere-le-length (isInputOf i) (planOf bs .gates), plan-gates w, w .gates-high)
+
+    by-receiver : sendInputs (planOf bs) i inputs coins ≡ tab (λ j. inputShares (planOf bs) i (inputWires (planOf bs) i) inputs coins (getD pts j 0)) (h .n)
+    unfolding sendInputs dealTo inputShares
+    by-receiver =
+        let row : ℕ → List ℕ = λ x. inputShares (planOf bs) i (inputWires (planOf bs) i) inputs coins x in
+        ap (map row) (plan-points w)
+        ∙ tab-map row suc (h .n)
+        ∙ tab-ext (λ j. row (suc j)) (λ j. row (getD pts j 0)) (h .n) (λ j l. ap row (sym (point-at pts j (h .n) e (w .n-high) l)))
+
+    pub inputs-sent : (d₀ d : List ℕ) (at j : ℕ) → Rows (λ j. inputShares (planOf bs) i (inputWires (planOf bs) i) inputs coins (getD pts j 0)) 1024 (h .n) d₀ d at j → h .n ≤ j
+        → length d₀ ≡ 2 * (partyCount (planOf bs) * ownInputCount (planOf bs) i)
+        → numbers d ≡ flatMap (λ l. l) (sendInputs (planOf bs) i inputs coins)
+    inputs-sent d₀ d at j r l q =
+        let row : ℕ → List ℕ = λ j. inputShares (planOf bs) i (inputWires (planOf bs) i) inputs coins (getD pts j 0) in
+        let k : length (flat (tab row (h .n))) ≡ h .n * ownInputCount (planOf bs) i = rows-length row (ownInputCount (planOf bs) i) (h .n) (λ j. inputs-long (planOf bs) i inputs coins (getD pts j 0)) in
+        rows-all row 1024 (h .n) d₀ d at j r l (q ∙ rw (plan-n w, k)) ∙ sym (ap flat by-receiver)
+
+pub ruleset receiving = (needs, point-within, point-below, inputs-few, rows-none, rows-next, inputs-sent)

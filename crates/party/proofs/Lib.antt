@@ -2,3 +2,4 @@ pub mod PointLaws
 pub mod SendLaws
 pub mod DealLaws
 pub mod InputLaws
+pub mod OutLaws

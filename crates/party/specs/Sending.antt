@@ -39,3 +39,7 @@ pub record Own (plan : Plan) (i : ℕ) (inputs coins : List ℕ) : Type 0 where
   pub inputs-below : allBelow (plan .p) (numbers inputs) ≡ true
   pub coins-below : allBelow (plan .p) (numbers coins) ≡ true
   pub coins-long : length coins ≡ 2 * ownCoinCount plan i
+
+-- the shares of the wires ws
+unfoldable pub outShares : List ℕ → List ℕ → List ℕ
+outShares shares ws = map (λ w. getD shares w 0) ws

@@ -2,18 +2,21 @@
 use field::Field;
 use plan::Gate;
 use plan::Header;
+use plan::Output;
 ghost use mathlib.Core.Path.{_≡_};
 ghost use mathlib.Core.Bool.{cond};
-ghost use mathlib.Core.List.{[], _∷_};
-ghost use Prim.Native.Nat.{_+_, _<_, _≤_};
-ghost use lib.ListN.{take};
+ghost use mathlib.Core.List.{[], _∷_, flatMap};
+ghost use Prim.Native.Nat.{_+_, _*_, _<_, _≤_};
+ghost use lib.Dec.{eqb};
+ghost use lib.ListN.{length, getD, take};
 ghost use Rattle.numbers.specs.Bytes.{numbers};
 ghost use Rattle.field.specs.Field.{Is};
 ghost use Rattle.sharing.specs.Poly.{eval};
-ghost use Rattle.plan.specs.Plans.{isInputOf, deals, inputWires};
+ghost use Rattle.plan.specs.Plans.{partyCount, isInputOf, deals, inputWires, outWires, ownInputCount};
 ghost use Rattle.plan.specs.File.{planOf};
 ghost use Rattle.plan.specs.Planned.{Planned};
-ghost use Rattle.party.specs.Sending.{Sent, Dealing, Own, coinsFrom, inputShares};
+ghost use Rattle.party.specs.Messages.{sendInputs, sendOuts};
+ghost use Rattle.party.specs.Sending.{Sent, Dealing, Own, coinsFrom, inputShares, outShares};
 
 // The coefficients of a dealing: the dealt value, then t coins.
 fn polynomial(t: usize, secret: u64, coins: &[u8], at: usize) -> [u64; 8]
@@ -131,4 +134,63 @@ fn send_inputs_to(
         g += 1;
     }
     place
+}
+
+// Writes the dealings of party i's inputs, by receiving party.
+fn send_inputs(plan: &[u8], h: Header, i: usize, inputs: &[u8], coins: &[u8], out: &mut [u8])
+    requires { ⌜ Planned (now plan) h ⌝ }
+    requires { ⌜ Own (planOf (now plan)) i (now inputs) (now coins) ⌝ }
+    requires { ⌜ length (now out) ≡ 2 * (partyCount (planOf (now plan)) * ownInputCount (planOf (now plan)) i) ⌝ }
+    ensures { λ _. ⌜ numbers (now (out .exit)) ≡ flatMap (λ l. l) (sendInputs (planOf (now (plan .entry))) i (numbers (now (inputs .entry))) (numbers (now (coins .entry)))) ⌝ }
+{
+    let points = crate::points::points();
+    let mut at: usize = 0;
+    let mut j: usize = 0;
+    while j < h.n {
+        at = send_inputs_to(plan, h, i, inputs, coins, points[j], at, out);
+        j += 1;
+    }
+}
+
+// ---- call M + 1: the shares of the outs
+
+// Writes the share of an out that is the party's; answers the next place.
+fn send_out(party: usize, output: Output, shares: &[u8], place: usize, out: &mut [u8]) -> usize
+    requires { ⌜ place ≤ 65536 ⌝ }
+    ensures { λ r. ⌜ Sent (cond (eqb party (output .party)) (getD (numbers (now (shares .entry))) (output .wire) 0 ∷ []) []) place (now (out .entry)) (now (out .exit)) r ⌝ }
+{
+    if party != output.party {
+        return place;
+    }
+    numbers::write(out, place, numbers::read(shares, output.wire));
+    place + 1
+}
+
+// Writes the shares of a party's outs from a place on; answers the next place.
+fn send_outs_to(plan: &[u8], h: Header, party: usize, shares: &[u8], at: usize, out: &mut [u8]) -> usize
+    requires { ⌜ Planned (now plan) h ⌝ }
+    requires { ⌜ at ≤ 15360 ⌝ }
+    ensures { λ r. ⌜ Sent (outShares (numbers (now (shares .entry))) (outWires (planOf (now (plan .entry))) party)) at (now (out .entry)) (now (out .exit)) r ⌝ }
+{
+    let mut place = at;
+    let mut o: usize = 0;
+    while o < h.outs {
+        place = send_out(party, plan::out_at(plan, o), shares, place, out);
+        o += 1;
+    }
+    place
+}
+
+// Writes the share of each out to that out's party, by receiving party.
+fn send_outs(plan: &[u8], h: Header, shares: &[u8], out: &mut [u8])
+    requires { ⌜ Planned (now plan) h ⌝ }
+    requires { ⌜ length (now out) ≡ 2 * h .outs ⌝ }
+    ensures { λ _. ⌜ numbers (now (out .exit)) ≡ flatMap (λ l. l) (sendOuts (planOf (now (plan .entry))) (numbers (now (shares .entry)))) ⌝ }
+{
+    let mut at: usize = 0;
+    let mut j: usize = 0;
+    while j < h.n {
+        at = send_outs_to(plan, h, j + 1, shares, at, out);
+        j += 1;
+    }
 }
