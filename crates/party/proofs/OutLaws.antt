@@ -16,7 +16,7 @@ use lib.ListN.{length, getD, take, drop, length-append}
 use lib.Seq.{take-suc, take-all}
 use Rattle.numbers.specs.Tables.{tab}
 use Rattle.numbers.specs.Bytes.{numbers, stored}
-use Rattle.numbers.proofs.Tables.{length-tab, tab-map}
+use Rattle.numbers.proofs.Tables.{tab-map, tab-ext}
 use Rattle.plan.specs.declared.Output.{Output}
 use Rattle.plan.specs.declared.Header.{Header}
 use Rattle.plan.specs.Plans.{Plan, partyCount, parties, outWiresOf, outWires}
@@ -26,7 +26,7 @@ use Rattle.plan.proofs.Planned.{plan-n, plan-outs, plan-out, both-true, between
 use Rattle.plan.proofs.Valid.{Valid, valid}
 use Rattle.party.specs.Messages.{sendOuts}
 use Rattle.party.specs.Sending.{Sent, outShares}
-use Rattle.party.proofs.SendLaws.{sent-none, sent-more, sent-unless, sent-where, flat, Rows, rows-none, rows-next, rows-all}
+use Rattle.party.proofs.SendLaws.{sent-none, sent-more, sent-unless, sent-where, flat, flat-none, flat-next, Rows, rows-none, rows-next, rows-all}
 
 -- ---- an out
 module _ (party : ℕ) (o : Output) (at : ℕ) (old : List ℕ) where
@@ -98,32 +98,100 @@ module _ (bs : List ℕ) (party : ℕ) (shares : List ℕ) (at : ℕ) where
 pub ruleset outing = (needs, outs-none, outs-next, outs-done)
 
 -- ---- the loop over the parties
--- whether a party is one of the n parties a, a + 1, ..: as a count
-unfoldable tally : ℕ → ℕ → ℕ → ℕ
-tally party a zero = 0
-tally party a (suc n) = cond (eqb a party) 1 0 + tally party (suc a) n
+-- 1 where a party is one of the parties 1 to n
+unfoldable tally : ℕ → ℕ → ℕ
+tally party zero = 0
+tally party (suc n) = tally party n + cond (eqb (suc n) party) 1 0
 
-tally-none : (party a n : ℕ) → party < a → tally party a n ≡ 0
+tally-none : (party n : ℕ) → n < party → tally party n ≡ 0
 unfolding tally
-tally-none party a zero l = refl
-tally-none party a (suc n) l = rw (ne-eqb a party (λ e. omega arith), tally-none party (suc a) n (omega arith))
+tally-none party zero l = refl
+tally-none party (suc n) l = rw (ne-eqb (suc n) party (λ e. omega arith), tally-none party n (omega arith))
 
-tally-here : (party a n : ℕ) → a ≡ party → tally party a (suc n) ≡ 1
+tally-one : (party n : ℕ) → 1 ≤ party → party ≤ n → tally party n ≡ 1
 unfolding tally
-tally-here party a n e = rw (eq-eqb a party e, tally-none party (suc a) n (omega arith))
-
-tally-later : (party a n : ℕ) → (a ≡ party → ⊥) → tally party (suc a) n ≡ 1 → tally party a (suc n) ≡ 1
-unfolding tally
-tally-later party a n ne e = rw (ne-eqb a party ne) (omega (arith, e))
-
-tally-one : (party a n : ℕ) → a ≤ party → party < a + n → tally party a n ≡ 1
-tally-one party a zero l m = absurd (omega arith)
-tally-one party a (suc n) l m = by (eqb a party) refl (λ ne. tally-one party (suc a) n (omega arith) (omega arith))
+tally-one party zero l m = absurd (omega arith)
+tally-one party (suc n) l m = by (eqb (suc n) party) refl (λ ne. tally-one party n l (omega arith))
   where
-    by : (b : Bool) → eqb a party ≡ b → ((a ≡ party → ⊥) → tally party (suc a) n ≡ 1) → tally party a (suc n) ≡ 1
-    by true e on = tally-here party a n (eqb-true a party e)
-    by false e on = tally-later party a n (eqb-false a party e) (on (eqb-false a party e))
+    by : (b : Bool) → eqb (suc n) party ≡ b → ((suc n ≡ party → ⊥) → tally party n ≡ 1) → tally party n + cond (eqb (suc n) party) 1 0 ≡ 1
+    by true e on = let q : suc n ≡ party = eqb-true (suc n) party e in rw (e, tally-none party n (omega arith))
+    by false e on = rw (e, on (eqb-false (suc n) party e))
 
--- the lists that the parties a, a + 1, .. get
-rowsFrom : List ℕ → List Output → ℕ → ℕ → List ℕ
-rowsFrom shares os a n = flat (tab (λ j. outShares shares (outWiresOf (a + j) os)) n)
+-- how many outs the parties 1 to n get
+unfoldable total : List Output → ℕ → ℕ
+total os zero = 0
+total os (suc n) = total os n + length (outWiresOf (suc n) os)
+
+total-none : (n : ℕ) → total [] n ≡ 0
+unfolding total outWiresOf
+total-none zero = refl
+total-none (suc n) = rw (total-none n)
+
+total-cons : (o : Output) (os : List Output) (n : ℕ) → total (o ∷ os) n ≡ tally (o .party) n + total os n
+unfolding total tally outWiresOf
+total-cons o os zero = refl
+total-cons o os (suc n) = rw (total-cons o os n) (by (eqb (suc n) (o .party)) (outWiresOf (suc n) os))
+  where
+    by : (b : Bool) (ws : List ℕ)
+        → tally (o .party) n + total os n + length (cond b (o .wire ∷ ws) ws) ≡ tally (o .party) n + cond b 1 0 + (total os n + length ws)
+    by true ws = omega arith
+    by false ws = omega arith
+
+total-all : (n k : ℕ) (os : List Output) → ((o : ℕ) → o < length os → outOk n k (getD os o (record { party = 0; wire = 0 })) ≡ true) → total os n ≡ length os
+unfolding outOk
+total-all n k [] h = total-none n
+total-all n k (o ∷ os) h =
+    let b = between-true 1 n (o .party) (both-true (between 1 n (o .party)) (ltb (o .wire) k) (h 0 (omega arith)) .0) in
+    total-cons o os n ∙ omega (arith, tally-one (o .party) n (b .0) (b .1), total-all n k os (λ i l. h (suc i) (omega arith)))
+
+outs-long : (shares ws : List ℕ) → length (outShares shares ws) ≡ length ws
+unfolding outShares
+outs-long shares [] = refl
+outs-long shares (w ∷ ws) = ap suc (outs-long shares ws)
+
+rows-total : (shares : List ℕ) (os : List Output) (n : ℕ) → length (flat (tab (λ j. outShares shares (outWiresOf (suc j) os)) n)) ≡ total os n
+unfolding total
+rows-total shares os zero = ap length (flat-none (λ j. outShares shares (outWiresOf (suc j) os)))
+rows-total shares os (suc n) =
+    let row : ℕ → List ℕ = λ j. outShares shares (outWiresOf (suc j) os) in
+    ap (λ (m : ℕ). length (flat (tab row m))) (sym (add-one n))
+    ∙ ap length (flat-next row n)
+    ∙ length-append (flat (tab row n)) (row n)
+    ∙ ap₂ (λ (a b : ℕ). a + b) (rows-total shares os n) (outs-long shares (outWiresOf (suc n) os))
+
+wires-few : (party : ℕ) (os : List Output) → length (outWiresOf party os) ≤ length os
+unfolding outWiresOf
+wires-few party [] = omega arith
+wires-few party (o ∷ os) = by (eqb party (o .party)) (outWiresOf party os) (wires-few party os)
+  where
+    by : (b : Bool) (ws : List ℕ) → length ws ≤ length os → length (cond b (o .wire ∷ ws) ws) ≤ suc (length os)
+    by true ws l = omega arith
+    by false ws l = omega arith
+
+module _ (bs : List ℕ) (h : Header) (w : Planned bs h) (shares : List ℕ) where
+  pub outs-few : (party : ℕ) → length (outShares shares (outWires (planOf bs) party)) ≤ 64
+  unfolding outWires
+  outs-few party = omega (arith, outs-long shares (outWiresOf party (planOf bs .outs)), wires-few party (planOf bs .outs), plan-outs w, w .outs-high)
+
+  outs-total : length (flat (tab (λ j. outShares shares (outWires (planOf bs) (j + 1))) (h .n))) ≡ h .outs
+  unfolding outWires
+  outs-total =
+      ap length (ap flat (tab-ext (λ j. outShares shares (outWiresOf (j + 1) (planOf bs .outs))) (λ j. outShares shares (outWiresOf (suc j) (planOf bs .outs))) (h .n) (λ j l. ap (λ (m : ℕ). outShares shares (outWiresOf m (planOf bs .outs))) (add-one j))))
+      ∙ rows-total shares (planOf bs .outs) (h .n)
+      ∙ total-all (h .n) (length (planOf bs .gates)) (planOf bs .outs) (rw (← plan-n w) (valid bs (w .passes) .outs))
+      ∙ plan-outs w
+
+  by-receiver : sendOuts (planOf bs) shares ≡ tab (λ j. outShares shares (outWires (planOf bs) (j + 1))) (h .n)
+  unfolding sendOuts parties outShares
+  by-receiver =
+      let row : ℕ → List ℕ = λ i. outShares shares (outWires (planOf bs) i) in
+      tab-map row suc (partyCount (planOf bs))
+      ∙ ap (tab (λ j. row (suc j))) (plan-n w)
+      ∙ tab-ext (λ j. row (suc j)) (λ j. row (j + 1)) (h .n) (λ j l. ap row (sym (add-one j)))
+
+  pub outs-sent : (d₀ d : List ℕ) (at j : ℕ) → Rows (λ j. outShares shares (outWires (planOf bs) (j + 1))) 64 (h .n) d₀ d at j → h .n ≤ j → length d₀ ≡ 2 * h .outs
+      → numbers d ≡ flatMap (λ l. l) (sendOuts (planOf bs) shares)
+  outs-sent d₀ d at j r l e =
+      rows-all (λ j. outShares shares (outWires (planOf bs) (j + 1))) 64 (h .n) d₀ d at j r l (e ∙ rw outs-total) ∙ sym (ap flat by-receiver)
+
+pub ruleset gathering = (needs, outs-few, rows-none, rows-next, outs-sent)

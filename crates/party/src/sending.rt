@@ -167,7 +167,14 @@ fn send_out(party: usize, output: Output, shares: &[u8], place: usize, out: &mut
 }
 
 // Writes the shares of a party's outs from a place on; answers the next place.
-fn send_outs_to(plan: &[u8], h: Header, party: usize, shares: &[u8], at: usize, out: &mut [u8]) -> usize
+fn send_outs_to(
+    plan: &[u8],
+    h: Header,
+    party: usize,
+    shares: &[u8],
+    at: usize,
+    out: &mut [u8],
+) -> usize
     requires { ⌜ Planned (now plan) h ⌝ }
     requires { ⌜ at ≤ 15360 ⌝ }
     ensures { λ r. ⌜ Sent (outShares (numbers (now (shares .entry))) (outWires (planOf (now (plan .entry))) party)) at (now (out .entry)) (now (out .exit)) r ⌝ }
