@@ -225,7 +225,7 @@ module _ (bs : List ℕ) (i : ℕ) (inputs coins : List ℕ) (x at : ℕ) where
     below-gates = rw (plan-gates w) l
 
     many : length (numbers coins) ≡ ownCoinCount (planOf bs) i
-    many = omega (arith, numbers-length coins, own .coins-long)
+    many = omega (arith, numbers-length coins, own .coined .long)
 
     passed-is : k ≡ dealingsBelow (planOf bs) i g
     unfolding dealingsBelow
@@ -275,7 +275,7 @@ module _ (bs : List ℕ) (i : ℕ) (inputs coins : List ℕ) (x at : ℕ) where
       few = omega (arith, w .majority, w .n-high);
       near = omega (arith, few-coins);
       secret = rw es (entry-below (h .field .p) (numbers inputs) (place - at) (prime-of w) (rw (← plan-p w) (own .inputs-below)));
-      coins = rw (← plan-p w) (own .coins-below);
+      coins = rw (← plan-p w) (own .coined .below);
     }
 
   pub inputs-done : (h : Header) (d₀ d : List ℕ) (place k g : ℕ) → Planned bs h → Inputting bs i inputs coins x at d₀ d place k g → h .gates ≤ g

@@ -3,3 +3,4 @@ pub mod SendLaws
 pub mod DealLaws
 pub mod InputLaws
 pub mod OutLaws
+pub mod ProductLaws

@@ -8,9 +8,11 @@ use lib.Seq.{sets}
 use Rattle.numbers.specs.Tables.{tab}
 use Rattle.numbers.specs.Bytes.{numbers, allBelow}
 use Rattle.sharing.specs.Poly.{eval}
+use Rattle.sharing.specs.Sharing.{opened}
 use Rattle.sharing.specs.Ready.{Ready}
-use Rattle.plan.specs.Plans.{Plan, ownCoinCount}
-use Rattle.party.specs.Messages.{inputPolys}
+use Rattle.plan.specs.declared.Header.{Header}
+use Rattle.plan.specs.Plans.{Plan, partyCount, multiplies, ownCoinCount, writtenCount}
+use Rattle.party.specs.Messages.{inputPolys, sharesOfOut}
 
 -- a lent list after the numbers vs are written from place `at` on, and the place after them
 pub record Sent (vs : List ℕ) (at : ℕ) (old new : List ℕ) (next : ℕ) : Type 0 where
@@ -34,12 +36,36 @@ pub record Dealing (p t s : ℕ) (cs : List ℕ) (at : ℕ) : Type 0 where
 unfoldable pub inputShares : Plan → ℕ → List ℕ → List ℕ → List ℕ → ℕ → List ℕ
 inputShares plan i ws inputs coins x = map (λ f. eval (plan .p) f x) (inputPolys plan i ws inputs coins)
 
+-- party i's own coins, as bytes
+pub record Coined (plan : Plan) (i : ℕ) (coins : List ℕ) : Type 0 where
+  pub below : allBelow (plan .p) (numbers coins) ≡ true
+  pub long : length coins ≡ 2 * ownCoinCount plan i
+
 -- party i's own inputs and coins, as bytes
 pub record Own (plan : Plan) (i : ℕ) (inputs coins : List ℕ) : Type 0 where
   pub inputs-below : allBelow (plan .p) (numbers inputs) ≡ true
-  pub coins-below : allBelow (plan .p) (numbers coins) ≡ true
-  pub coins-long : length coins ≡ 2 * ownCoinCount plan i
+  pub coined : Coined plan i coins
 
 -- the shares of the wires ws
 unfoldable pub outShares : List ℕ → List ℕ → List ℕ
 outShares shares ws = map (λ w. getD shares w 0) ws
+
+-- what the openings of a party's own outs take: the weights of at most n points, and the mail
+pub record Openings (h : Header) (weights mail : List ℕ) : Type 0 where
+  pub ready : Ready (h .field .p)
+  pub few : h .n ≤ 15
+  pub short : length weights ≤ h .n
+  pub weights-below : allBelow (h .field .p) weights ≡ true
+  pub mail-below : allBelow (h .field .p) (numbers mail) ≡ true
+
+-- the openings of a party's own outs, when there are `own` of them
+unfoldable pub openedOuts : Plan → ℕ → List ℕ → List ℕ
+openedOuts plan own mail = tab (λ j. opened (plan .p) (plan .t) (plan .points) (sharesOfOut (partyCount plan) own j mail)) own
+
+-- what a call sends or opens: all its lists as bytes, of elements, and room for exactly what it writes
+pub record Lent (plan : Plan) (i k : ℕ) (inputs coins shares mail out : List ℕ) : Type 0 where
+  pub call : k ≤ multiplies plan + 2
+  pub own : Own plan i inputs coins
+  pub shares-below : allBelow (plan .p) (numbers shares) ≡ true
+  pub mail-below : allBelow (plan .p) (numbers mail) ≡ true
+  pub room : length out ≡ 2 * writtenCount plan i k

@@ -4,19 +4,23 @@ use plan::Gate;
 use plan::Header;
 use plan::Output;
 ghost use mathlib.Core.Path.{_≡_};
-ghost use mathlib.Core.Bool.{cond};
+ghost use mathlib.Core.Bool.{true, cond};
 ghost use mathlib.Core.List.{[], _∷_, flatMap};
-ghost use Prim.Native.Nat.{_+_, _*_, _<_, _≤_};
-ghost use lib.Dec.{eqb};
+ghost use Prim.Native.Nat.{suc, _+_, _*_, _/_, _<_, _≤_};
+ghost use lib.Dec.{eqb, leb};
 ghost use lib.ListN.{length, getD, take};
-ghost use Rattle.numbers.specs.Bytes.{numbers};
+ghost use Rattle.numbers.specs.Tables.{tab};
+ghost use Rattle.numbers.specs.Bytes.{numbers, allBelow};
 ghost use Rattle.field.specs.Field.{Is};
 ghost use Rattle.sharing.specs.Poly.{eval};
-ghost use Rattle.plan.specs.Plans.{partyCount, isInputOf, deals, inputWires, outWires, ownInputCount};
+ghost use Rattle.sharing.specs.Interp.{dot};
+ghost use Rattle.sharing.specs.Sharing.{deal};
+ghost use Rattle.sharing.specs.Ready.{Ready};
+ghost use Rattle.plan.specs.Plans.{partyCount, dealerCount, multiplies, isInputOf, deals, inputWires, outWires, ownInputCount};
 ghost use Rattle.plan.specs.File.{planOf};
 ghost use Rattle.plan.specs.Planned.{Planned};
-ghost use Rattle.party.specs.Messages.{sendInputs, sendOuts};
-ghost use Rattle.party.specs.Sending.{Sent, Dealing, Own, coinsFrom, inputShares, outShares};
+ghost use Rattle.party.specs.Messages.{productAt, sendInputs, sendProduct, sendOuts, sharesOfOut};
+ghost use Rattle.party.specs.Sending.{Sent, Dealing, Coined, Own, Openings, Lent, coinsFrom, inputShares, outShares, openedOuts};
 
 // The coefficients of a dealing: the dealt value, then t coins.
 fn polynomial(t: usize, secret: u64, coins: &[u8], at: usize) -> [u64; 8]
@@ -152,6 +156,60 @@ fn send_inputs(plan: &[u8], h: Header, i: usize, inputs: &[u8], coins: &[u8], ou
     }
 }
 
+// ---- calls 1 to M: the product of a multiply gate's shares
+
+// The product of a multiply gate's two shares.
+fn product(f: Field, gate: Gate, shares: &[u8]) -> u64
+    requires { ⌜ Ready (f .p) ⌝ }
+    requires { ⌜ allBelow (f .p) (numbers (now shares)) ≡ true ⌝ }
+    ensures { λ r. ⌜ Is (f .p) (productAt (f .p) gate (numbers (now (shares .entry)))) r ⌝ }
+{
+    match gate {
+        Gate::Input(_) => 0,
+        Gate::Add(_, _) => 0,
+        Gate::Scale(_, _) => 0,
+        Gate::Offset(_, _) => 0,
+        Gate::Multiply(a, b) => f.mul(numbers::read(shares, a), numbers::read(shares, b)),
+    }
+}
+
+// Writes the dealing of a value, one share a party.
+fn deal(h: Header, secret: u64, coins: &[u8], from: usize, out: &mut [u8])
+    requires { ⌜ Dealing (h .field .p) (h .t) secret (numbers (now coins)) from ⌝ }
+    requires { ⌜ h .n ≤ 15 ⌝ }
+    requires { ⌜ h .n < h .field .p ⌝ }
+    requires { ⌜ length (now out) ≡ 2 * h .n ⌝ }
+    ensures { λ _. ⌜ numbers (now (out .exit)) ≡ deal (h .field .p) secret (coinsFrom (h .t) from (numbers (now (coins .entry)))) (tab suc (h .n)) ⌝ }
+{
+    let points = crate::points::points();
+    let coefficients = polynomial(h.t, secret, coins, from);
+    let top = h.t + 1;
+    let mut j: usize = 0;
+    while j < h.n {
+        let v = sharing::value(h.field, &coefficients[..top], points[j]);
+        numbers::write(out, j, v);
+        j += 1;
+    }
+}
+
+// Writes the dealing of the product at multiply gate k if party i is one of the 2t + 1 dealers.
+fn send_product(plan: &[u8], h: Header, i: usize, k: usize, coins: &[u8], shares: &[u8], out: &mut [u8])
+    requires { ⌜ Planned (now plan) h ⌝ }
+    requires { ⌜ k < multiplies (planOf (now plan)) ⌝ }
+    requires { ⌜ Coined (planOf (now plan)) i (now coins) ⌝ }
+    requires { ⌜ allBelow (planOf (now plan) .p) (numbers (now shares)) ≡ true ⌝ }
+    requires { ⌜ length (now out) ≡ 2 * cond (leb i (dealerCount (planOf (now plan)))) (partyCount (planOf (now plan))) 0 ⌝ }
+    ensures { λ _. ⌜ numbers (now (out .exit)) ≡ flatMap (λ l. l) (sendProduct (planOf (now (plan .entry))) i k (numbers (now (coins .entry))) (numbers (now (shares .entry)))) ⌝ }
+{
+    if h.t + h.t + 1 < i {
+        return;
+    }
+    let g = plan::multiply_wire(plan, h, k);
+    let secret = product(h.field, plan::gate_at(plan, g), shares);
+    let d = plan::dealings_below(plan, h, i, g);
+    deal(h, secret, coins, h.t * d, out);
+}
+
 // ---- call M + 1: the shares of the outs
 
 // Writes the share of an out that is the party's; answers the next place.
@@ -200,4 +258,63 @@ fn send_outs(plan: &[u8], h: Header, shares: &[u8], out: &mut [u8])
         at = send_outs_to(plan, h, j + 1, shares, at, out);
         j += 1;
     }
+}
+
+// ---- call M + 2: the results
+
+// The n shares of own out j, when there are `own` of them and each party sent so many.
+fn shares_of_out(n: usize, own: usize, j: usize, mail: &[u8]) -> [u64; 15]
+    requires { ⌜ n ≤ 15 ⌝ }
+    requires { ⌜ own ≤ 65536 ⌝ }
+    requires { ⌜ j < own ⌝ }
+    ensures { λ r. ⌜ take n r ≡ sharesOfOut n own j (numbers (now (mail .entry))) ⌝ }
+{
+    let mut shares = [0u64; 15];
+    let mut i: usize = 0;
+    while i < n {
+        shares[i] = numbers::read(mail, own * i + j);
+        i += 1;
+    }
+    shares
+}
+
+// The opening of own out j by the weights at 0.
+fn opening(h: Header, weights: &[u64], own: usize, j: usize, mail: &[u8]) -> u64
+    requires { ⌜ Openings h (now weights) (now mail) ⌝ }
+    requires { ⌜ own ≤ 65536 ⌝ }
+    requires { ⌜ j < own ⌝ }
+    ensures { λ r. ⌜ Is (h .field .p) (dot (h .field .p) (now (weights .entry)) (sharesOfOut (h .n) own j (numbers (now (mail .entry))))) r ⌝ }
+{
+    let shares = shares_of_out(h.n, own, j, mail);
+    let n = h.n;
+    sharing::dot(h.field, weights, &shares[..n])
+}
+
+// Writes the openings of all own outs, as many as there is room for.
+fn open_outs(h: Header, weights: &[u64], mail: &[u8], out: &mut [u8])
+    requires { ⌜ Openings h (now weights) (now mail) ⌝ }
+    requires { ⌜ length (now out) ≤ 131072 ⌝ }
+    ensures { λ _. ⌜ numbers (now (out .exit)) ≡ tab (λ j. dot (h .field .p) (now (weights .entry)) (sharesOfOut (h .n) (length (now (out .entry)) / 2) j (numbers (now (mail .entry))))) (length (now (out .entry)) / 2) ⌝ }
+{
+    let own = out.len() / 2;
+    let mut j: usize = 0;
+    while j < own {
+        let v = opening(h, weights, own, j, mail);
+        numbers::write(out, j, v);
+        j += 1;
+    }
+}
+
+// Writes the party's results: each own out opened from the shares at the first t + 1 points.
+fn results(plan: &[u8], h: Header, mail: &[u8], out: &mut [u8])
+    requires { ⌜ Planned (now plan) h ⌝ }
+    requires { ⌜ allBelow (planOf (now plan) .p) (numbers (now mail)) ≡ true ⌝ }
+    requires { ⌜ length (now out) ≤ 131072 ⌝ }
+    ensures { λ _. ⌜ numbers (now (out .exit)) ≡ openedOuts (planOf (now (plan .entry))) (length (now (out .entry)) / 2) (numbers (now (mail .entry))) ⌝ }
+{
+    let points = crate::points::points();
+    let mut weights = [0u64; 15];
+    let top = h.t + 1;
+    sharing::weights(h.field, 0, &points[..top], &mut weights[..top]);
+    open_outs(h, &weights[..top], mail, out);
 }
