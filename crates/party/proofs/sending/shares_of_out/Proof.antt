@@ -1,54 +1,44 @@
+use Prim.Native.Nat.{_-_}
+use Rattle.numbers.specs.Bytes.{numbers}
+use Rattle.party.proofs.ResultLaws.{Copied, copying}
 use Rattle.party.proofs.sending.shares_of_out.Statement.{statement}
 use Rattle.party.proofs.sending.shares_of_out.Tie as tie
-use Rattle.party.proofs.sending.shares_of_out.Reads as reads
-use Rattle.party.proofs.sending.shares_of_out.Lts as lts
-use Rattle.numbers.proofs.read.Reads as read-reads
 
 abbrev Inv-loop : tie.InvT-loop
-Inv-loop n own j mail shares₀ i₀ shares i = ?
+Inv-loop n own j mail shares₀ i₀ shares i = Copied n own j (numbers mail) shares i
 
 abbrev μ-loop : tie.MeasureT-loop
-μ-loop n own j mail shares₀ i₀ shares i = ?
+μ-loop n own j mail shares₀ i₀ shares i = n - i
 
--- src/sending.rt:273:5
 loop-holds : tie.Need-loop-holds Inv-loop μ-loop
-loop-holds c = ?
+loop-holds c = search copying
 
--- src/sending.rt:274:41
 mul-read : tie.Need-mul-read Inv-loop μ-loop
-mul-read c = ?
+mul-read c = search copying
 
--- src/sending.rt:274:41
 add-read : tie.Need-add-read Inv-loop μ-loop
-add-read c = ?
+add-read c = search copying
 
--- src/sending.rt:274:21
 read-requires : tie.Need-read-requires Inv-loop μ-loop
-read-requires c κs = ?
+read-requires c κs = search copying
 
--- src/sending.rt:274:9
 mul-shares : tie.Need-mul-shares Inv-loop μ-loop
-mul-shares c = ?
+mul-shares c = search copying
 
--- src/sending.rt:274:9
 array-write-shares : tie.Need-array-write-shares Inv-loop μ-loop
-array-write-shares c = ?
+array-write-shares c = search copying
 
--- src/sending.rt:275:9
 add-i : tie.Need-add-i Inv-loop μ-loop
-add-i c = ?
+add-i c = search copying
 
--- src/sending.rt:273:5
 loop-less : tie.Need-loop-less Inv-loop μ-loop
-loop-less c = ?
+loop-less c = search copying
 
--- src/sending.rt:273:5
 loop-again : tie.Need-loop-again Inv-loop μ-loop
-loop-again c = ?
+loop-again c = search copying
 
--- src/sending.rt:265:1
 returns : tie.Need-returns Inv-loop μ-loop
-returns c = ?
+returns c = search copying
 
 pub shares-of-out-spec : {M : Type 1} → statement M
 shares-of-out-spec =
