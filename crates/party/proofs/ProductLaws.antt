@@ -99,7 +99,7 @@ module _ (p : ℕ) (f : List ℕ) (n : ℕ) where
       → Is p (eval p (take m c) (getD pts j 0)) v → d′ ≡ stored d j v → Dealt p f n d₀ d′ (j + 1)
   deal-next pts c d₀ d d′ j v m e few to r h l is st =
       let next : Numbered (λ k. eval p f (suc k)) n d₀ d′ (j + 1) =
-        number-next (λ k. eval p f (suc k)) n d₀ d j (h .is) v d′ l (is .eq ∙ ap₂ (λ (g : List ℕ) (x : ℕ). eval p g x) to (point-at pts e n few j l)) (omega (arith, is .lt, r .small)) st in
+      number-next (λ k. eval p f (suc k)) n d₀ d j (h .is) v d′ l (is .eq ∙ ap₂ (λ (g : List ℕ) (x : ℕ). eval p g x) to (point-at pts e n few j l)) (omega (arith, is .lt, r .small)) st in
       record { within = next .within; long = next .long; is = next }
 
 pub deal-done : (p n s : ℕ) (cs d₀ d : List ℕ) (j : ℕ) → Dealt p (s ∷ cs) n d₀ d j → n ≤ j → length d₀ ≡ 2 * n → numbers d ≡ deal p s cs (tab suc n)
@@ -214,8 +214,8 @@ module _ (bs : List ℕ) (h : Header) (w : Planned bs h) (i k : ℕ) where
             let at : getD (planOf bs .gates) (multiplyWire (planOf bs) k) (Input 0) ≡ gate = ap (λ (x : ℕ). getD (planOf bs .gates) x (Input 0)) (sym eg) ∙ plan-gate w g lg ∙ sym ea in
             let long : length (numbers coins) ≡ ownCoinCount (planOf bs) i = omega (arith, numbers-length coins, c .long) in
             let cs : coinsAt (planOf bs) i (multiplyWire (planOf bs) k) (numbers coins) ≡ coinsFrom (h .t) (h .t * d) (numbers coins) =
-              coins-at (planOf bs) i (multiplyWire (planOf bs) k) (omega (arith, wire .high)) deals-here (numbers coins) long
-              ∙ ap₂ (λ (t x : ℕ). coinsFrom t (t * x) (numbers coins)) (plan-t w) (ap (dealingsBelow (planOf bs) i) (sym eg) ∙ sym ed) in
+            coins-at (planOf bs) i (multiplyWire (planOf bs) k) (omega (arith, wire .high)) deals-here (numbers coins) long
+            ∙ ap₂ (λ (t x : ℕ). coinsFrom t (t * x) (numbers coins)) (plan-t w) (ap (dealingsBelow (planOf bs) i) (sym eg) ∙ sym ed) in
             is
             ∙ sym
             (rw (dealer, at, cs, plan-p w, plan-points w, ← es .eq)

@@ -30,7 +30,7 @@ use Rattle.plan.specs.File.{planOf}
 use Rattle.plan.specs.Planned.{Planned}
 use Rattle.plan.proofs.Planned.{plan-t, plan-p, plan-n, plan-points}
 use Rattle.party.specs.Messages.{sharesOfOut}
-use Rattle.party.specs.Sending.{Openings, openedOuts}
+use Rattle.party.specs.Sending.{Openings, openedBy, openedOuts}
 use Rattle.party.proofs.PointLaws.{first-points, first-points-below}
 use Rattle.party.proofs.InputLaws.{prime-of}
 
@@ -98,3 +98,86 @@ module _ (h : Header) (ws mail : List ℕ) (o : Openings h ws mail) (own j : ℕ
   opening-is v is = record { eq = is .eq ∙ ap (dot (h .field .p) ws) e; lt = is .lt }
 
 pub ruleset opening-one = (needs, front-long, front-below, front-room, front-few, opening-is)
+
+-- ---- the openings
+-- the invariant: the first j of the own outs are opened
+pub record Opened (p : ℕ) (ws : List ℕ) (n own : ℕ) (mail d₀ d : List ℕ) (j : ℕ) : Type 0 where
+  pub within : j ≤ own
+  pub long : length d ≡ length d₀
+  pub is : Numbered (λ j. dot p ws (sharesOfOut n own j mail)) own d₀ d j
+
+module _ (p : ℕ) (ws : List ℕ) (n own : ℕ) (mail : List ℕ) where
+  pub open-none : (d : List ℕ) → own ≡ length d / 2 → Opened p ws n own mail d d 0
+  open-none d e = record { within = omega arith; long = refl; is = number-none (λ j. dot p ws (sharesOfOut n own j mail)) own d (omega arith) }
+
+  pub open-next : (d₀ d d′ : List ℕ) (j v : ℕ) → Opened p ws n own mail d₀ d j → j < own → Ready p → Is p (dot p ws (sharesOfOut n own j mail)) v → d′ ≡ stored d j v → Opened p ws n own mail d₀ d′ (j + 1)
+  open-next d₀ d d′ j v h l r is st =
+      let next : Numbered (λ j. dot p ws (sharesOfOut n own j mail)) own d₀ d′ (j + 1) =
+      number-next (λ j. dot p ws (sharesOfOut n own j mail)) own d₀ d j (h .is) v d′ l (is .eq) (omega (arith, is .lt, r .small)) st in
+      record { within = next .within; long = next .long; is = next }
+
+  pub open-done : (d₀ d : List ℕ) (j : ℕ) → Opened p ws n own mail d₀ d j → own ≤ j → own ≡ length d₀ / 2 → numbers d ≡ openedBy p ws n (length d₀ / 2) mail
+  unfolding openedBy
+  open-done d₀ d j h l e =
+      numbered-all (λ j. dot p ws (sharesOfOut n own j mail)) own d₀ d j (h .is) l (omega arith) ∙ ap (λ (m : ℕ). openedBy p ws n m mail) e
+
+pub openings-ready : (h : Header) (ws mail : List ℕ) → Openings h ws mail → Ready (h .field .p)
+openings-ready h ws mail o = o .ready
+
+pub ruleset opening-all = (needs, openings-ready, open-none, open-next, open-done)
+
+-- ---- by the weights of the first t + 1 points
+module _ (bs : List ℕ) (h : Header) (w : Planned bs h) (pts : List ℕ) (e : pts ≡ tab suc 15) where
+  low : h .t + 1 ≤ 15
+  low = omega (arith, w .majority, w .n-high)
+
+  firsts : take (h .t + 1) pts ≡ take (h .t + 1) (planOf bs .points)
+  firsts = rw (plan-points w, take-tab suc (h .n) (h .t + 1) (omega (arith, w .majority))) (first-points pts (h .t + 1) e low)
+
+  pub firsts-long : length (take (h .t + 1) pts) ≡ h .t + 1
+  firsts-long = rw (first-points pts (h .t + 1) e low) (length-tab suc (h .t + 1))
+
+  pub firsts-below : allBelow (h .field .p) (take (h .t + 1) pts) ≡ true
+  firsts-below = first-points-below pts (h .field .p) (h .t + 1) e low (omega (arith, w .majority, w .p-low))
+
+  pub zero-below : 0 < h .field .p
+  zero-below = omega (arith, w .p-low)
+
+  pub room-long : (d : List ℕ) → length d ≡ 15 → length (take (h .t + 1) d) ≡ h .t + 1
+  room-long d l = length-take-le (h .t + 1) d (omega (arith, low))
+
+  pub room-sized : (d : List ℕ) → length d ≡ 15 → length (take (h .t + 1) d) ≡ length (take (h .t + 1) pts)
+  room-sized d l = room-long d l ∙ sym firsts-long
+
+  module _ (d ys : List ℕ) (is : ys ≡ weights (h .field .p) 0 (take (h .t + 1) pts)) where
+    long : length ys ≡ h .t + 1
+    long = ap length is ∙ length-weights (h .field .p) 0 (take (h .t + 1) pts) ∙ firsts-long
+
+    front : take (h .t + 1) (ys ++ drop (h .t + 1) d) ≡ ys
+    front = take-at ys (drop (h .t + 1) d) (h .t + 1) long
+
+    pub weights-in : h .t + 1 ≤ length (ys ++ drop (h .t + 1) d)
+    weights-in = rw length-append (omega (arith, long))
+
+    pub weights-long : length (take (h .t + 1) (ys ++ drop (h .t + 1) d)) ≡ h .t + 1
+    weights-long = ap length front ∙ long
+
+    pub weights-open : (mail : List ℕ) → allBelow (planOf bs .p) (numbers mail) ≡ true → Openings h (take (h .t + 1) (ys ++ drop (h .t + 1) d)) mail
+    weights-open mail m = record {
+      ready = prime-of w;
+      few = w .n-high;
+      short = omega (arith, weights-long, w .majority);
+      weights-below = rw (front, is) (weights-below (prime-of w .prime) 0 (take (h .t + 1) pts));
+      mail-below = rw (← plan-p w) m;
+    }
+
+    pub results-are : (own : ℕ) (mail out : List ℕ) → numbers out ≡ openedBy (h .field .p) (take (h .t + 1) (ys ++ drop (h .t + 1) d)) (h .n) own mail → numbers out ≡ openedOuts (planOf bs) own mail
+    unfolding openedBy openedOuts opened interpolate
+    results-are own mail out q =
+        q
+        ∙ ap (λ (ws : List ℕ). openedBy (h .field .p) ws (h .n) own mail) (front ∙ is ∙ ap (weights (h .field .p) 0) firsts)
+        ∙ sym
+        (ap (λ (n : ℕ). tab (λ j. dot (planOf bs .p) (weights (planOf bs .p) 0 (take (planOf bs .t + 1) (planOf bs .points))) (sharesOfOut n own j mail)) own) (plan-n w)
+        ∙ ap₂ (λ (p t : ℕ). tab (λ j. dot p (weights p 0 (take (t + 1) (planOf bs .points))) (sharesOfOut (h .n) own j mail)) own) (plan-p w) (plan-t w))
+
+pub ruleset resulting = (needs, prime-of, firsts-long, firsts-below, zero-below, room-long, room-sized, weights-in, weights-long, weights-open, results-are)

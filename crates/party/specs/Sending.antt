@@ -8,6 +8,7 @@ use lib.Seq.{sets}
 use Rattle.numbers.specs.Tables.{tab}
 use Rattle.numbers.specs.Bytes.{numbers, allBelow}
 use Rattle.sharing.specs.Poly.{eval}
+use Rattle.sharing.specs.Interp.{dot}
 use Rattle.sharing.specs.Sharing.{opened}
 use Rattle.sharing.specs.Ready.{Ready}
 use Rattle.plan.specs.declared.Header.{Header}
@@ -57,6 +58,10 @@ pub record Openings (h : Header) (weights mail : List ℕ) : Type 0 where
   pub short : length weights ≤ h .n
   pub weights-below : allBelow (h .field .p) weights ≡ true
   pub mail-below : allBelow (h .field .p) (numbers mail) ≡ true
+
+-- the openings of a party's own outs by the weights ws, when there are `own` of them and n parties
+unfoldable pub openedBy : ℕ → List ℕ → ℕ → ℕ → List ℕ → List ℕ
+openedBy p ws n own mail = tab (λ j. dot p ws (sharesOfOut n own j mail)) own
 
 -- the openings of a party's own outs, when there are `own` of them
 unfoldable pub openedOuts : Plan → ℕ → List ℕ → List ℕ

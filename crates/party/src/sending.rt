@@ -20,7 +20,7 @@ ghost use Rattle.plan.specs.Plans.{partyCount, dealerCount, multiplies, isInput
 ghost use Rattle.plan.specs.File.{planOf};
 ghost use Rattle.plan.specs.Planned.{Planned};
 ghost use Rattle.party.specs.Messages.{productAt, sendInputs, sendProduct, sendOuts, sharesOfOut};
-ghost use Rattle.party.specs.Sending.{Sent, Dealing, Coined, Own, Openings, Lent, coinsFrom, inputShares, outShares, openedOuts};
+ghost use Rattle.party.specs.Sending.{Sent, Dealing, Coined, Own, Openings, Lent, coinsFrom, inputShares, outShares, openedBy, openedOuts};
 
 // The coefficients of a dealing: the dealt value, then t coins.
 fn polynomial(t: usize, secret: u64, coins: &[u8], at: usize) -> [u64; 8]
@@ -193,7 +193,15 @@ fn deal(h: Header, secret: u64, coins: &[u8], from: usize, out: &mut [u8])
 }
 
 // Writes the dealing of the product at multiply gate k if party i is one of the 2t + 1 dealers.
-fn send_product(plan: &[u8], h: Header, i: usize, k: usize, coins: &[u8], shares: &[u8], out: &mut [u8])
+fn send_product(
+    plan: &[u8],
+    h: Header,
+    i: usize,
+    k: usize,
+    coins: &[u8],
+    shares: &[u8],
+    out: &mut [u8],
+)
     requires { ⌜ Planned (now plan) h ⌝ }
     requires { ⌜ k < multiplies (planOf (now plan)) ⌝ }
     requires { ⌜ Coined (planOf (now plan)) i (now coins) ⌝ }
@@ -294,7 +302,7 @@ fn opening(h: Header, weights: &[u64], own: usize, j: usize, mail: &[u8]) -> u64
 fn open_outs(h: Header, weights: &[u64], mail: &[u8], out: &mut [u8])
     requires { ⌜ Openings h (now weights) (now mail) ⌝ }
     requires { ⌜ length (now out) ≤ 131072 ⌝ }
-    ensures { λ _. ⌜ numbers (now (out .exit)) ≡ tab (λ j. dot (h .field .p) (now (weights .entry)) (sharesOfOut (h .n) (length (now (out .entry)) / 2) j (numbers (now (mail .entry))))) (length (now (out .entry)) / 2) ⌝ }
+    ensures { λ _. ⌜ numbers (now (out .exit)) ≡ openedBy (h .field .p) (now (weights .entry)) (h .n) (length (now (out .entry)) / 2) (numbers (now (mail .entry))) ⌝ }
 {
     let own = out.len() / 2;
     let mut j: usize = 0;

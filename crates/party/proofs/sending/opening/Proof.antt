@@ -12,7 +12,7 @@ slice-aggregate-dot : tie.Need-slice-aggregate-dot
 slice-aggregate-dot c = search opening-one
 
 dot-requires : tie.Need-dot-requires
-dot-requires c κs = search opening-one
+dot-requires c κs = (search opening-one, (search opening-one, (search opening-one, (search opening-one, search opening-one))))
 
 returns : tie.Need-returns
 returns c = search opening-one
