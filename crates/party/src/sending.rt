@@ -19,7 +19,8 @@ ghost use Rattle.sharing.specs.Ready.{Ready};
 ghost use Rattle.plan.specs.Plans.{partyCount, dealerCount, multiplies, isInputOf, deals, inputWires, outWires, ownInputCount};
 ghost use Rattle.plan.specs.File.{planOf};
 ghost use Rattle.plan.specs.Planned.{Planned};
-ghost use Rattle.party.specs.Messages.{productAt, sendInputs, sendProduct, sendOuts, sharesOfOut};
+ghost use Rattle.party.specs.Calls.{written};
+ghost use Rattle.party.specs.Messages.{callWith, productAt, sendInputs, sendProduct, sendOuts, sharesOfOut};
 ghost use Rattle.party.specs.Sending.{Sent, Dealing, Coined, Own, Openings, Lent, coinsFrom, inputShares, outShares, openedBy, openedOuts};
 
 // The coefficients of a dealing: the dealt value, then t coins.
@@ -325,4 +326,28 @@ fn results(plan: &[u8], h: Header, mail: &[u8], out: &mut [u8])
     let top = h.t + 1;
     sharing::weights(h.field, 0, &points[..top], &mut weights[..top]);
     open_outs(h, &weights[..top], mail, out);
+}
+
+// ---- the call
+
+// Writes what party i's call number k sends, or in the last call its results.
+pub fn send(plan: &[u8], h: Header, i: usize, k: usize, inputs: &[u8], coins: &[u8], shares: &[u8], mail: &[u8], out: &mut [u8])
+    requires { ⌜ Planned (now plan) h ⌝ }
+    requires { ⌜ Lent (planOf (now plan)) i k (now inputs) (now coins) (now shares) (now mail) (now out) ⌝ }
+    ensures { λ _. ⌜ numbers (now (out .exit)) ≡ written (planOf (now (plan .entry))) k (callWith (planOf (now (plan .entry))) i k (numbers (now (inputs .entry))) (numbers (now (coins .entry))) (numbers (now (shares .entry))) (numbers (now (mail .entry)))) ⌝ }
+{
+    if k == 0 {
+        send_inputs(plan, h, i, inputs, coins, out);
+        return;
+    }
+    let m = plan::multiply_count(plan, h);
+    if k <= m {
+        send_product(plan, h, i, k - 1, coins, shares, out);
+        return;
+    }
+    if k == m + 1 {
+        send_outs(plan, h, shares, out);
+        return;
+    }
+    results(plan, h, mail, out);
 }
