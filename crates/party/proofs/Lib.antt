@@ -5,3 +5,4 @@ pub mod InputLaws
 pub mod OutLaws
 pub mod ProductLaws
 pub mod ResultLaws
+pub mod WrittenLaws
