@@ -1,3 +1,3 @@
 pub mod Messages
 pub mod Calls
-pub mod Lent
+pub mod Sending
