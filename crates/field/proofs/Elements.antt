@@ -6,30 +6,30 @@ use native.Mathlib.Nat.{mod-lt, div-lt-self}
 use native.Mathlib.Omega.{arith}
 use borrow.Author.Needs.{needs}
 use borrow.Author.Tests.{ltb-true, lt-ltb, le-ltb}
-use lib.Dec.{T, ltb}
+use lib.Dec.{ltb}
 use Rattle.field.specs.declared.Field.{Field}
 use Rattle.field.specs.declared.Made.{Made}
 use Rattle.field.specs.declared.Made.the-variants as made
 use Rattle.field.specs.Mod.{add, mul, sub}
 use Rattle.field.specs.Prime.{isPrime, Prime, inv}
-use Rattle.field.specs.Field.{fieldLimit, madeOf, Below1, Below2, Is}
+use Rattle.field.specs.Field.{fieldLimit, madeOf, Is}
 use Rattle.field.proofs.Solve.{sub-down, sub-over, #, quote, solve}
 use Rattle.field.proofs.Primes.{prime-sound}
 use Rattle.field.proofs.Inverse.{inv-canon, inv-step, inv-small}
 use Rattle.field.proofs.Products.{word}
 
 -- ---- the constructor
-pub made-above : (p : ℕ) → 65536 ≤ p → made.Refused ≡ madeOf p
+pub made-above : (p : ℕ) → fieldLimit ≤ p → made.Refused ≡ madeOf p
 unfolding madeOf
-made-above p h = rw (le-ltb p 65536 h)
+made-above p h = rw (le-ltb p fieldLimit h)
 
-pub made-field : (p : ℕ) (b : Bool) → p < 65536 → b ≡ isPrime p → b ≡ true → made.Field (record { p = p }) ≡ madeOf p
+pub made-field : (p : ℕ) (b : Bool) → p < fieldLimit → b ≡ isPrime p → b ≡ true → made.Field (record { p = p }) ≡ madeOf p
 unfolding madeOf
-made-field p b h e t = rw (lt-ltb p 65536 h, ← e, t)
+made-field p b h e t = rw (lt-ltb p fieldLimit h, ← e, t)
 
-pub made-refused : (p : ℕ) (b : Bool) → p < 65536 → b ≡ isPrime p → b ≡ false → made.Refused ≡ madeOf p
+pub made-refused : (p : ℕ) (b : Bool) → p < fieldLimit → b ≡ isPrime p → b ≡ false → made.Refused ≡ madeOf p
 unfolding madeOf
-made-refused p b h e t = rw (lt-ltb p 65536 h, ← e, t)
+made-refused p b h e t = rw (lt-ltb p fieldLimit h, ← e, t)
 
 -- a field that was made has a prime below the limit
 pub made-prime : (p : ℕ) (f : Field) → madeOf p ≡ made.Field f → (f .p ≡ p) × Prime p × (p < fieldLimit)
@@ -40,6 +40,28 @@ made-prime p f h = pick (ltb p fieldLimit) (isPrime p) refl refl h
     pick true true e q h = let same : _≡_ {A = Field} (record { p = p }) f = cc in (sym (ap (λ g. g .p) same), prime-sound p (rw q tt), ltb-true p fieldLimit e)
     pick true false e q h = let z : _≡_ {A = ℕ} 0 1 = cc in absurd (omega arith)
     pick false c e q h = let z : _≡_ {A = ℕ} 0 1 = cc in absurd (omega arith)
+
+-- the same for a caller of `Field::new`, whose answer is o
+module _ (p : ℕ) (f : Field) (o : Made) (new : o ≡ madeOf p) (field : o ≡ made.Field f) where
+  facts : (f .p ≡ p) × Prime p × (p < fieldLimit)
+  facts = made-prime p f (sym new ∙ field)
+
+  pub new-same : f .p ≡ p
+  new-same = facts .0
+
+  pub new-prime : Prime (f .p)
+  new-prime = rw new-same (facts .1)
+
+  pub new-small : f .p < fieldLimit
+  new-small = rw new-same (facts .2)
+
+  pub new-above : 1 < f .p
+  new-above = new-prime .above
+
+  pub new-positive : 0 < f .p
+  new-positive = omega (arith, new-above)
+
+pub ruleset made-new = (needs, new-same, new-prime, new-small, new-above, new-positive)
 
 -- ---- the methods
 pub is-element : (p x : ℕ) → 0 < p → Is p (x % p) (x % p)
@@ -63,6 +85,22 @@ pub product-fits : (p a b : ℕ) → p < fieldLimit → a < p → b < p → a * 
 product-fits p a b small l r = omega (arith, word a b (omega arith) (omega arith))
 
 pub ruleset methods = (needs, product-fits, is-element, is-add, is-mul, is-sub-down, is-sub-over, made-above, made-field, made-refused)
+
+-- for a caller: a method's result, where its arguments are results
+pub is-itself : (p a : ℕ) → a < p → Is p a a
+is-itself p a h = record { eq = refl; lt = h }
+
+module _ (p u v a b r : ℕ) where
+  pub add-of : Is p (add p a b) r → Is p u a → Is p v b → Is p (add p u v) r
+  add-of e l k = record { eq = e .eq ∙ rw (l .eq, k .eq); lt = e .lt }
+
+  pub sub-of : Is p (sub p a b) r → Is p u a → Is p v b → Is p (sub p u v) r
+  sub-of e l k = record { eq = e .eq ∙ rw (l .eq, k .eq); lt = e .lt }
+
+  pub mul-of : Is p (mul p a b) r → Is p u a → Is p v b → Is p (mul p u v) r
+  mul-of e l k = record { eq = e .eq ∙ rw (l .eq, k .eq); lt = e .lt }
+
+pub ruleset combined = (needs, is-itself, add-of, sub-of, mul-of)
 
 -- ---- the loop of `inverse`: acc / r is the inverse
 pub record Inverting (p a acc r : ℕ) : Type 0 where

@@ -1,13 +1,13 @@
 -- The laws of the inverse.
-use mathlib.Core.Path.{_≡_, refl, sym, ap, _∙_, subst}
-use mathlib.Core.Logic.{_≢_, _⊎_, inl, inr}
-use native.Mathlib.Decide.{decLe, ℕ-discrete}
-use mathlib.Core.Bool.{Bool, true, false, not, _&&_}
-use Prim.Native.Nat.{ℕ, zero, suc, _+_, _*_, _-_, _/_, _%_, _≤_, _<_}
-use native.Mathlib.Nat.{zero-mul, lt-of-mul-lt-mul-right, mul-le-mul-left, mul-le-mul-right, mul-le-mul-left, eq-or-lt-of-le, mod-lt, mod-eq-of-lt, div-add-mod', zero-mod, mul-le-mul, mul-mod-left}
+use mathlib.Core.Path.{_≡_, refl, sym, ap, _∙_}
+use mathlib.Core.Logic.{_≢_}
+use native.Mathlib.Decide.{decLe}
+use mathlib.Core.Bool.{Bool, true, false}
+use Prim.Native.Nat.{ℕ, zero, suc, _+_, _*_, _/_, _%_, _≤_, _<_}
+use native.Mathlib.Nat.{mod-lt, mod-eq-of-lt, div-add-mod'}
 use native.Mathlib.Omega.{arith}
-use lib.Dec.{T, ltb, eqb, ltb→lt, lt→ltb, eqb→eq, eqb-refl, nltb→le, T-not, not-T}
-use Rattle.field.proofs.Solve.{Same, same, same-by, multiples, turn, _⨾_, plus, cancel, times, mod-same, add-same, mul-same, sub-same, Canon, below, mul-canon, mod-canon, sub-canon, add-canon, zero-canon, canon-same, canon-lt, #, quote, solve, combine}
+use lib.Dec.{T, ltb, ltb→lt, lt→ltb, nltb→le}
+use Rattle.field.proofs.Solve.{same, same-by, turn, _⨾_, plus, add-same, mul-same, Canon, below, mod-canon, sub-canon, add-canon, zero-canon, canon-same, #, quote, solve, combine}
 use Rattle.field.specs.Mod.{add, mul, sub}
 use Rattle.field.specs.Prime.{Prime, invert, inv}
 

@@ -1,23 +1,24 @@
 -- Lists whose numbers are below p.
---     allBelow-at, at-allBelow             every number is below p exactly where each is
---     allBelow-append, allBelow-drop       of lists in parts
---     firstOver-nothing, nothing-firstOver none is found exactly where every number is below p
---     firstOver-at                         the one that is found
+--     allBelow-at, at-allBelow                          all are below p exactly where each is
+--     allBelow-append, -take, -drop, -set, -tab, -more  of other lists and bounds
+--     allBelow-next, -over, -end                        what a loop over the numbers learns
+--     firstOver-nothing, nothing-firstOver              none is found exactly where all are below p
+--     firstOver-at, at-firstOver                        the one that is found
 -- Assumes nothing.
-use mathlib.Core.Path.{_≡_, refl, sym, ap, _∙_}
+use mathlib.Core.Path.{_≡_, refl}
 use mathlib.Core.Bool.{Bool, true, false, cond, _&&_}
 use mathlib.Core.List.{List, [], _∷_, _++_}
-use Prim.Native.Nat.{ℕ, zero, suc, _+_, _-_, _<_, _≤_}
+use Prim.Native.Nat.{ℕ, zero, suc, _+_, _<_, _≤_}
 use native.Mathlib.Numerals.{add-one}
 use native.Mathlib.Omega.{arith}
 use borrow.Author.Tests.{ltb-true, ltb-false, lt-ltb, le-ltb}
 use lib.Dec.{ltb}
-use lib.ListN.{length, getD, take, drop, drop-of-length-le}
+use lib.ListN.{length, getD, take, drop, set, drop-of-length-le}
 use lib.Seq.{drop-cons}
+use Rattle.numbers.specs.Tables.{tab}
 use Rattle.numbers.specs.Bytes.{firstOver, allBelow}
-use Rattle.numbers.specs.declared.Found.{Found}
 use Rattle.numbers.specs.declared.Found.the-variants.{At, Nothing}
-use Rattle.numbers.proofs.Searches.{First, nothing-passes, passes-nothing, first-failing}
+use Rattle.numbers.proofs.Searches.{First, nothing-passes, passes-nothing, first-failing, failing-first}
 use Rattle.numbers.proofs.Bytes.{EachBelow}
 
 both : (a b : Bool) → cond a b false ≡ true → (a ≡ true) × (b ≡ true)
@@ -43,6 +44,37 @@ pub allBelow-append : (p : ℕ) (xs ys : List ℕ) → allBelow p (xs ++ ys) ≡
 unfolding allBelow
 allBelow-append p [] ys = refl
 allBelow-append p (x ∷ xs) ys = rw (allBelow-append p xs ys) (and-cond (ltb x p) (allBelow p xs) (allBelow p ys))
+
+pub allBelow-take : (p n : ℕ) (xs : List ℕ) → allBelow p xs ≡ true → allBelow p (take n xs) ≡ true
+unfolding allBelow
+allBelow-take p zero xs h = refl
+allBelow-take p (suc n) [] h = refl
+allBelow-take p (suc n) (x ∷ xs) h =
+    let w : (ltb x p ≡ true) × (allBelow p xs ≡ true) = both (ltb x p) (allBelow p xs) h in
+    rw (w .0, allBelow-take p n xs (w .1))
+
+pub allBelow-drop : (p n : ℕ) (xs : List ℕ) → allBelow p xs ≡ true → allBelow p (drop n xs) ≡ true
+unfolding allBelow
+allBelow-drop p zero xs h = h
+allBelow-drop p (suc n) [] h = refl
+allBelow-drop p (suc n) (x ∷ xs) h = allBelow-drop p n xs (both (ltb x p) (allBelow p xs) h .1)
+
+pub allBelow-set : (p i v : ℕ) (xs : List ℕ) → allBelow p xs ≡ true → v < p → allBelow p (set xs i v) ≡ true
+unfolding allBelow
+allBelow-set p i v [] h l = refl
+allBelow-set p zero v (x ∷ xs) h l = rw (lt-ltb v p l) (both (ltb x p) (allBelow p xs) h .1)
+allBelow-set p (suc i) v (x ∷ xs) h l =
+    let w : (ltb x p ≡ true) × (allBelow p xs ≡ true) = both (ltb x p) (allBelow p xs) h in
+    rw (w .0, allBelow-set p i v xs (w .1) l)
+
+pub allBelow-tab : (p : ℕ) (f : ℕ → ℕ) (n : ℕ) → ((i : ℕ) → i < n → f i < p) → allBelow p (tab f n) ≡ true
+unfolding allBelow tab
+allBelow-tab p f zero h = refl
+allBelow-tab p f (suc n) h = rw (lt-ltb (f 0) p (h 0 (omega arith)), allBelow-tab p (λ k. f (suc k)) n (λ i l. h (suc i) (omega arith)))
+
+-- a greater bound
+pub allBelow-more : (p q : ℕ) (xs : List ℕ) → p ≤ q → allBelow p xs ≡ true → allBelow q xs ≡ true
+allBelow-more p q xs l h = at-allBelow q xs (λ i m. omega (arith, allBelow-at p xs i h m))
 
 -- ---- what a loop over the numbers from i on learns at i
 module _ (p : ℕ) (xs : List ℕ) (i : ℕ) where
@@ -78,3 +110,9 @@ unfolding firstOver
 firstOver-at p xs i h =
     let w : First (λ k. ltb (getD xs k 0) p) (length xs) i = first-failing (λ k. ltb (getD xs k 0) p) (length xs) i h in
     record { within = w .within; over = ltb-false (getD xs i 0) p (w .fails); before = λ k l. ltb-true (getD xs k 0) p (w .before k l) }
+
+pub at-firstOver : (p : ℕ) (xs : List ℕ) (i : ℕ) → FirstOver p xs i → firstOver p xs ≡ At i
+unfolding firstOver
+at-firstOver p xs i w =
+    failing-first (λ k. ltb (getD xs k 0) p) (length xs) i
+    (record { within = w .within; fails = le-ltb (getD xs i 0) p (w .over); before = λ k l. lt-ltb (getD xs k 0) p (w .before k l) })

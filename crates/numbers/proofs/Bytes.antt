@@ -1,22 +1,27 @@
 -- Laws of numbers in bytes.
---     numbers-length, getD-numbers, numbers-cons, numbers-part      what the numbers of bytes are
---     length-stored, numbers-stored, word-stored                    the bytes after a store
---     length-bytesOf, bytesOf-append, numbers-of-bytes, bytes-of-numbers, part-stored     there and back
+--     numbers-length, getD-numbers, numbers-cons, numbers-append      what the numbers of bytes are
+--     numbers-part, numbers-drop, numbers-slice                       the numbers of a part
+--     holds-length, length-holds                                      a list of k numbers
+--     length-stored, numbers-stored, word-stored, take-stored         the bytes after a store
+--     length-bytesOf, bytesOf-append, take-bytesOf, drop-bytesOf      a list as bytes
+--     numbers-of-bytes, bytes-of-numbers                              there and back
 -- Assumes nothing.
 use mathlib.Core.Path.{_≡_, refl, sym, ap, ap₂, subst, _∙_}
-use mathlib.Core.Logic.{_≢_, ⊎-elim}
-use mathlib.Core.Bool.{Bool, true, false, cond}
+use mathlib.Core.Logic.{_≢_}
+use mathlib.Core.Bool.{Bool, true, false}
 use mathlib.Core.List.{List, [], _∷_, _++_, append-assoc}
 use Prim.Native.Nat.{ℕ, zero, suc, _+_, _-_, _*_, _/_, _%_, _<_, _≤_, min}
 use native.Mathlib.Nat.{mod-eq-of-lt}
 use native.Mathlib.Numerals.{add-one}
 use native.Mathlib.Omega.{arith}
-use borrow.Author.Tests.{leb-true, leb-false, ltb-true, ltb-false, eqb-true, eqb-false, le-leb, lt-leb}
+use borrow.Author.Tests.{leb-true, leb-false, ltb-true, ltb-false, eqb-true, eqb-false, eq-eqb, le-leb, lt-leb}
 use lib.Dec.{leb, ltb, eqb}
-use lib.ListN.{length, getD, take, drop, set, length-append, length-take, length-drop, length-set, List·getD-eq-default}
-use lib.Seq.{ext-getD, getD-take, getD-drop, getD-set-same, getD-set-other, set-out, take-suc-set, drop-set-lt}
+use lib.ListN.{length, getD, take, drop, set, length-take, length-drop, length-set, List·getD-eq-default}
+use lib.Seq.{ext-getD, getD-take, getD-drop, getD-set-same, getD-set-other, set-out, take-suc-set, drop-set-lt, take-all, take-nil, drop-nil}
+use mir.Syntax.{w8}
+use mir.Val.{Fits}
 use Rattle.numbers.specs.Tables.{tab}
-use Rattle.numbers.specs.Bytes.{wordAt, width, limit, numbers, bytesOf, holdsCount, stored}
+use Rattle.numbers.specs.Bytes.{wordAt, numbers, bytesOf, holdsCount, stored}
 use Rattle.numbers.proofs.Tables.{tab-cons, tab-ext, length-tab, getD-tab}
 
 -- ---- the numbers of bytes
@@ -55,7 +60,19 @@ numbers-cons a b bs =
     ∙ ap (λ (l : List ℕ). (a + 256 * b) ∷ l)
     (tab-ext (λ k. wordAt (a ∷ b ∷ bs) (2 * suc k)) (λ k. wordAt bs (2 * k)) (length bs / 2) (λ k l. word-shift a b bs k))
 
--- numbers of a part of the bytes
+-- ---- a list of k numbers
+pub holds-length : (k : ℕ) (bs : List ℕ) → holdsCount k bs ≡ true → length bs ≡ 2 * k
+unfolding holdsCount
+holds-length k bs h = eqb-true (length bs) (2 * k) h
+
+pub length-holds : (k : ℕ) (bs : List ℕ) → length bs ≡ 2 * k → holdsCount k bs ≡ true
+unfolding holdsCount
+length-holds k bs e = eq-eqb (length bs) (2 * k) e
+
+pub holds-numbers : (k : ℕ) (bs : List ℕ) → holdsCount k bs ≡ true → length (numbers bs) ≡ k
+holds-numbers k bs h = omega (arith, numbers-length bs, holds-length k bs h)
+
+-- ---- numbers of a part of the bytes
 pub word-part : (bs : List ℕ) (a k j : ℕ) → j < k → wordAt (take (2 * k) (drop (2 * a) bs)) (2 * j) ≡ wordAt bs (2 * (a + j))
 unfolding wordAt
 word-part bs a k j l =
@@ -81,6 +98,25 @@ module _ (bs : List ℕ) (a k : ℕ) where
       getD-numbers (take (2 * k) (drop (2 * a) bs)) j m
       ∙ word-part bs a k j n
       ∙ sym (getD-take k (drop a (numbers bs)) j 0 n ∙ getD-drop a (numbers bs) j 0 ∙ getD-numbers bs (a + j) o))
+
+pub numbers-drop : (bs : List ℕ) (a : ℕ) → numbers (drop (2 * a) bs) ≡ drop a (numbers bs)
+numbers-drop bs a =
+    let l : length (drop (2 * a) bs) ≤ 2 * length bs = rw length-drop (omega arith) in
+    let m : length (drop a (numbers bs)) ≤ length bs = rw (length-drop, numbers-length) (omega arith) in
+    ap numbers (sym (take-all (2 * length bs) (drop (2 * a) bs) l)) ∙ numbers-part bs a (length bs) ∙ take-all (length bs) (drop a (numbers bs)) m
+
+-- the same for a part from a to e, in the code's terms
+pub numbers-slice : (bs : List ℕ) (a e x y : ℕ) → a ≡ 2 * x → e ≡ 2 * y → numbers (take (e - a) (drop a bs)) ≡ take (y - x) (drop x (numbers bs))
+numbers-slice bs a e x y p q =
+    let r : e - a ≡ 2 * (y - x) = omega arith in
+    rw (r, p) (numbers-part bs x (y - x))
+
+pub numbers-append : (k : ℕ) (xs ys : List ℕ) → length xs ≡ 2 * k → numbers (xs ++ ys) ≡ numbers xs ++ numbers ys
+numbers-append zero [] ys e = sym (ap (λ (l : List ℕ). l ++ numbers ys) numbers-nil)
+numbers-append zero (x ∷ xs) ys e = absurd (omega arith)
+numbers-append (suc k) [] ys e = absurd (omega arith)
+numbers-append (suc k) (a ∷ []) ys e = absurd (omega arith)
+numbers-append (suc k) (a ∷ b ∷ xs) ys e = rw (numbers-cons a b (xs ++ ys), numbers-cons a b xs, numbers-append k xs ys (omega arith))
 
 -- ---- a store
 pub stored-in : (bs : List ℕ) (i v : ℕ) → 2 * i + 2 ≤ length bs → set (set bs (2 * i) (v % 256)) (2 * i + 1) (v / 256 % 256) ≡ stored bs i v
@@ -174,9 +210,35 @@ unfolding bytesOf
 bytesOf-append [] ys = refl
 bytesOf-append (x ∷ xs) ys = ap (λ (l : List ℕ). x % 256 ∷ x / 256 % 256 ∷ l) (bytesOf-append xs ys)
 
+pub take-bytesOf : (k : ℕ) (xs : List ℕ) → take (2 * k) (bytesOf xs) ≡ bytesOf (take k xs)
+unfolding bytesOf
+take-bytesOf zero xs = refl
+take-bytesOf (suc k) [] = take-nil (2 * suc k)
+take-bytesOf (suc k) (x ∷ xs) =
+    let e : 2 * suc k ≡ suc (suc (2 * k)) = omega arith in
+    rw (e, take-bytesOf k xs)
+
+pub drop-bytesOf : (k : ℕ) (xs : List ℕ) → drop (2 * k) (bytesOf xs) ≡ bytesOf (drop k xs)
+unfolding bytesOf
+drop-bytesOf zero xs = refl
+drop-bytesOf (suc k) [] = drop-nil (2 * suc k)
+drop-bytesOf (suc k) (x ∷ xs) =
+    let e : 2 * suc k ≡ suc (suc (2 * k)) = omega arith in
+    rw (e, drop-bytesOf k xs)
+
 -- every entry is below p
 abbrev pub EachBelow : ℕ → List ℕ → Type 0
 EachBelow p xs = (i : ℕ) → i < length xs → getD xs i 0 < p
+
+-- what a slice's `slice-known` gives of its bytes
+pub fits-below : (bs : List ℕ) → ((i : ℕ) → Fits w8 (getD bs i 0)) → EachBelow 256 bs
+fits-below bs h i l = h i .fits
+
+pub numbers-below : (bs : List ℕ) → EachBelow 256 bs → EachBelow 65536 (numbers bs)
+unfolding wordAt
+numbers-below bs h i l =
+    let m : i < length bs / 2 = rw numbers-length at l in
+    rw (getD-numbers bs i m) (omega (arith, h (2 * i) (omega arith), h (2 * i + 1) (omega arith)))
 
 pub numbers-of-bytes : (xs : List ℕ) → EachBelow 65536 xs → numbers (bytesOf xs) ≡ xs
 unfolding bytesOf

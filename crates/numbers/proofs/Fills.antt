@@ -3,17 +3,17 @@
 --     Stored, storing        a list of numbers that is lent as bytes: number i is stored by `write`
 -- Assumes nothing.
 use mathlib.Core.Path.{_≡_, refl, sym, ap, _∙_}
-use mathlib.Core.List.{List, [], _∷_, _++_, append-nil}
-use Prim.Native.Nat.{ℕ, zero, suc, _+_, _-_, _*_, _/_, _<_, _≤_}
+use mathlib.Core.List.{List, _++_}
+use Prim.Native.Nat.{ℕ, _+_, _*_, _/_, _<_, _≤_}
 use native.Mathlib.Numerals.{add-one}
 use native.Mathlib.Omega.{arith}
 use borrow.Author.Needs.{needs}
-use lib.ListN.{length, take, drop, set, length-set, take-append-drop}
+use lib.ListN.{length, take, drop, set, take-append-drop}
 use lib.Seq.{take-suc-set, take-all, drop-set-lt, drop-drop}
 use Rattle.numbers.specs.Tables.{tab}
 use Rattle.numbers.specs.Bytes.{numbers, bytesOf, stored}
-use Rattle.numbers.proofs.Tables.{tab-zero, tab-next}
-use Rattle.numbers.proofs.Bytes.{numbers-length, length-stored, numbers-stored, take-stored, drop-stored, bytesOf-nil, bytesOf-append}
+use Rattle.numbers.proofs.Tables.{tab-next}
+use Rattle.numbers.proofs.Bytes.{numbers-length, length-stored, numbers-stored, take-stored, drop-stored, bytesOf-append}
 
 -- the invariant of a loop over d, which was d₀
 pub record Filled {A : Type 0} (f : ℕ → A) (d₀ d : List A) (i : ℕ) : Type 0 where
@@ -56,6 +56,9 @@ module _ (f : ℕ → ℕ) where
   unfolding tab bytesOf
   store-none n d l = record { within = omega arith; room = l; long = refl; front = refl; rest = refl }
 
+  pub store-none-whole : (n : ℕ) (d : List ℕ) → length d ≡ 2 * n → Stored f n d d 0
+  store-none-whole n d e = store-none n d (omega arith)
+
   module _ (n : ℕ) (d₀ d : List ℕ) (i : ℕ) (h : Stored f n d₀ d i) where
     pub store-next : (v : ℕ) (e : List ℕ) → i < n → v ≡ f i → e ≡ stored d i v → Stored f n d₀ e (i + 1)
     store-next v e l is to = record {
@@ -77,7 +80,7 @@ module _ (f : ℕ → ℕ) where
     stored-part l = sym (take-append-drop (2 * i) d) ∙ rw (h .front, h .rest, stood l)
 
 -- what closes each need of such a loop
-pub ruleset storing = (needs, store-none, store-next, stored-all, stored-part)
+pub ruleset storing = (needs, store-none, store-none-whole, store-next, stored-all, stored-part)
 
 -- the same of the numbers, where each is below 65536
 pub record Numbered (f : ℕ → ℕ) (n : ℕ) (d₀ d : List ℕ) (i : ℕ) : Type 0 where
@@ -91,6 +94,9 @@ module _ (f : ℕ → ℕ) where
   pub number-none : (n : ℕ) (d : List ℕ) → n ≤ length d / 2 → Numbered f n d d 0
   unfolding tab
   number-none n d l = record { within = omega arith; room = l; long = refl; front = refl; rest = refl }
+
+  pub number-none-whole : (n : ℕ) (d : List ℕ) → length d ≡ 2 * n → Numbered f n d d 0
+  number-none-whole n d e = number-none n d (omega arith)
 
   module _ (n : ℕ) (d₀ d : List ℕ) (i : ℕ) (h : Numbered f n d₀ d i) where
     behind : drop (i + 1) (numbers d) ≡ drop (i + 1) (numbers d₀)
@@ -113,8 +119,11 @@ module _ (f : ℕ → ℕ) where
     pub numbered-all : n ≤ i → length d₀ / 2 ≡ n → numbers d ≡ tab f n
     numbered-all l e = sym (take-all i (numbers d) (omega (arith, h .long, numbers-length d))) ∙ h .front ∙ ap (tab f) (reached l)
 
+    pub numbered-whole : n ≤ i → length d₀ ≡ 2 * n → numbers d ≡ tab f n
+    numbered-whole l e = numbered-all l (omega arith)
+
     pub numbered-part : n ≤ i → numbers d ≡ tab f n ++ drop n (numbers d₀)
     numbered-part l = sym (take-append-drop i (numbers d)) ∙ rw (h .front, h .rest, reached l)
 
 -- what closes each need of such a loop
-pub ruleset numbering = (needs, number-none, number-next, numbered-all, numbered-part)
+pub ruleset numbering = (needs, number-none, number-none-whole, number-next, numbered-all, numbered-whole, numbered-part)

@@ -5,12 +5,13 @@
 -- Assumes nothing.
 use mathlib.Core.Path.{_≡_, refl, sym, ap, subst, _∙_}
 use mathlib.Core.Logic.{⊎-elim}
-use mathlib.Core.Bool.{Bool, true, false, cond}
+use mathlib.Core.Bool.{Bool, true, false, cond, not}
 use Prim.Native.Nat.{ℕ, zero, suc, _+_, _-_, _<_, _≤_}
 use native.Mathlib.Numerals.{add-one}
 use native.Mathlib.Nat.{eq-or-lt-of-le}
 use native.Mathlib.Omega.{arith}
 use borrow.Author.Needs.{needs}
+use borrow.Author.Tests.{not-true, not-false}
 use Rattle.numbers.specs.Tables.{firstFrom, firstFailing}
 use Rattle.numbers.specs.declared.Found.{Found}
 use Rattle.numbers.specs.declared.Found.the-variants.{At, Nothing}
@@ -20,9 +21,9 @@ pub record Seeking (ok : ℕ → Bool) (n i : ℕ) : Type 0 where
   pub within : i ≤ n
   pub rest : firstFrom ok (n - i) i ≡ firstFailing ok n
 
-pub begin : (ok : ℕ → Bool) (n : ℕ) → firstFrom ok (n - 0) 0 ≡ firstFailing ok n
+pub begin : (ok : ℕ → Bool) (n : ℕ) → Seeking ok n 0
 unfolding firstFailing
-begin ok n = let e : n - 0 ≡ n = omega arith in rw e
+begin ok n = let e : n - 0 ≡ n = omega arith in record { within = omega arith; rest = rw e }
 
 module _ (ok : ℕ → Bool) (n i : ℕ) (h : Seeking ok n i) where
   one : i < n → n - i ≡ suc (n - (i + 1))
@@ -32,16 +33,29 @@ module _ (ok : ℕ → Bool) (n i : ℕ) (h : Seeking ok n i) where
   unfolding firstFrom
   found l t = rw (← h .rest, one l, t)
 
-  pub passed : i < n → ok i ≡ true → firstFrom ok (n - (i + 1)) (i + 1) ≡ firstFailing ok n
+  pub passed : i < n → ok i ≡ true → Seeking ok n (i + 1)
   unfolding firstFrom
-  passed l t = rw (← h .rest, one l, t, add-one)
+  passed l t = record { within = omega arith; rest = rw (← h .rest, one l, t, add-one) }
 
   pub nothing : n ≤ i → Nothing ≡ firstFailing ok n
   unfolding firstFrom
   nothing l = let e : n - i ≡ 0 = omega arith in rw (← h .rest, e)
 
--- what closes the needs of such a loop, given its test by `found` and `passed`
-pub ruleset seeking = (needs, begin, nothing)
+  -- the same where a callee answers the test, and the code asks it or its negation
+  pub found-by : (t : Bool) → i < n → t ≡ ok i → t ≡ false → At i ≡ firstFailing ok n
+  found-by t l is e = found l (sym is ∙ e)
+
+  pub found-not : (t : Bool) → i < n → t ≡ ok i → not t ≡ true → At i ≡ firstFailing ok n
+  found-not t l is e = found l (sym is ∙ not-true t e)
+
+  pub passed-by : (t : Bool) → i < n → t ≡ ok i → t ≡ true → Seeking ok n (i + 1)
+  passed-by t l is e = passed l (sym is ∙ e)
+
+  pub passed-not : (t : Bool) → i < n → t ≡ ok i → not t ≡ false → Seeking ok n (i + 1)
+  passed-not t l is e = passed l (sym is ∙ not-false t e)
+
+-- what closes each need of such a loop
+pub ruleset seeking = (needs, begin, found, passed, found-by, found-not, passed-by, passed-not, nothing)
 
 -- ---- what an answer says
 -- i is the first of n indices that fails

@@ -1,15 +1,16 @@
 -- Laws of lists by a rule, for entries of any type.
 --     tab-cons, tab-snoc, tab-next, tab-append     a table in parts
 --     length-tab, getD-tab, take-tab, drop-tab     a table's entries
---     tab-ext, tab-map, set-tab, list-tab          tables that are equal
+--     tab-ext, tab-map, set-tab, tab-replicate     tables that are equal
+--     list-tab, is-tab                             a list as a table
 -- Assumes nothing.
-use mathlib.Core.Path.{_≡_, refl, sym, ap, ap₂, _∙_}
+use mathlib.Core.Path.{_≡_, refl, ap, ap₂, _∙_}
 use mathlib.Core.Logic.{_≢_}
 use mathlib.Core.List.{List, [], _∷_, _++_, map}
 use Prim.Native.Nat.{ℕ, zero, suc, _+_, _-_, _<_, _≤_}
 use native.Mathlib.Numerals.{add-one}
 use native.Mathlib.Omega.{arith}
-use lib.ListN.{length, getD, take, drop, set}
+use lib.ListN.{length, getD, take, drop, set, replicate, List·getD-eq-default}
 use Rattle.numbers.specs.Tables.{tab}
 
 module _ {A : Type 0} where
@@ -40,6 +41,9 @@ module _ {A : Type 0} where
   getD-tab f zero i d h = absurd (omega arith)
   getD-tab f (suc n) zero d h = refl
   getD-tab f (suc n) (suc i) d h = getD-tab (λ k. f (suc k)) n i d (omega arith)
+
+  pub getD-tab-past : (f : ℕ → A) (n i : ℕ) (d : A) → n ≤ i → getD (tab f n) i d ≡ d
+  getD-tab-past f n i d h = List·getD-eq-default (tab f n) d (rw length-tab h)
 
   -- two rules that agree below n
   pub tab-ext : (f g : ℕ → A) (n : ℕ) → ((i : ℕ) → i < n → f i ≡ g i) → tab f n ≡ tab g n
@@ -86,6 +90,11 @@ module _ {A : Type 0} where
   set-tab f g (suc n) (suc i) h =
       ap₂ (λ (x : A) (l : List A). x ∷ l) (h 0 (omega arith))
       (set-tab (λ k. f (suc k)) (λ k. g (suc k)) n i (λ j ne. h (suc j) (λ e. ne (omega arith))))
+
+  pub tab-replicate : (v : A) (n : ℕ) → tab (λ i. v) n ≡ replicate n v
+  unfolding tab
+  tab-replicate v zero = refl
+  tab-replicate v (suc n) = ap (λ (l : List A). v ∷ l) (tab-replicate v n)
 
   -- a list is the table of its entries
   pub list-tab : (xs : List A) (d : A) → xs ≡ tab (λ i. getD xs i d) (length xs)

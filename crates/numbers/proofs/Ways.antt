@@ -1,20 +1,16 @@
 -- What each way through the code says of its definition.
 --     coding       what closes the needs of every function
 -- Assumes nothing.
-use mathlib.Core.Path.{_≡_, refl, sym, ap, _∙_}
-use mathlib.Core.Logic.{_≢_}
+use mathlib.Core.Path.{_≡_, refl, sym, _∙_}
 use mathlib.Core.Bool.{Bool, true, false}
 use mathlib.Core.List.{List}
-use Prim.Native.Nat.{ℕ, zero, suc, _+_, _-_, _*_, _/_, _%_, _<_, _≤_}
-use native.Mathlib.Numerals.{add-one}
+use Prim.Native.Nat.{ℕ, _+_, _*_, _/_, _%_, _<_, _≤_}
 use native.Mathlib.Omega.{arith}
 use borrow.Author.Needs.{needs}
 use borrow.Author.Tests.{eqb-true, eqb-false, eq-eqb, ne-eqb, lt-ltb, le-ltb}
 use lib.Dec.{eqb, ltb}
 use lib.ListN.{length, getD, drop, set, length-set, List·getD-eq-default}
-use Rattle.numbers.specs.Tables.{firstFrom}
 use Rattle.numbers.specs.Bytes.{wordAt, numbers, holdsCount, stored, firstOver, allBelow}
-use Rattle.numbers.specs.declared.Found.{Found}
 use Rattle.numbers.specs.declared.Found.the-variants.{At, Nothing}
 use Rattle.numbers.proofs.Bytes.{numbers-length, getD-numbers, getD-numbers-past, word-past, stored-in, stored-past}
 use Rattle.numbers.proofs.Searches.{Seeking, begin, found, passed, nothing}
@@ -71,10 +67,7 @@ module _ (s : List ℕ) (p i x : ℕ) (h : Seeking (isBelow s p) (length s / 2) 
   over-found o = rw numbers-length (found (isBelow s p) (length s / 2) i h l (rw (← e) (le-ltb x p o)))
 
   pub over-passed : x < p → Seeking (isBelow s p) (length s / 2) (i + 1)
-  over-passed o = record { within = omega arith; rest = passed (isBelow s p) (length s / 2) i h l (rw (← e) (lt-ltb x p o)) }
-
-pub over-begin : (s : List ℕ) (p : ℕ) → Seeking (isBelow s p) (length s / 2) 0
-over-begin s p = record { within = omega arith; rest = begin (isBelow s p) (length s / 2) }
+  over-passed o = passed (isBelow s p) (length s / 2) i h l (rw (← e) (lt-ltb x p o))
 
 pub over-nothing : (s : List ℕ) (p i : ℕ) → Seeking (isBelow s p) (length s / 2) i → length s / 2 ≤ i → Nothing ≡ firstOver p (numbers s)
 unfolding firstOver
@@ -98,4 +91,4 @@ module _ (s : List ℕ) (from p i : ℕ) (h : Testing s from p i) where
   pub test-end : length s / 2 ≤ i → true ≡ allBelow p (drop from (numbers s))
   test-end l = allBelow-end p (numbers s) i (rw numbers-length l) ∙ h .rest
 
-pub ruleset coding = (needs, byte-none, word-some, word-none, number-some, number-none, write-some, high-in, write-none, count-odd, count-even, over-found, over-passed, over-begin, over-nothing, test-begin, test-over, test-passed, test-end)
+pub ruleset coding = (needs, byte-none, word-some, word-none, number-some, number-none, write-some, high-in, write-none, count-odd, count-even, over-found, over-passed, begin, over-nothing, test-begin, test-over, test-passed, test-end)

@@ -1,5 +1,5 @@
 -- Numbers in bytes (document 01: two-byte numbers are unsigned, low byte first).
-use Prim.Native.Nat.{ℕ, zero, suc, _+_, _*_, _/_, _%_}
+use Prim.Native.Nat.{ℕ, _+_, _*_, _/_, _%_}
 use mathlib.Core.Bool.{Bool, true, false, cond}
 use mathlib.Core.List.{List, [], _∷_}
 use lib.Dec.{eqb, leb, ltb}

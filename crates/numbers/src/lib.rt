@@ -1,8 +1,8 @@
 // Lists of numbers that are lent as bytes: two bytes a number, the low byte first. A read past the end is 0, and a write
 // there changes nothing.
 ghost use mathlib.Core.Path.{_≡_};
-ghost use Prim.Native.Nat.{_<_, _+_};
-ghost use lib.ListN.{length, getD, drop};
+ghost use Prim.Native.Nat.{_<_};
+ghost use lib.ListN.{getD, drop};
 ghost use Rattle.numbers.specs.Bytes.{wordAt, limit, numbers, holdsCount, stored, firstOver, allBelow};
 
 // What a search answers.
@@ -32,7 +32,9 @@ pub fn word(s: &[u8], at: usize) -> u64
     ensures { λ r. ⌜ record { eq : r ≡ wordAt (now (s .entry)) at; lt : r < limit } ⌝ }
 {
     if at < s.len() {
-        return byte(s, at) + 256 * byte(s, at + 1);
+        let low = byte(s, at);
+        let high = byte(s, at + 1);
+        return low + 256 * high;
     }
     0
 }
@@ -51,10 +53,13 @@ pub fn read(s: &[u8], i: usize) -> u64
 pub fn write(s: &mut [u8], i: usize, v: u64)
     ensures { λ _. ⌜ now (s .exit) ≡ stored (now (s .entry)) i v ⌝ }
 {
-    if i < s.len() / 2 {
-        s[2 * i] = (v % 256) as u8;
-        s[2 * i + 1] = (v / 256 % 256) as u8;
+    if s.len() / 2 <= i {
+        return;
     }
+    let low = (v % 256) as u8;
+    let high = (v / 256 % 256) as u8;
+    s[2 * i] = low;
+    s[2 * i + 1] = high;
 }
 
 // Whether these bytes are a list of k numbers.
@@ -89,7 +94,7 @@ pub fn all_below(s: &[u8], from: usize, p: u64) -> bool
     let n = s.len() / 2;
     let mut i: usize = from;
     while i < n {
-        if p <= read(s, i) {
+        if read(s, i) >= p {
             return false;
         }
         i += 1;

@@ -1,9 +1,8 @@
+-- `least_divisor` meets its contract. The invariant: the search from d on gives the same as the whole search. The measure: the numbers from d to p.
 use Prim.Native.Nat.{_-_}
 use Rattle.field.proofs.Primes.{Searching, searching}
 use Rattle.field.proofs.least_divisor.Statement.{statement}
 use Rattle.field.proofs.least_divisor.Tie as tie
-use Rattle.field.proofs.least_divisor.Reads as reads
-use Rattle.field.proofs.least_divisor.Lts as lts
 
 abbrev Inv-loop : tie.InvT-loop
 Inv-loop p n d₀ d = Searching p d
@@ -11,35 +10,27 @@ Inv-loop p n d₀ d = Searching p d
 abbrev μ-loop : tie.MeasureT-loop
 μ-loop p n d₀ d = p - d
 
--- src/lib.rt:21:9
 loop-holds : tie.Need-loop-holds Inv-loop μ-loop
 loop-holds c = search searching
 
--- src/lib.rt:22:16
 mul-if1 : tie.Need-mul-if1 Inv-loop μ-loop
 mul-if1 c = search searching
 
--- src/lib.rt:23:13
 returns : tie.Need-returns Inv-loop μ-loop
 returns c = search searching
 
--- src/lib.rt:25:12
 rem-if2 : tie.Need-rem-if2 Inv-loop μ-loop
 rem-if2 c = search searching
 
--- src/lib.rt:28:9
 add-d : tie.Need-add-d Inv-loop μ-loop
 add-d c = search searching
 
--- src/lib.rt:21:9
 loop-less : tie.Need-loop-less Inv-loop μ-loop
 loop-less c = search searching
 
--- src/lib.rt:21:9
 loop-again : tie.Need-loop-again Inv-loop μ-loop
 loop-again c = search searching
 
--- src/lib.rt:16:1
 returns-2 : tie.Need-returns-2 Inv-loop μ-loop
 returns-2 c = search searching
 
