@@ -3,3 +3,7 @@ pub mod Interpolation
 pub mod Roots
 pub mod Deltas
 pub mod Shares
+pub mod Coding
+pub mod Weighing
+pub mod Factors
+pub mod Rows

@@ -12,6 +12,10 @@ use Rattle.sharing.specs.Poly.{linear}
 unfoldable pub factor : ℕ → ℕ → ℕ → ℕ → ℕ
 factor p z x y = cond (eqb x y) 1 (mul p (sub p z y) (inv p (sub p x y)))
 
+-- the numerator of a factor, at a = z, and its denominator, at a = x: a - y, and 1 where y is x itself
+unfoldable pub apart : ℕ → ℕ → ℕ → ℕ → ℕ
+apart p a x y = cond (eqb x y) 1 (sub p a y)
+
 -- the weight of x at z, among the points ys
 unfoldable pub weight : ℕ → ℕ → List ℕ → ℕ → ℕ
 weight p z [] x = 1

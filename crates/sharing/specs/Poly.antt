@@ -1,6 +1,7 @@
 -- Polynomials modulo p: the list of the coefficients, lowest first.
-use mathlib.Core.List.{List, [], _∷_, map}
-use Prim.Native.Nat.{ℕ}
+use mathlib.Core.List.{List, [], _∷_, _++_, map}
+use Prim.Native.Nat.{ℕ, _-_}
+use lib.ListN.{length, replicate}
 use Rattle.field.specs.Mod.{add, mul}
 
 -- the value at x
@@ -23,3 +24,12 @@ product p (a ∷ f) g = sumOf p (scale p a g) (0 ∷ product p f g)
 -- (a + b·X)·f
 unfoldable pub linear : ℕ → ℕ → ℕ → List ℕ → List ℕ
 linear p a b f = sumOf p (scale p a f) (0 ∷ scale p b f)
+
+-- the first coefficients of c·b + (1 + b·X)·f, as many as f has: each takes b times the one before it, and the first takes b·c
+unfoldable pub carried : ℕ → ℕ → ℕ → List ℕ → List ℕ
+carried p b c [] = []
+carried p b c (a ∷ f) = add p a (mul p b c) ∷ carried p b a f
+
+-- f with zeros above it, n coefficients in all
+unfoldable pub padded : ℕ → List ℕ → List ℕ
+padded n f = f ++ replicate (n - length f) 0
