@@ -85,7 +85,7 @@ pub ruleset rules = (needs, not-true, not-false, between-under, between-from, be
 -- ---- the two searches
 module _ (bs : List ℕ) (gates : ℕ) where
   pub gates-begin : Seeking (gateKept bs) gates 0
-  gates-begin = record { within = omega arith; rest = begin (gateKept bs) gates }
+  gates-begin = begin (gateKept bs) gates
 
   module _ (g : ℕ) (h : Seeking (gateKept bs) gates g) (s : gates ≡ wordAt bs 12) where
     pub gates-end : gates ≤ g → Nothing ≡ firstFailing (gateKept bs) (wordAt bs 12)
@@ -100,11 +100,11 @@ module _ (bs : List ℕ) (gates : ℕ) where
       gates-found f = rw (← s) (found (gateKept bs) gates g h l (rw (← kept) f))
 
       pub gates-passed : t ≡ true → Seeking (gateKept bs) gates (g + 1)
-      gates-passed f = record { within = omega arith; rest = passed (gateKept bs) gates g h l (rw (← kept) f) }
+      gates-passed f = passed (gateKept bs) gates g h l (rw (← kept) f)
 
 module _ (bs : List ℕ) (outs : ℕ) where
   pub outs-begin : Seeking (outKept bs) outs 0
-  outs-begin = record { within = omega arith; rest = begin (outKept bs) outs }
+  outs-begin = begin (outKept bs) outs
 
   module _ (o : ℕ) (h : Seeking (outKept bs) outs o) (s : outs ≡ wordAt bs 16) where
     pub outs-end : outs ≤ o → Nothing ≡ firstFailing (outKept bs) (wordAt bs 16)
@@ -119,7 +119,7 @@ module _ (bs : List ℕ) (outs : ℕ) where
       outs-found f = rw (← s) (found (outKept bs) outs o h l (rw (← out-kept) f))
 
       pub outs-passed : t ≡ true → Seeking (outKept bs) outs (o + 1)
-      outs-passed f = record { within = omega arith; rest = passed (outKept bs) outs o h l (rw (← out-kept) f) }
+      outs-passed f = passed (outKept bs) outs o h l (rw (← out-kept) f)
 
 pub ruleset seeking = (needs, not-true, not-false, gates-begin, gates-end, gates-found, gates-passed, outs-begin, outs-end, outs-found, outs-passed)
 
