@@ -1,0 +1,103 @@
+-- What each way through the checks of a call says of its definition.
+--     listing       a lent list: its count and its numbers
+--     stating       the state
+--     Gathered, gathering      the shares of an out
+--     opening       the search for an out whose shares don't lie on one polynomial
+-- Assumes nothing.
+use mathlib.Core.Path.{_≡_, refl, sym, ap, _∙_}
+use mathlib.Core.Bool.{Bool, true, false, not, _&&_}
+use mathlib.Core.List.{List, [], _∷_, _++_}
+use Prim.Native.Nat.{ℕ, suc, _+_, _-_, _*_, _<_, _≤_}
+use native.Mathlib.Nat.{mul-le-mul}
+use native.Mathlib.Omega.{arith}
+use borrow.Author.Needs.{needs}
+use borrow.Author.Tests.{not-true, not-false, le-leb, lt-leb, eq-eqb, ne-eqb}
+use lib.Dec.{eqb, leb}
+use lib.ListN.{length, getD, take, drop, set, length-set}
+use mir.Syntax.{w64}
+use mir.Val.{Fits}
+use Rattle.numbers.specs.declared.Found.{Found}
+use Rattle.numbers.specs.declared.Found.the-variants.{At, Nothing}
+use Rattle.numbers.specs.Tables.{tab, firstFailing}
+use Rattle.numbers.specs.Bytes.{numbers, holdsCount, firstOver, allBelow}
+use Rattle.numbers.proofs.Fills.{fill-none, fill-next}
+use Rattle.plan.specs.declared.Checked.{Checked}
+use Rattle.plan.specs.declared.Checked.the-variants.{Passed, Refused}
+use Rattle.plan.specs.declared.Refusal.{Refusal}
+use Rattle.plan.specs.declared.Refusal.the-variants as refusal
+use Rattle.plan.specs.Refusals.{andThen, firstOf, need, unlessFound}
+use Rattle.party.specs.Messages.{sharesOfOut}
+use Rattle.party.specs.Parts.{listChecks, stateChecks}
+
+-- ---- a lent list
+module _ (few : Refusal) (over : ℕ → Refusal) (p count : ℕ) (bs : List ℕ) (t : Bool) (et : t ≡ holdsCount count bs) where
+  pub list-few : t ≡ false → Refused few ≡ firstOf (listChecks few over p count bs)
+  unfolding listChecks firstOf andThen need
+  list-few h = rw (← et, h)
+
+  module _ (ht : t ≡ true) (f : Found) (ef : f ≡ firstOver p (numbers bs)) where
+    pub list-over : (i : ℕ) → f ≡ At i → Refused (over i) ≡ firstOf (listChecks few over p count bs)
+    unfolding listChecks firstOf andThen need unlessFound
+    list-over i h = rw (← et, ht, ← ef, h)
+
+    pub list-passed : f ≡ Nothing → Passed ≡ firstOf (listChecks few over p count bs)
+    unfolding listChecks firstOf andThen need unlessFound
+    list-passed h = rw (← et, ht, ← ef, h)
+
+pub ruleset listing = (needs, not-true, not-false, list-few, list-over, list-passed)
+
+-- ---- the state
+module _ (p gates mults : ℕ) (bs : List ℕ) (t : Bool) (et : t ≡ holdsCount (1 + gates) bs) where
+  pub state-few : t ≡ false → Refused refusal.StateCount ≡ firstOf (stateChecks p gates mults bs)
+  unfolding stateChecks firstOf andThen need
+  state-few h = rw (← et, h)
+
+  module _ (ht : t ≡ true) (k : ℕ) (ek : k ≡ getD (numbers bs) 0 0) where
+    pub state-past : mults + 3 < k → Refused refusal.StateValue ≡ firstOf (stateChecks p gates mults bs)
+    unfolding stateChecks firstOf andThen need
+    state-past h = rw (← et, ht, ← ek, lt-leb k (mults + 3) h)
+
+    module _ (hk : k ≤ mults + 3) (b : Bool) (eb : b ≡ allBelow p (drop 1 (numbers bs))) where
+      pub state-over : b ≡ false → Refused refusal.StateValue ≡ firstOf (stateChecks p gates mults bs)
+      unfolding stateChecks firstOf andThen need
+      state-over h = rw (← et, ht, ← ek, le-leb k (mults + 3) hk, ← eb, h)
+
+      pub state-finished : b ≡ true → k ≡ mults + 3 → Refused refusal.Finished ≡ firstOf (stateChecks p gates mults bs)
+      unfolding stateChecks firstOf andThen need
+      state-finished h e = rw (← et, ht, ← ek, le-leb k (mults + 3) hk, ← eb, h, eq-eqb k (mults + 3) e)
+
+      pub state-passed : b ≡ true → (k ≡ mults + 3 → ⊥) → Passed ≡ firstOf (stateChecks p gates mults bs)
+      unfolding stateChecks firstOf andThen need
+      state-passed h e = rw (← et, ht, ← ek, le-leb k (mults + 3) hk, ← eb, h, ne-eqb k (mults + 3) e)
+
+pub ruleset stating = (needs, not-true, not-false, state-few, state-past, state-over, state-finished, state-passed)
+
+-- ---- the shares of an out
+-- the invariant of the loop that gathers them, at party i, counted from 0
+pub record Gathered (n own j : ℕ) (mail shares : List ℕ) (i : ℕ) : Type 0 where
+  pub within : i ≤ n
+  pub long : length shares ≡ 15
+  pub front : take i shares ≡ tab (λ m. getD mail (own * m + j) 0) i
+
+pub gather-none : (n own j : ℕ) (mail shares : List ℕ) → length shares ≡ 15 → Gathered n own j mail shares 0
+gather-none n own j mail shares e = record { within = omega arith; long = e; front = fill-none (λ m. getD mail (own * m + j) 0) shares }
+
+module _ (n own j : ℕ) (mail shares : List ℕ) (i : ℕ) (h : Gathered n own j mail shares i) where
+  pub gather-next : (x : ℕ) → i < n → n ≤ 15 → x ≡ getD mail (own * i + j) 0 → Gathered n own j mail (set shares i x) (i + 1)
+  gather-next x l m e = record {
+    within = omega arith;
+    long = rw length-set (h .long);
+    front = fill-next (λ k. getD mail (own * k + j) 0) i shares x (omega (arith, h .long)) e (h .front);
+  }
+
+  pub gathered : n ≤ i → take n shares ≡ sharesOfOut n own j mail
+  unfolding sharesOfOut
+  gathered l = let e : i ≡ n = omega (arith, h .within) in rw e at (h .front)
+
+pub place-fits : (n own i : ℕ) → own ≤ 64 → i < n → n ≤ 15 → Fits w64 (own * i)
+place-fits n own i a b c = record { fits = omega (arith, mul-le-mul {n₁ = own} {m₁ = i} {n₂ = 64} {m₂ = 15} a (omega arith)) }
+
+pub share-fits : (n own i j : ℕ) → own ≤ 64 → i < n → n ≤ 15 → j < own → Fits w64 (own * i + j)
+share-fits n own i j a b c d = record { fits = omega (arith, mul-le-mul {n₁ = own} {m₁ = i} {n₂ = 64} {m₂ = 15} a (omega arith)) }
+
+pub ruleset gathering = (needs, place-fits, share-fits, gather-none, gather-next, gathered)
