@@ -20,14 +20,22 @@ use Rattle.numbers.specs.declared.Found.{Found}
 use Rattle.numbers.specs.declared.Found.the-variants.{At, Nothing}
 use Rattle.numbers.specs.Tables.{tab, firstFailing}
 use Rattle.numbers.specs.Bytes.{numbers, holdsCount, firstOver, allBelow}
+use Rattle.numbers.proofs.Tables.{length-tab}
+use Rattle.numbers.proofs.Below.{allBelow-tab}
+use Rattle.numbers.proofs.Searches.{Seeking, begin, found, passed, nothing}
 use Rattle.numbers.proofs.Fills.{fill-none, fill-next}
+use Rattle.sharing.specs.Sharing.{firstOff}
+use Rattle.sharing.specs.Ready.{Ready}
+use Rattle.sharing.proofs.Coding.{entry-below}
+use Rattle.plan.specs.declared.Header.{Header}
 use Rattle.plan.specs.declared.Checked.{Checked}
 use Rattle.plan.specs.declared.Checked.the-variants.{Passed, Refused}
 use Rattle.plan.specs.declared.Refusal.{Refusal}
 use Rattle.plan.specs.declared.Refusal.the-variants as refusal
 use Rattle.plan.specs.Refusals.{andThen, firstOf, need, unlessFound}
 use Rattle.party.specs.Messages.{sharesOfOut}
-use Rattle.party.specs.Parts.{listChecks, stateChecks}
+use Rattle.party.specs.Calls.{nothingFound}
+use Rattle.party.specs.Parts.{listChecks, stateChecks, outLies, Openings}
 
 -- ---- a lent list
 module _ (few : Refusal) (over : ℕ → Refusal) (p count : ℕ) (bs : List ℕ) (t : Bool) (et : t ≡ holdsCount count bs) where
@@ -101,3 +109,48 @@ pub share-fits : (n own i j : ℕ) → own ≤ 64 → i < n → n ≤ 15 → j <
 share-fits n own i j a b c d = record { fits = omega (arith, mul-le-mul {n₁ = own} {m₁ = i} {n₂ = 64} {m₂ = 15} a (omega arith)) }
 
 pub ruleset gathering = (needs, place-fits, share-fits, gather-none, gather-next, gathered)
+
+-- ---- the search for an out whose shares don't lie on one polynomial
+shares-long : (n own j : ℕ) (mail : List ℕ) → length (sharesOfOut n own j mail) ≡ n
+unfolding sharesOfOut
+shares-long n own j mail = length-tab (λ i. getD mail (own * i + j) 0) n
+
+shares-below : (p n own j : ℕ) (mail : List ℕ) → Ready p → allBelow p mail ≡ true → allBelow p (sharesOfOut n own j mail) ≡ true
+unfolding sharesOfOut
+shares-below p n own j mail r b = allBelow-tab p (λ i. getD mail (own * i + j) 0) n (λ i l. entry-below p mail (own * i + j) r b)
+
+pub shares-count : (n own j : ℕ) (mail xs : List ℕ) → xs ≡ sharesOfOut n own j mail → n ≡ length xs
+shares-count n own j mail xs e = sym (ap length e ∙ shares-long n own j mail)
+
+module _ (h : Header) (own : ℕ) (o : Openings h own) where
+  module _ (points : List ℕ) (is : points ≡ tab suc (h .n)) where
+    points-long : length points ≡ h .n
+    points-long = ap length is ∙ length-tab suc (h .n)
+
+    pub points-over : h .t < length points
+    points-over = omega (arith, points-long, o .majority)
+
+    pub points-few : length points ≤ 65536
+    points-few = omega (arith, points-long, o .n-high)
+
+    pub points-each : (j : ℕ) (mail xs : List ℕ) → xs ≡ sharesOfOut (h .n) own j mail → length xs ≡ length points
+    points-each j mail xs e = ap length e ∙ shares-long (h .n) own j mail ∙ sym points-long
+
+  pub gathered-below : (j : ℕ) (mail xs : List ℕ) → allBelow (h .field .p) mail ≡ true → xs ≡ sharesOfOut (h .n) own j mail → allBelow (h .field .p) xs ≡ true
+  gathered-below j mail xs b e = rw e (shares-below (h .field .p) (h .n) own j mail (o .ready) b)
+
+module _ (h : Header) (own : ℕ) (mail : List ℕ) (j : ℕ) (s : Seeking (outLies h own mail) own j) where
+  module _ (points xs : List ℕ) (f : Found) (l : j < own) (is : points ≡ tab suc (h .n)) (e : xs ≡ sharesOfOut (h .n) own j mail) (ef : f ≡ firstOff (h .field .p) (h .t) points xs) where
+    lies : outLies h own mail j ≡ nothingFound f
+    unfolding outLies
+    lies = rw (ef, is, e)
+
+    pub out-off : (i : ℕ) → f ≡ At i → At j ≡ firstFailing (outLies h own mail) own
+    unfolding nothingFound
+    out-off i q = found (outLies h own mail) own j s l (rw (lies, q))
+
+    pub out-on : f ≡ Nothing → Seeking (outLies h own mail) own (j + 1)
+    unfolding nothingFound
+    out-on q = passed (outLies h own mail) own j s l (rw (lies, q))
+
+pub ruleset opening = (needs, begin, nothing, shares-count, points-over, points-few, points-each, gathered-below, out-off, out-on)
