@@ -2,7 +2,7 @@
 --     listing       a lent list: its count and its numbers
 --     stating       the state
 --     Gathered, gathering      the shares of an out
---     opening       the search for an out whose shares don't lie on one polynomial
+--     opening, rowing      the search for an out whose shares don't lie on one polynomial
 -- Assumes nothing.
 use mathlib.Core.Path.{_≡_, refl, sym, ap, _∙_}
 use mathlib.Core.Bool.{Bool, true, false, not, _&&_}
@@ -13,7 +13,8 @@ use native.Mathlib.Omega.{arith}
 use borrow.Author.Needs.{needs}
 use borrow.Author.Tests.{not-true, not-false, le-leb, lt-leb, eq-eqb, ne-eqb}
 use lib.Dec.{eqb, leb}
-use lib.ListN.{length, getD, take, drop, set, length-set}
+use lib.ListN.{length, getD, take, drop, set, length-set, length-append}
+use lib.Seq.{take-at, length-take-le}
 use mir.Syntax.{w64}
 use mir.Val.{Fits}
 use Rattle.numbers.specs.declared.Found.{Found}
@@ -24,9 +25,10 @@ use Rattle.numbers.proofs.Tables.{length-tab}
 use Rattle.numbers.proofs.Below.{allBelow-tab}
 use Rattle.numbers.proofs.Searches.{Seeking, begin, found, passed, nothing}
 use Rattle.numbers.proofs.Fills.{fill-none, fill-next}
-use Rattle.sharing.specs.Sharing.{firstOff}
+use Rattle.sharing.specs.Sharing.{firstOff, openingRow, openingRows}
 use Rattle.sharing.specs.Ready.{Ready}
 use Rattle.sharing.proofs.Coding.{entry-below}
+use Rattle.sharing.proofs.Rows.{length-row, length-rows}
 use Rattle.plan.specs.declared.Header.{Header}
 use Rattle.plan.specs.declared.Checked.{Checked}
 use Rattle.plan.specs.declared.Checked.the-variants.{Passed, Refused}
@@ -35,6 +37,7 @@ use Rattle.plan.specs.declared.Refusal.the-variants as refusal
 use Rattle.plan.specs.Refusals.{andThen, firstOf, need, unlessFound}
 use Rattle.party.specs.Messages.{sharesOfOut}
 use Rattle.party.specs.Calls.{nothingFound}
+use Rattle.party.proofs.PointLaws.{first-points, points-below}
 use Rattle.party.specs.Parts.{listChecks, stateChecks, outLies, Openings}
 
 -- ---- a lent list
@@ -154,3 +157,50 @@ module _ (h : Header) (own : ℕ) (mail : List ℕ) (j : ℕ) (s : Seeking (outL
     out-on q = passed (outLies h own mail) own j s l (rw (lies, q))
 
 pub ruleset opening = (needs, begin, nothing, shares-count, points-over, points-few, points-each, gathered-below, out-off, out-on)
+
+-- the room of the opening rows
+module _ (h : Header) (own : ℕ) (o : Openings h own) where
+  used-small : (h .t + 1) * h .n ≤ 120
+  used-small = mul-le-mul {n₁ = h .t + 1} {m₁ = h .n} {n₂ = 8} {m₂ = 15} (omega (arith, o .majority, o .n-high)) (o .n-high)
+
+  pub used-fits : Fits w64 ((h .t + 1) * h .n)
+  used-fits = record { fits = omega (arith, used-small) }
+
+  module _ (room : List ℕ) (size : length room ≡ 120) where
+    pub used-within : (h .t + 1) * h .n ≤ length room
+    used-within = omega (arith, used-small)
+
+    pub used-count : (h .t + 1) * h .n ≡ length (take ((h .t + 1) * h .n) room)
+    used-count = sym (length-take-le ((h .t + 1) * h .n) room used-within)
+
+  module _ (points : List ℕ) (is : points ≡ tab suc (h .n)) where
+    pub opened-below : allBelow (h .field .p) points ≡ true
+    opened-below = rw is (points-below (h .field .p) (h .n) (o .p-low))
+
+    pub used-rows : (room : List ℕ) → length room ≡ 120 → length (take ((h .t + 1) * h .n) room) ≡ (h .t + 1) * length points
+    used-rows room size = rw (points-long h own o points is) (sym (used-count room size))
+
+    module _ (room ys : List ℕ) (e : ys ≡ openingRows (h .field .p) (h .t) points) where
+      rows-long : length ys ≡ (h .t + 1) * h .n
+      unfolding openingRows
+      rows-long =
+          ap length e
+          ∙ length-rows (openingRow (h .field .p) (h .t) points) (h .t + 1) (λ j. length-row (h .field .p) (h .t) points j (points-over h own o points is)) (length points)
+          ∙ ap (λ (n : ℕ). (h .t + 1) * n) (points-long h own o points is)
+
+      pub rows-within : (h .t + 1) * h .n ≤ length (ys ++ drop ((h .t + 1) * h .n) room)
+      rows-within = rw length-append (omega (arith, rows-long))
+
+      pub rows-front : take ((h .t + 1) * h .n) (ys ++ drop ((h .t + 1) * h .n) room) ≡ openingRows (h .field .p) (h .t) points
+      rows-front = take-at ys (drop ((h .t + 1) * h .n) room) ((h .t + 1) * h .n) rows-long ∙ e
+
+      pub rows-count : (h .t + 1) * h .n ≡ length (take ((h .t + 1) * h .n) (ys ++ drop ((h .t + 1) * h .n) room))
+      rows-count = sym (length-take-le ((h .t + 1) * h .n) (ys ++ drop ((h .t + 1) * h .n) room) rows-within)
+
+pub first-count : (n : ℕ) (xs : List ℕ) → xs ≡ tab suc 15 → n ≤ 15 → n ≡ length (take n xs)
+first-count n xs e l = rw (first-points xs n e l) (sym (length-tab suc n))
+
+pub fifteen : (n : ℕ) (xs : List ℕ) → xs ≡ tab suc 15 → n ≤ 15 → n ≤ length xs
+fifteen n xs e l = rw (e, length-tab suc 15) l
+
+pub ruleset rowing = (needs, used-fits, used-within, used-count, opened-below, points-over, used-rows, rows-within, rows-front, rows-count, first-count, fifteen, first-points)

@@ -116,7 +116,20 @@ fn first_off_out(h: Header, points: &[u64], rows: &[u64], own: usize, mail: &[u8
     Found::Nothing
 }
 
-// The same, with the opening rows of the plan.
+// The same, with the opening rows worked in a room that is lent.
+fn first_off_in(h: Header, points: &[u64], room: &mut [u64], own: usize, mail: &[u8]) -> Found
+    requires { ⌜ Openings h own ⌝ }
+    requires { ⌜ now points ≡ tab suc (h .n) ⌝ }
+    requires { ⌜ length (now room) ≡ 120 ⌝ }
+    requires { ⌜ allBelow (h .field .p) (numbers (now mail)) ≡ true ⌝ }
+    ensures { λ r. ⌜ r ≡ firstFailing (outLies h own (numbers (now (mail .entry)))) own ⌝ }
+{
+    let used = (h.t + 1) * h.n;
+    sharing::opening_rows(h.field, h.t, points, &mut room[..used]);
+    first_off_out(h, points, &room[..used], own, mail)
+}
+
+// The first of a party's own outs whose shares don't lie on one polynomial.
 fn first_off_of(h: Header, own: usize, mail: &[u8]) -> Found
     requires { ⌜ Openings h own ⌝ }
     requires { ⌜ allBelow (h .field .p) (numbers (now mail)) ≡ true ⌝ }
@@ -124,8 +137,6 @@ fn first_off_of(h: Header, own: usize, mail: &[u8]) -> Found
 {
     let n = h.n;
     let points = crate::points::points();
-    let used = (h.t + 1) * n;
-    let mut rows: [u64; 120] = [0; 120];
-    sharing::opening_rows(h.field, h.t, &points[..n], &mut rows[..used]);
-    first_off_out(h, &points[..n], &rows[..used], own, mail)
+    let mut room: [u64; 120] = [0; 120];
+    first_off_in(h, &points[..n], &mut room, own, mail)
 }
