@@ -1,4 +1,7 @@
 pub mod Refusals
 pub mod Gates
 pub mod Ways
+pub mod Codes
+pub mod Planned
+pub mod Counts
 pub mod Valid

@@ -8,6 +8,8 @@ use Prim.Native.Nat.{ℕ, suc, _+_, _-_, _*_, _<_, _≤_}
 use native.Mathlib.Omega.{arith}
 use borrow.Author.Needs.{needs}
 use borrow.Author.Tests.{not-true, not-false, lt-ltb, le-ltb, le-leb, lt-leb, eq-eqb, ne-eqb}
+use mir.Syntax.{w8}
+use mir.Val.{Fits}
 use lib.Dec.{eqb, leb, ltb}
 use lib.ListN.{length, getD, take, drop, take-append-drop}
 use Rattle.numbers.specs.Tables.{firstFrom, firstFailing}
@@ -244,6 +246,11 @@ module _ (s : List ℕ) (t : Bool) (et : t ≡ layoutOk s) where
 pub ruleset body = (needs, not-true, not-false, body-layout, body-gate, body-out, body-passed)
 
 -- ---- the whole reading
+-- bytes make a two-byte number
+pub word-small : (s : List ℕ) (at : ℕ) → Fits w8 (getD s at 0) → Fits w8 (getD s (at + 1) 0) → wordAt s at < 65536
+unfolding wordAt
+word-small s at l h = omega arith
+
 pub reading-passed : (c : Checked) (h : Header) → c ≡ Passed → reading.Passed h ≡ readingOf c h
 unfolding readingOf
 reading-passed c h e = rw e

@@ -2,3 +2,5 @@ pub mod Refusals
 pub mod Plans
 pub mod File
 pub mod Coalitions
+pub mod Planned
+pub mod Counts
