@@ -13,7 +13,7 @@ use Rattle.plan.specs.declared.Checked.{Checked}
 use Rattle.plan.specs.declared.Refusal.{Refusal}
 use Rattle.plan.specs.declared.Refusal.the-variants as refusal
 use Rattle.plan.specs.Refusals.{need, unlessFound}
-use Rattle.plan.specs.Plans.{Plan, partyCount, multiplies, ownInputCount, ownCoinCount, mailCount, writtenCount}
+use Rattle.plan.specs.Plans.{Plan, partyCount, multiplies, ownInputCount, ownCoinCount, ownOutCount, mailCount, writtenCount}
 use Rattle.plan.specs.File.{between}
 use Rattle.party.specs.Messages.{sharesOfOut}
 use Rattle.party.specs.Calls.{nothingFound, openingCheck}
@@ -48,6 +48,13 @@ mailChecks plan i k mail room =
 -- whether the n shares of a party's own out j lie on one polynomial of degree t or less
 unfoldable pub outLies : Header → ℕ → List ℕ → ℕ → Bool
 outLies h own mail j = nothingFound (firstOff (h .field .p) (h .t) (tab suc (h .n)) (sharesOfOut (h .n) own j mail))
+
+-- refusal 20 of the last call
+unfoldable pub outsCheck : Plan → ℕ → List ℕ → Checked
+outsCheck plan i mail =
+    unlessFound refusal.OffPolynomial
+    (firstFailing (λ j. nothingFound (firstOff (plan .p) (plan .t) (plan .points) (sharesOfOut (partyCount plan) (ownOutCount plan i) j mail)))
+    (ownOutCount plan i))
 
 -- contents of a plan whose outs can be opened, and a party's number of outs
 pub record Openings (h : Header) (own : ℕ) : Type 0 where

@@ -12,8 +12,11 @@ ghost use Rattle.numbers.specs.Bytes.{numbers, allBelow};
 ghost use Rattle.sharing.specs.Sharing.{openingRows};
 ghost use Rattle.plan.specs.declared.Refusal.the-variants as refusal;
 ghost use Rattle.plan.specs.Refusals.{firstOf};
+ghost use Rattle.plan.specs.File.{planOf};
+ghost use Rattle.plan.specs.Planned.{Planned};
 ghost use Rattle.party.specs.Messages.{sharesOfOut};
-ghost use Rattle.party.specs.Parts.{listChecks, stateChecks, outLies, Openings};
+ghost use Rattle.party.specs.Calls.{partyChecks};
+ghost use Rattle.party.specs.Parts.{listChecks, ownChecks, stateChecks, mailChecks, outsCheck, outLies, Openings};
 
 // Refusals 10 and 11.
 fn check_inputs(inputs: &[u8], count: usize, p: u64) -> Checked
@@ -139,4 +142,82 @@ fn first_off_of(h: Header, own: usize, mail: &[u8]) -> Found
     let points = crate::points::points();
     let mut room: [u64; 120] = [0; 120];
     first_off_in(h, &points[..n], &mut room, own, mail)
+}
+
+// Refusal 20 of the last call, which has passed refusal 18.
+fn check_outs(plan: &[u8], h: Header, i: usize, mail: &[u8]) -> Checked
+    requires { ⌜ Planned (now plan) h ⌝ }
+    requires { ⌜ allBelow (h .field .p) (numbers (now mail)) ≡ true ⌝ }
+    ensures { λ r. ⌜ r ≡ outsCheck (planOf (now (plan .entry))) i (numbers (now (mail .entry))) ⌝ }
+{
+    let own = plan::own_out_count(plan, h, i);
+    if let Found::At(j) = first_off_of(h, own, mail) {
+        return Checked::Refused(Refusal::OffPolynomial(j));
+    }
+    Checked::Passed
+}
+
+// ---- the checks in their order
+
+// Refusals 9 to 13.
+fn check_own(plan: &[u8], h: Header, i: usize, inputs: &[u8], coins: &[u8]) -> Checked
+    requires { ⌜ Planned (now plan) h ⌝ }
+    ensures { λ r. ⌜ r ≡ firstOf (ownChecks (planOf (now (plan .entry))) i (now (inputs .entry)) (now (coins .entry))) ⌝ }
+{
+    if i < 1 {
+        return Checked::Refused(Refusal::Coalition);
+    }
+    if h.n < i {
+        return Checked::Refused(Refusal::Coalition);
+    }
+    let c = check_inputs(inputs, plan::own_input_count(plan, h, i), h.field.p);
+    let Checked::Passed = c else {
+        return c;
+    };
+    let count = h.t * plan::own_dealing_count(plan, h, i);
+    check_coins(coins, count, h.field.p)
+}
+
+// Refusals 17 to 20 of call number k.
+fn check_mail(plan: &[u8], h: Header, i: usize, k: usize, mail: &[u8], room: usize) -> Checked
+    requires { ⌜ Planned (now plan) h ⌝ }
+    ensures { λ r. ⌜ r ≡ firstOf (mailChecks (planOf (now (plan .entry))) i k (now (mail .entry)) room) ⌝ }
+{
+    let c = check_mail_list(mail, plan::mail_count(plan, h, i, k), h.field.p);
+    let Checked::Passed = c else {
+        return c;
+    };
+    if room != 2 * plan::written_count(plan, h, i, k) {
+        return Checked::Refused(Refusal::BufferLength);
+    }
+    if k != plan::multiply_count(plan, h) + 2 {
+        return Checked::Passed;
+    }
+    check_outs(plan, h, i, mail)
+}
+
+// Refusals 9 to 20 of party i's call; `room` is the length of the buffer to be written.
+pub fn check(
+    plan: &[u8],
+    h: Header,
+    i: usize,
+    inputs: &[u8],
+    coins: &[u8],
+    state: &[u8],
+    mail: &[u8],
+    room: usize,
+) -> Checked
+    requires { ⌜ Planned (now plan) h ⌝ }
+    ensures { λ r. ⌜ r ≡ firstOf (partyChecks (planOf (now (plan .entry))) i (now (inputs .entry)) (now (coins .entry)) (now (state .entry)) (now (mail .entry)) room) ⌝ }
+{
+    let own = check_own(plan, h, i, inputs, coins);
+    let Checked::Passed = own else {
+        return own;
+    };
+    let kept = check_state(state, h.gates, plan::multiply_count(plan, h), h.field.p);
+    let Checked::Passed = kept else {
+        return kept;
+    };
+    let k = numbers::read(state, 0);
+    check_mail(plan, h, i, k as usize, mail, room)
 }
