@@ -1,5 +1,3 @@
 pub mod Messages
 pub mod Calls
 pub mod Lent
-pub mod Planned
-pub mod Parts
