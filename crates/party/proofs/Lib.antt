@@ -1,3 +1,4 @@
 pub mod PointLaws
 pub mod LearnLaws
 pub mod CheckLaws
+pub mod CallLaws

@@ -1,0 +1,168 @@
+-- What each way through a call says of its definition.
+--     admitted             a call that passes its checks
+--     advancing            the number of the next call
+--     calling              the call
+-- Assumes nothing.
+use mathlib.Core.Path.{_≡_, refl, sym, ap, ap₂, _∙_}
+use mathlib.Core.Bool.{Bool, true, false, cond, not, _&&_}
+use mathlib.Core.List.{List, [], _∷_, _++_}
+use Prim.Native.Nat.{ℕ, zero, suc, _+_, _-_, _*_, _/_, _%_, _<_, _≤_}
+use native.Mathlib.Numerals.{add-one}
+use native.Mathlib.Omega.{arith}
+use borrow.Author.Needs.{needs}
+use borrow.Author.Tests.{leb-true, eqb-true, eqb-false, not-true}
+use lib.Dec.{eqb, leb}
+use lib.ListN.{length, getD, take, drop, length-drop, take-append-drop}
+use lib.Seq.{getD-drop, drop-at, length-take-le}
+use mir.Syntax.{w8}
+use mir.Val.{Fits}
+use Rattle.numbers.specs.Bytes.{numbers, bytesOf, stored, holdsCount, firstOver, allBelow}
+use Rattle.numbers.proofs.Bytes.{EachBelow, fits-below, numbers-length, numbers-drop, holds-length, take-stored, drop-stored, bytesOf-append, bytes-of-numbers}
+use Rattle.numbers.proofs.Below.{firstOver-nothing}
+use Rattle.plan.specs.declared.Header.{Header}
+use Rattle.plan.specs.declared.Reading.{Reading}
+use Rattle.plan.specs.declared.Reading.the-variants as reading
+use Rattle.plan.specs.declared.Checked.{Checked}
+use Rattle.plan.specs.declared.Checked.the-variants.{Passed, Refused}
+use Rattle.plan.specs.declared.Refusal.{Refusal}
+use Rattle.plan.specs.declared.Refusal.the-variants as refusal
+use Rattle.plan.specs.Refusals.{andThen, firstOf, need, unlessFound}
+use Rattle.plan.specs.Plans.{Plan, partyCount, multiplies, ownInputCount, ownCoinCount, mailCount, writtenCount}
+use Rattle.plan.specs.File.{between, planChecks, planCheck, planOf, readPlan}
+use Rattle.plan.specs.Planned.{Planned, ReadAs}
+use Rattle.plan.proofs.Refusals.{andThen-passed, andThen-refused, firstOf-append, passed-both, passed-need, passed-found}
+use Rattle.plan.proofs.Planned.{planned-read, refused-read, both-true, between-true, plan-p, plan-n, plan-gates}
+use Rattle.party.specs.Messages.{Called, learn, callWith, call}
+use Rattle.party.specs.Calls.{partyChecks, callChecks, callAnswer, written, unlessRefused, calledOn, stateAfter, outAfter}
+use Rattle.party.specs.Admitted.{Admitted, Lent, checkedOf, stateLeft, outLeft}
+
+-- ---- a call that passes its checks
+below-finished : (k m : ℕ) (t : Bool) → t ≡ eqb k (m + 3) → leb k (m + 3) ≡ true → not t ≡ true → k ≤ m + 2
+below-finished k m t e l n = omega (arith, leb-true k (m + 3) l, eqb-false k (m + 3) (sym e ∙ not-true t n))
+
+pub admitted : (plan : Plan) (i : ℕ) (inputs coins state mail : List ℕ) (room : ℕ)
+    → firstOf (partyChecks plan i inputs coins state mail room) ≡ Passed → Admitted plan i inputs coins state mail room
+unfolding partyChecks firstOf
+admitted plan i inputs coins state mail room h =
+    let a = passed-both _ _ h in
+    let b = passed-both _ _ (a .1) in
+    let c = passed-both _ _ (b .1) in
+    let d = passed-both _ _ (c .1) in
+    let e = passed-both _ _ (d .1) in
+    let f = passed-both _ _ (e .1) in
+    let g = passed-both _ _ (f .1) in
+    let j = passed-both _ _ (g .1) in
+    let k = passed-both _ _ (j .1) in
+    let l = passed-both _ _ (k .1) in
+    let m = passed-both _ _ (l .1) in
+    let party = between-true 1 (partyCount plan) i (passed-need refusal.Coalition _ (a .0)) in
+    let value = both-true (leb (getD (numbers state) 0 0) (multiplies plan + 3)) (allBelow (plan .p) (drop 1 (numbers state))) (passed-need refusal.StateValue _ (g .0)) in
+    record {
+      party-low = party .0;
+      party-high = party .1;
+      inputs-long = holds-length (ownInputCount plan i) inputs (passed-need refusal.InputCount _ (b .0));
+      inputs-below = firstOver-nothing (plan .p) (numbers inputs) (passed-found refusal.InputValue _ (c .0));
+      coins-long = holds-length (ownCoinCount plan i) coins (passed-need refusal.CoinCount _ (d .0));
+      coins-below = firstOver-nothing (plan .p) (numbers coins) (passed-found refusal.CoinValue _ (e .0));
+      state-long = holds-length (1 + length (plan .gates)) state (passed-need refusal.StateCount _ (f .0));
+      shares-below = value .1;
+      call-high = below-finished (getD (numbers state) 0 0) (multiplies plan) (eqb (getD (numbers state) 0 0) (multiplies plan + 3)) refl (value .0) (passed-need refusal.Finished _ (j .0));
+      mail-long = holds-length (mailCount plan i (getD (numbers state) 0 0)) mail (passed-need refusal.MailCount _ (k .0));
+      mail-below = firstOver-nothing (plan .p) (numbers mail) (passed-found refusal.MailValue _ (l .0));
+      room-is = eqb-true room (2 * writtenCount plan i (getD (numbers state) 0 0)) (passed-need refusal.BufferLength _ (m .0));
+    }
+
+-- ---- the number of the next call
+module _ (bs : List ℕ) (v : ℕ) (l : Lent bs) (b : EachBelow 256 bs) where
+  later-below : EachBelow 256 (drop (2 * 1) bs)
+  later-below i m = rw (getD-drop (2 * 1) bs i 0) (b (2 * 1 + i) (omega (arith, length-drop (2 * 1) bs)))
+
+  later : drop (2 * 1) bs ≡ bytesOf (drop 1 (numbers bs))
+  later =
+      sym
+      (ap bytesOf (sym (numbers-drop bs 1))
+      ∙ bytes-of-numbers (length bs / 2 - 1) (drop (2 * 1) bs) (omega (arith, length-drop (2 * 1) bs, l .even, l .some)) later-below)
+
+  pub advanced : stored bs 0 v ≡ bytesOf (v ∷ drop 1 (numbers bs))
+  unfolding bytesOf
+  advanced =
+      sym (take-append-drop (2 * (0 + 1)) (stored bs 0 v))
+      ∙ ap₂ _++_ (take-stored bs 0 v (l .some)) (drop-stored bs 0 v)
+      ∙ ap (λ (ys : List ℕ). v % 256 ∷ v / 256 % 256 ∷ ys) later
+
+pub next-lent : (bs : List ℕ) (n : ℕ) → length bs ≡ 2 * (1 + n) → Lent bs
+next-lent bs n e = record { even = omega arith; some = omega arith }
+
+-- ---- what a call leaves
+module _ (plan : Plan) (i k : ℕ) (inputs coins s mail ys : List ℕ) (ek : k ≡ getD (numbers s) 0 0) (some : 2 ≤ length s) (is : numbers ys ≡ learn plan k (numbers (drop 2 s)) (numbers mail)) where
+  shares-after : drop 2 (take 2 s ++ ys) ≡ ys
+  shares-after = drop-at (take 2 s) ys 2 (length-take-le 2 s some)
+
+  learnt-after : numbers (drop 2 (take 2 s ++ ys)) ≡ learn plan (getD (numbers s) 0 0) (drop 1 (numbers s)) (numbers mail)
+  learnt-after = ap numbers shares-after ∙ is ∙ ap₂ (λ (n : ℕ) (xs : List ℕ). learn plan n xs (numbers mail)) ek (numbers-drop s 1)
+
+  pub state-left : (zs : List ℕ) → zs ≡ bytesOf ((k + 1) ∷ drop 1 (numbers (take 2 s ++ ys))) → zs ≡ stateLeft plan i inputs coins s mail
+  unfolding stateLeft call callWith
+  state-left zs e = e ∙ ap₂ (λ (n : ℕ) (xs : List ℕ). bytesOf (n ∷ xs)) (add-one k ∙ ap suc ek) (sym (numbers-drop (take 2 s ++ ys) 1) ∙ learnt-after)
+
+  pub out-left : (n : ℕ) (os : List ℕ) → numbers os ≡ written plan k (callWith plan i k (numbers inputs) (numbers coins) (numbers (drop 2 (take 2 s ++ ys))) (numbers mail)) → length os ≡ 2 * n → EachBelow 256 os
+      → os ≡ outLeft plan i inputs coins s mail
+  unfolding outLeft call
+  out-left n os e l b =
+      sym (bytes-of-numbers n os l b)
+      ∙ ap bytesOf (e ∙ ap₂ (λ (m : ℕ) (xs : List ℕ). written plan m (callWith plan i m (numbers inputs) (numbers coins) xs (numbers mail))) ek learnt-after)
+
+-- ---- the call
+module _ (bs : List ℕ) (i : ℕ) (inputs coins state mail : List ℕ) (room : ℕ) where
+  answer-parts : callAnswer bs i inputs coins state mail room ≡ andThen (planCheck bs) (firstOf (partyChecks (planOf bs) i inputs coins state mail room))
+  unfolding callAnswer callChecks planCheck
+  answer-parts = firstOf-append (planChecks bs) (partyChecks (planOf bs) i inputs coins state mail room)
+
+  module _ (r : Reading) (read : ReadAs bs r) where
+    module _ (q : Refusal) (e : r ≡ reading.Refused q) where
+      plan-refused : callAnswer bs i inputs coins state mail room ≡ Refused q
+      plan-refused = answer-parts ∙ andThen-refused (planCheck bs) _ q (refused-read bs r q read e)
+
+      pub refused-answer : (c : Checked) → c ≡ checkedOf r → c ≡ callAnswer bs i inputs coins state mail room
+      unfolding checkedOf
+      refused-answer c ec = ec ∙ ap checkedOf e ∙ sym plan-refused
+
+      pub refused-state : state ≡ stateAfter bs i inputs coins state mail room
+      unfolding stateAfter unlessRefused
+      refused-state = rw plan-refused
+
+      pub refused-out : (out : List ℕ) → room ≡ length out → out ≡ outAfter bs i inputs coins state mail out
+      unfolding outAfter unlessRefused
+      refused-out out l = rw (← l, plan-refused)
+
+    module _ (h : Header) (e : r ≡ reading.Passed h) (c : Checked) (ec : c ≡ firstOf (partyChecks (planOf bs) i inputs coins state mail room)) where
+      plan-passes : callAnswer bs i inputs coins state mail room ≡ c
+      plan-passes = answer-parts ∙ andThen-passed (planCheck bs) _ (planned-read bs r h read e .passes) ∙ sym ec
+
+      pub checked-answer : c ≡ callAnswer bs i inputs coins state mail room
+      checked-answer = sym plan-passes
+
+      pub checked-state : (q : Refusal) → c ≡ Refused q → state ≡ stateAfter bs i inputs coins state mail room
+      unfolding stateAfter unlessRefused
+      checked-state q f = rw (plan-passes, f)
+
+      pub checked-out : (q : Refusal) → c ≡ Refused q → (out : List ℕ) → room ≡ length out → out ≡ outAfter bs i inputs coins state mail out
+      unfolding outAfter unlessRefused
+      checked-out q f out l = rw (← l, plan-passes, f)
+
+      module _ (f : c ≡ Passed) where
+        pub passed-admitted : Admitted (planOf bs) i inputs coins state mail room
+        passed-admitted = admitted (planOf bs) i inputs coins state mail room (sym ec ∙ f)
+
+        pub passed-answer : Passed ≡ callAnswer bs i inputs coins state mail room
+        passed-answer = sym (plan-passes ∙ f)
+
+        pub passed-state : (zs : List ℕ) → zs ≡ stateLeft (planOf bs) i inputs coins state mail → zs ≡ stateAfter bs i inputs coins state mail room
+        unfolding stateAfter unlessRefused calledOn stateLeft
+        passed-state zs z = rw (plan-passes, f) z
+
+        pub passed-out : (out zs : List ℕ) → room ≡ length out → zs ≡ outLeft (planOf bs) i inputs coins state mail → zs ≡ outAfter bs i inputs coins state mail out
+        unfolding outAfter unlessRefused calledOn outLeft
+        passed-out out zs l z = rw (← l, plan-passes, f) z
+
+pub ruleset calling = (needs, planned-read, passed-admitted, refused-answer, refused-state, refused-out, checked-answer, checked-state, checked-out, passed-answer, passed-state, passed-out)
