@@ -90,6 +90,9 @@ module _ (bs : List ℕ) (v : ℕ) (l : Lent bs) (b : EachBelow 256 bs) where
       ∙ ap₂ _++_ (take-stored bs 0 v (l .some)) (drop-stored bs 0 v)
       ∙ ap (λ (ys : List ℕ). v % 256 ∷ v / 256 % 256 ∷ ys) later
 
+pub advance-to : (bs zs : List ℕ) (v : ℕ) → Lent bs → ((i : ℕ) → Fits w8 (getD bs i 0)) → zs ≡ stored bs 0 v → zs ≡ bytesOf (v ∷ drop 1 (numbers bs))
+advance-to bs zs v l b e = e ∙ advanced bs v l (fits-below bs b)
+
 pub next-lent : (bs : List ℕ) (n : ℕ) → length bs ≡ 2 * (1 + n) → Lent bs
 next-lent bs n e = record { even = omega arith; some = omega arith }
 
@@ -113,6 +116,14 @@ module _ (plan : Plan) (i k : ℕ) (inputs coins s mail ys : List ℕ) (ek : k �
       ∙ ap bytesOf (e ∙ ap₂ (λ (m : ℕ) (xs : List ℕ). written plan m (callWith plan i m (numbers inputs) (numbers coins) xs (numbers mail))) ek learnt-after)
 
 -- ---- the call
+pub refused-passed : (r : Reading) (h : Header) → r ≡ reading.Passed h → Passed ≡ checkedOf r
+unfolding checkedOf
+refused-passed r h e = rw e
+
+pub refused-refused : (r : Reading) (q : Refusal) → r ≡ reading.Refused q → Refused q ≡ checkedOf r
+unfolding checkedOf
+refused-refused r q e = rw e
+
 module _ (bs : List ℕ) (i : ℕ) (inputs coins state mail : List ℕ) (room : ℕ) where
   answer-parts : callAnswer bs i inputs coins state mail room ≡ andThen (planCheck bs) (firstOf (partyChecks (planOf bs) i inputs coins state mail room))
   unfolding callAnswer callChecks planCheck
@@ -165,4 +176,4 @@ module _ (bs : List ℕ) (i : ℕ) (inputs coins state mail : List ℕ) (room : 
         unfolding outAfter unlessRefused calledOn outLeft
         passed-out out zs l z = rw (← l, plan-passes, f) z
 
-pub ruleset calling = (needs, planned-read, passed-admitted, refused-answer, refused-state, refused-out, checked-answer, checked-state, checked-out, passed-answer, passed-state, passed-out)
+pub ruleset calling = (needs, advance-to, refused-passed, refused-refused, planned-read, passed-admitted, refused-answer, refused-state, refused-out, checked-answer, checked-state, checked-out, passed-answer, passed-state, passed-out)
