@@ -5,15 +5,15 @@
 -- Assumes nothing.
 use mathlib.Core.Path.{_≡_, refl, sym, ap, ap₂, _∙_}
 use mathlib.Core.Bool.{Bool, true, false, cond, not, _&&_}
-use mathlib.Core.List.{List, [], _∷_, _++_}
+use mathlib.Core.List.{List, [], _∷_, _++_, append-nil}
 use Prim.Native.Nat.{ℕ, zero, suc, _+_, _-_, _*_, _/_, _%_, _<_, _≤_}
 use native.Mathlib.Numerals.{add-one}
 use native.Mathlib.Omega.{arith}
 use borrow.Author.Needs.{needs}
 use borrow.Author.Tests.{leb-true, eqb-true, eqb-false, not-true}
 use lib.Dec.{eqb, leb}
-use lib.ListN.{length, getD, take, drop, length-drop, take-append-drop}
-use lib.Seq.{getD-drop, drop-at, length-take-le}
+use lib.ListN.{length, getD, take, drop, length-append, length-drop, drop-of-length-le, take-append-drop}
+use lib.Seq.{getD-drop, drop-at, take-all, length-take-le}
 use mir.Syntax.{w8}
 use mir.Val.{Fits}
 use Rattle.numbers.specs.Bytes.{numbers, bytesOf, stored, holdsCount, firstOver, allBelow}
@@ -34,7 +34,8 @@ use Rattle.plan.proofs.Refusals.{andThen-passed, andThen-refused, firstOf-appen
 use Rattle.plan.proofs.Planned.{planned-read, refused-read, both-true, between-true, plan-p, plan-n, plan-gates}
 use Rattle.party.specs.Messages.{Called, learn, callWith, call}
 use Rattle.party.specs.Calls.{partyChecks, callChecks, callAnswer, written, unlessRefused, calledOn, stateAfter, outAfter}
-use Rattle.party.specs.Admitted.{Admitted, Lent, checkedOf, stateLeft, outLeft}
+use Rattle.party.specs.Lent.{Holds}
+use Rattle.party.specs.Admitted.{Admitted, Whole, Learnt, Sendable, checkedOf, stateLeft, outLeft}
 
 -- ---- a call that passes its checks
 below-finished : (k m : ℕ) (t : Bool) → t ≡ eqb k (m + 3) → leb k (m + 3) ≡ true → not t ≡ true → k ≤ m + 2
@@ -72,8 +73,12 @@ admitted plan i inputs coins state mail room h =
       room-is = eqb-true room (2 * writtenCount plan i (getD (numbers state) 0 0)) (passed-need refusal.BufferLength _ (m .0));
     }
 
+pub admitted-by : (plan : Plan) (i : ℕ) (inputs coins state mail : List ℕ) (room : ℕ) (c : Checked)
+    → c ≡ firstOf (partyChecks plan i inputs coins state mail room) → c ≡ Passed → Admitted plan i inputs coins state mail room
+admitted-by plan i inputs coins state mail room c ec e = admitted plan i inputs coins state mail room (sym ec ∙ e)
+
 -- ---- the number of the next call
-module _ (bs : List ℕ) (v : ℕ) (l : Lent bs) (b : EachBelow 256 bs) where
+module _ (bs : List ℕ) (v : ℕ) (l : Whole bs) (b : EachBelow 256 bs) where
   later-below : EachBelow 256 (drop (2 * 1) bs)
   later-below i m = rw (getD-drop (2 * 1) bs i 0) (b (2 * 1 + i) (omega (arith, length-drop (2 * 1) bs)))
 
@@ -90,30 +95,102 @@ module _ (bs : List ℕ) (v : ℕ) (l : Lent bs) (b : EachBelow 256 bs) where
       ∙ ap₂ _++_ (take-stored bs 0 v (l .some)) (drop-stored bs 0 v)
       ∙ ap (λ (ys : List ℕ). v % 256 ∷ v / 256 % 256 ∷ ys) later
 
-pub advance-to : (bs zs : List ℕ) (v : ℕ) → Lent bs → ((i : ℕ) → Fits w8 (getD bs i 0)) → zs ≡ stored bs 0 v → zs ≡ bytesOf (v ∷ drop 1 (numbers bs))
+pub advance-to : (bs zs : List ℕ) (v : ℕ) → Whole bs → ((i : ℕ) → Fits w8 (getD bs i 0)) → zs ≡ stored bs 0 v → zs ≡ bytesOf (v ∷ drop 1 (numbers bs))
 advance-to bs zs v l b e = e ∙ advanced bs v l (fits-below bs b)
 
-pub next-lent : (bs : List ℕ) (n : ℕ) → length bs ≡ 2 * (1 + n) → Lent bs
-next-lent bs n e = record { even = omega arith; some = omega arith }
+pub next-whole : (bs : List ℕ) (n : ℕ) → length bs ≡ 2 * (1 + n) → Whole bs
+next-whole bs n e = record { even = omega arith; some = omega arith }
+
+-- ---- the shares of a state: the bytes after its first number
+part-is : (s : List ℕ) → take (length s - 2) (drop 2 s) ≡ drop 2 s
+part-is s = take-all (length s - 2) (drop 2 s) (rw length-drop (omega arith))
+
+pub part-numbers : (s : List ℕ) → numbers (take (length s - 2) (drop 2 s)) ≡ drop 1 (numbers s)
+part-numbers s = ap numbers (part-is s) ∙ numbers-drop s 1
+
+pub part-below : (p q : ℕ) (s : List ℕ) → p ≡ q → allBelow p (drop 1 (numbers s)) ≡ true → allBelow q (numbers (take (length s - 2) (drop 2 s))) ≡ true
+part-below p q s e h = rw (part-numbers s, ← e) h
+
+module _ (s ys : List ℕ) (some : 2 ≤ length s) (long : length ys ≡ length (take (length s - 2) (drop 2 s))) where
+  after : List ℕ
+  after = take 2 s ++ (ys ++ drop (length s - 2) (drop 2 s))
+
+  nothing-after : drop (length s - 2) (drop 2 s) ≡ []
+  nothing-after = drop-of-length-le (drop 2 s) {i = length s - 2} (rw length-drop (omega arith))
+
+  shares-after : drop 2 after ≡ ys
+  unfolding after
+  shares-after = drop-at (take 2 s) (ys ++ drop (length s - 2) (drop 2 s)) 2 (length-take-le 2 s some) ∙ ap (λ (l : List ℕ). ys ++ l) nothing-after ∙ append-nil ys
+
+  numbers-after : drop 1 (numbers after) ≡ numbers ys
+  numbers-after = sym (numbers-drop after 1) ∙ ap numbers shares-after
+
+  length-after : length after ≡ length s
+  unfolding after
+  length-after =
+      length-append (take 2 s) (ys ++ drop (length s - 2) (drop 2 s))
+      ∙ omega (arith, length-take-le 2 s some, length-append ys (drop (length s - 2) (drop 2 s)), ap length nothing-after, long, ap length (part-is s), length-drop 2 s)
+
+  pub state-learnt : (bs : List ℕ) (h : Header) → Planned bs h → (k : ℕ) (mail : List ℕ) → Holds (h .field .p) (learn (planOf bs) k (numbers (take (length s - 2) (drop 2 s))) (numbers mail)) ys
+      → Learnt (planOf bs) k (numbers mail) s (take 2 s ++ (ys ++ drop (length s - 2) (drop 2 s)))
+  unfolding after
+  state-learnt bs h pl k mail e = record {
+    long = length-after;
+    eq = numbers-after ∙ e .eq ∙ ap (λ (xs : List ℕ). learn (planOf bs) k xs (numbers mail)) (part-numbers s);
+    below = rw (numbers-after, plan-p pl) (e .below);
+  }
+
+-- ---- what a call writes
+pub bytes-sent : (plan : Plan) (i k : ℕ) (inputs coins s mail before out : List ℕ) → Sendable plan i k inputs coins (drop 1 (numbers s)) mail before → length out ≡ length before → ((j : ℕ) → Fits w8 (getD out j 0))
+    → numbers out ≡ written plan k (callWith plan i k (numbers inputs) (numbers coins) (numbers (take (length s - 2) (drop 2 s))) (numbers mail))
+    → out ≡ bytesOf (written plan k (callWith plan i k (numbers inputs) (numbers coins) (drop 1 (numbers s)) (numbers mail)))
+bytes-sent plan i k inputs coins s mail before out a l b e =
+    sym (bytes-of-numbers (writtenCount plan i k) out (l ∙ a .out-long) (fits-below out b))
+    ∙ ap bytesOf (e ∙ ap (λ (xs : List ℕ). written plan k (callWith plan i k (numbers inputs) (numbers coins) xs (numbers mail))) (part-numbers s))
 
 -- ---- what a call leaves
-module _ (plan : Plan) (i k : ℕ) (inputs coins s mail ys : List ℕ) (ek : k ≡ getD (numbers s) 0 0) (some : 2 ≤ length s) (is : numbers ys ≡ learn plan k (numbers (drop 2 s)) (numbers mail)) where
-  shares-after : drop 2 (take 2 s ++ ys) ≡ ys
-  shares-after = drop-at (take 2 s) ys 2 (length-take-le 2 s some)
+module _ (plan : Plan) (i : ℕ) (inputs coins s mail out : List ℕ) (a : Admitted plan i inputs coins s mail (length out)) where
+  pub admitted-whole : Whole s
+  admitted-whole = next-whole s (length (plan .gates)) (a .state-long)
 
-  learnt-after : numbers (drop 2 (take 2 s ++ ys)) ≡ learn plan (getD (numbers s) 0 0) (drop 1 (numbers s)) (numbers mail)
-  learnt-after = ap numbers shares-after ∙ is ∙ ap₂ (λ (n : ℕ) (xs : List ℕ). learn plan n xs (numbers mail)) ek (numbers-drop s 1)
+  module _ (k : ℕ) (ek : k ≡ getD (numbers s) 0 0) (n : List ℕ) (l : Learnt plan k (numbers mail) s n) where
+    pub learnt-whole : Whole n
+    learnt-whole = next-whole n (length (plan .gates)) (l .long ∙ a .state-long)
 
-  pub state-left : (zs : List ℕ) → zs ≡ bytesOf ((k + 1) ∷ drop 1 (numbers (take 2 s ++ ys))) → zs ≡ stateLeft plan i inputs coins s mail
-  unfolding stateLeft call callWith
-  state-left zs e = e ∙ ap₂ (λ (n : ℕ) (xs : List ℕ). bytesOf (n ∷ xs)) (add-one k ∙ ap suc ek) (sym (numbers-drop (take 2 s ++ ys) 1) ∙ learnt-after)
+    pub learnt-sendable : Sendable plan i k inputs coins (drop 1 (numbers n)) mail out
+    learnt-sendable = record {
+      inputs-long = a .inputs-long;
+      inputs-below = a .inputs-below;
+      coins-long = a .coins-long;
+      coins-below = a .coins-below;
+      shares-below = l .below;
+      mail-below = a .mail-below;
+      call-high = rw ek (a .call-high);
+      out-long = rw ek (a .room-is);
+    }
 
-  pub out-left : (n : ℕ) (os : List ℕ) → numbers os ≡ written plan k (callWith plan i k (numbers inputs) (numbers coins) (numbers (drop 2 (take 2 s ++ ys))) (numbers mail)) → length os ≡ 2 * n → EachBelow 256 os
-      → os ≡ outLeft plan i inputs coins s mail
-  unfolding outLeft call
-  out-left n os e l b =
-      sym (bytes-of-numbers n os l b)
-      ∙ ap bytesOf (e ∙ ap₂ (λ (m : ℕ) (xs : List ℕ). written plan m (callWith plan i m (numbers inputs) (numbers coins) xs (numbers mail))) ek learnt-after)
+    learnt-shares : drop 1 (numbers n) ≡ learn plan (getD (numbers s) 0 0) (drop 1 (numbers s)) (numbers mail)
+    learnt-shares = l .eq ∙ ap (λ (j : ℕ). learn plan j (drop 1 (numbers s)) (numbers mail)) ek
+
+    pub state-left : (zs : List ℕ) → zs ≡ bytesOf ((k + 1) ∷ drop 1 (numbers n)) → zs ≡ stateLeft plan i inputs coins s mail
+    unfolding stateLeft call callWith
+    state-left zs e = e ∙ ap₂ (λ (j : ℕ) (xs : List ℕ). bytesOf (j ∷ xs)) (add-one k ∙ ap suc ek) learnt-shares
+
+    pub out-left : (zs : List ℕ) → zs ≡ bytesOf (written plan k (callWith plan i k (numbers inputs) (numbers coins) (drop 1 (numbers n)) (numbers mail))) → zs ≡ outLeft plan i inputs coins s mail
+    unfolding outLeft call
+    out-left zs e =
+        e ∙ ap bytesOf (ap₂ (λ (j : ℕ) (xs : List ℕ). written plan j (callWith plan i j (numbers inputs) (numbers coins) xs (numbers mail))) ek learnt-shares)
+
+pub below-here : (bs : List ℕ) (h : Header) → Planned bs h → (xs : List ℕ) → allBelow (planOf bs .p) xs ≡ true → allBelow (h .field .p) xs ≡ true
+below-here bs h pl xs b = rw (← plan-p pl) b
+
+pub shares-here : (bs : List ℕ) (h : Header) → Planned bs h → (s : List ℕ) → allBelow (planOf bs .p) (drop 1 (numbers s)) ≡ true → allBelow (h .field .p) (numbers (take (length s - 2) (drop 2 s))) ≡ true
+shares-here bs h pl s b = part-below (planOf bs .p) (h .field .p) s (plan-p pl) b
+
+pub shares-there : (bs : List ℕ) (s : List ℕ) → allBelow (planOf bs .p) (drop 1 (numbers s)) ≡ true → allBelow (planOf bs .p) (numbers (take (length s - 2) (drop 2 s))) ≡ true
+shares-there bs s b = part-below (planOf bs .p) (planOf bs .p) s refl b
+
+pub ruleset working = (needs, below-here, shares-here, shares-there, state-learnt, bytes-sent, admitted-whole, learnt-whole, learnt-sendable, state-left, out-left)
 
 -- ---- the call
 pub refused-passed : (r : Reading) (h : Header) → r ≡ reading.Passed h → Passed ≡ checkedOf r
@@ -142,9 +219,9 @@ module _ (bs : List ℕ) (i : ℕ) (inputs coins state mail : List ℕ) (room : 
       unfolding stateAfter unlessRefused
       refused-state = rw plan-refused
 
-      pub refused-out : (out : List ℕ) → room ≡ length out → out ≡ outAfter bs i inputs coins state mail out
+      refused-buffer : (out : List ℕ) → room ≡ length out → out ≡ outAfter bs i inputs coins state mail out
       unfolding outAfter unlessRefused
-      refused-out out l = rw (← l, plan-refused)
+      refused-buffer out l = rw (← l, plan-refused)
 
     module _ (h : Header) (e : r ≡ reading.Passed h) (c : Checked) (ec : c ≡ firstOf (partyChecks (planOf bs) i inputs coins state mail room)) where
       plan-passes : callAnswer bs i inputs coins state mail room ≡ c
@@ -157,14 +234,11 @@ module _ (bs : List ℕ) (i : ℕ) (inputs coins state mail : List ℕ) (room : 
       unfolding stateAfter unlessRefused
       checked-state q f = rw (plan-passes, f)
 
-      pub checked-out : (q : Refusal) → c ≡ Refused q → (out : List ℕ) → room ≡ length out → out ≡ outAfter bs i inputs coins state mail out
+      checked-buffer : (q : Refusal) → c ≡ Refused q → (out : List ℕ) → room ≡ length out → out ≡ outAfter bs i inputs coins state mail out
       unfolding outAfter unlessRefused
-      checked-out q f out l = rw (← l, plan-passes, f)
+      checked-buffer q f out l = rw (← l, plan-passes, f)
 
       module _ (f : c ≡ Passed) where
-        pub passed-admitted : Admitted (planOf bs) i inputs coins state mail room
-        passed-admitted = admitted (planOf bs) i inputs coins state mail room (sym ec ∙ f)
-
         pub passed-answer : Passed ≡ callAnswer bs i inputs coins state mail room
         passed-answer = sym (plan-passes ∙ f)
 
@@ -172,8 +246,19 @@ module _ (bs : List ℕ) (i : ℕ) (inputs coins state mail : List ℕ) (room : 
         unfolding stateAfter unlessRefused calledOn stateLeft
         passed-state zs z = rw (plan-passes, f) z
 
-        pub passed-out : (out zs : List ℕ) → room ≡ length out → zs ≡ outLeft (planOf bs) i inputs coins state mail → zs ≡ outAfter bs i inputs coins state mail out
+        passed-buffer : (out zs : List ℕ) → room ≡ length out → zs ≡ outLeft (planOf bs) i inputs coins state mail → zs ≡ outAfter bs i inputs coins state mail out
         unfolding outAfter unlessRefused calledOn outLeft
-        passed-out out zs l z = rw (← l, plan-passes, f) z
+        passed-buffer out zs l z = rw (← l, plan-passes, f) z
 
-pub ruleset calling = (needs, advance-to, refused-passed, refused-refused, planned-read, passed-admitted, refused-answer, refused-state, refused-out, checked-answer, checked-state, checked-out, passed-answer, passed-state, passed-out)
+module _ (bs : List ℕ) (i : ℕ) (inputs coins state mail out : List ℕ) (r : Reading) (read : ReadAs bs r) where
+  pub refused-out : (q : Refusal) → r ≡ reading.Refused q → out ≡ outAfter bs i inputs coins state mail out
+  refused-out q e = refused-buffer bs i inputs coins state mail (length out) r read q e out refl
+
+  module _ (h : Header) (e : r ≡ reading.Passed h) (c : Checked) (ec : c ≡ firstOf (partyChecks (planOf bs) i inputs coins state mail (length out))) where
+    pub checked-out : (q : Refusal) → c ≡ Refused q → out ≡ outAfter bs i inputs coins state mail out
+    checked-out q f = checked-buffer bs i inputs coins state mail (length out) r read h e c ec q f out refl
+
+    pub passed-out : c ≡ Passed → (zs : List ℕ) → zs ≡ outLeft (planOf bs) i inputs coins state mail → zs ≡ outAfter bs i inputs coins state mail out
+    passed-out f zs z = passed-buffer bs i inputs coins state mail (length out) r read h e c ec f out zs refl z
+
+pub ruleset calling = (needs, advance-to, refused-passed, refused-refused, planned-read, admitted-by, refused-answer, refused-state, refused-out, checked-answer, checked-state, checked-out, passed-answer, passed-state, passed-out)

@@ -10,7 +10,7 @@ use Rattle.plan.specs.declared.Reading.the-variants as reading
 use Rattle.plan.specs.declared.Checked.{Checked}
 use Rattle.plan.specs.declared.Checked.the-variants.{Passed, Refused}
 use Rattle.plan.specs.Plans.{Plan, partyCount, multiplies, ownInputCount, ownCoinCount, mailCount, writtenCount}
-use Rattle.party.specs.Messages.{call}
+use Rattle.party.specs.Messages.{learn, call}
 use Rattle.party.specs.Calls.{written}
 
 -- the lent lists have their counts, and their numbers are below p; `room` is the length of the buffer to be written
@@ -33,10 +33,27 @@ unfoldable pub checkedOf : Reading → Checked
 checkedOf (reading.Passed h) = Passed
 checkedOf (reading.Refused r) = Refused r
 
--- a lent list of one number or more
-pub record Lent (bs : List ℕ) : Type 0 where
+-- bytes of whole numbers, one or more
+pub record Whole (bs : List ℕ) : Type 0 where
   pub even : length bs % 2 ≡ 0
   pub some : 2 ≤ length bs
+
+-- a state after call number k has learnt from its mail and worked
+pub record Learnt (plan : Plan) (k : ℕ) (mail old new : List ℕ) : Type 0 where
+  pub long : length new ≡ length old
+  pub eq : drop 1 (numbers new) ≡ learn plan k (drop 1 (numbers old)) mail
+  pub below : allBelow (plan .p) (drop 1 (numbers new)) ≡ true
+
+-- what call number k writes from, with these shares
+pub record Sendable (plan : Plan) (i k : ℕ) (inputs coins shares mail out : List ℕ) : Type 0 where
+  pub inputs-long : length inputs ≡ 2 * ownInputCount plan i
+  pub inputs-below : allBelow (plan .p) (numbers inputs) ≡ true
+  pub coins-long : length coins ≡ 2 * ownCoinCount plan i
+  pub coins-below : allBelow (plan .p) (numbers coins) ≡ true
+  pub shares-below : allBelow (plan .p) shares ≡ true
+  pub mail-below : allBelow (plan .p) (numbers mail) ≡ true
+  pub call-high : k ≤ multiplies plan + 2
+  pub out-long : length out ≡ 2 * writtenCount plan i k
 
 -- the state and the buffer that a call leaves
 unfoldable pub stateLeft : Plan → ℕ → List ℕ → List ℕ → List ℕ → List ℕ → List ℕ
