@@ -1,4 +1,7 @@
 pub mod PointLaws
-pub mod LearnLaws
-pub mod CheckLaws
-pub mod CallLaws
+pub mod SendLaws
+pub mod DealLaws
+pub mod InputLaws
+pub mod OutLaws
+pub mod ProductLaws
+pub mod ResultLaws

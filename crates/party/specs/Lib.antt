@@ -1,5 +1,3 @@
 pub mod Messages
 pub mod Calls
-pub mod Lent
-pub mod Parts
-pub mod Admitted
+pub mod Sending
