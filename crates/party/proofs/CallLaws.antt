@@ -35,6 +35,7 @@ use Rattle.plan.proofs.Planned.{planned-read, refused-read, both-true, between-
 use Rattle.party.specs.Messages.{Called, learn, callWith, call}
 use Rattle.party.specs.Calls.{partyChecks, callChecks, callAnswer, written, unlessRefused, calledOn, stateAfter, outAfter}
 use Rattle.party.specs.Lent.{Holds}
+use Rattle.party.specs.Sending.{Coined, Own, Lent}
 use Rattle.party.specs.Admitted.{Admitted, Whole, Learnt, Sendable, checkedOf, stateLeft, outLeft}
 
 -- ---- a call that passes its checks
@@ -141,6 +142,16 @@ module _ (s ys : List ℕ) (some : 2 ≤ length s) (long : length ys ≡ length 
   }
 
 -- ---- what a call writes
+pub lent-parts : (plan : Plan) (i k : ℕ) (inputs coins s mail out : List ℕ) → Sendable plan i k inputs coins (drop 1 (numbers s)) mail out
+    → Lent plan i k inputs coins (take (length s - 2) (drop 2 s)) mail out
+lent-parts plan i k inputs coins s mail out a = record {
+  call = a .call-high;
+  own = record { inputs-below = a .inputs-below; coined = record { below = a .coins-below; long = a .coins-long } };
+  shares-below = part-below (plan .p) (plan .p) s refl (a .shares-below);
+  mail-below = a .mail-below;
+  room = a .out-long;
+}
+
 pub bytes-sent : (plan : Plan) (i k : ℕ) (inputs coins s mail before out : List ℕ) → Sendable plan i k inputs coins (drop 1 (numbers s)) mail before → length out ≡ length before → ((j : ℕ) → Fits w8 (getD out j 0))
     → numbers out ≡ written plan k (callWith plan i k (numbers inputs) (numbers coins) (numbers (take (length s - 2) (drop 2 s))) (numbers mail))
     → out ≡ bytesOf (written plan k (callWith plan i k (numbers inputs) (numbers coins) (drop 1 (numbers s)) (numbers mail)))
@@ -187,10 +198,7 @@ below-here bs h pl xs b = rw (← plan-p pl) b
 pub shares-here : (bs : List ℕ) (h : Header) → Planned bs h → (s : List ℕ) → allBelow (planOf bs .p) (drop 1 (numbers s)) ≡ true → allBelow (h .field .p) (numbers (take (length s - 2) (drop 2 s))) ≡ true
 shares-here bs h pl s b = part-below (planOf bs .p) (h .field .p) s (plan-p pl) b
 
-pub shares-there : (bs : List ℕ) (s : List ℕ) → allBelow (planOf bs .p) (drop 1 (numbers s)) ≡ true → allBelow (planOf bs .p) (numbers (take (length s - 2) (drop 2 s))) ≡ true
-shares-there bs s b = part-below (planOf bs .p) (planOf bs .p) s refl b
-
-pub ruleset working = (needs, below-here, shares-here, shares-there, state-learnt, bytes-sent, admitted-whole, learnt-whole, learnt-sendable, state-left, out-left)
+pub ruleset working = (needs, below-here, shares-here, lent-parts, state-learnt, bytes-sent, admitted-whole, learnt-whole, learnt-sendable, state-left, out-left)
 
 -- ---- the call
 pub refused-passed : (r : Reading) (h : Header) → r ≡ reading.Passed h → Passed ≡ checkedOf r

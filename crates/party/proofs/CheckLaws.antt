@@ -44,7 +44,7 @@ use Rattle.plan.proofs.Valid.{valid}
 use Rattle.party.specs.Messages.{sharesOfOut}
 use Rattle.party.specs.Calls.{nothingFound, openingCheck, partyChecks}
 use Rattle.party.proofs.PointLaws.{first-points, points-below}
-use Rattle.party.specs.Parts.{listChecks, ownChecks, stateChecks, mailChecks, outsCheck, outLies, Openings}
+use Rattle.party.specs.Parts.{listChecks, ownChecks, stateChecks, mailChecks, outsCheck, outLies, OwnOuts}
 
 -- ---- a lent list
 module _ (few : Refusal) (over : ℕ → Refusal) (p count : ℕ) (bs : List ℕ) (t : Bool) (et : t ≡ holdsCount count bs) where
@@ -131,7 +131,7 @@ shares-below p n own j mail r b = allBelow-tab p (λ i. getD mail (own * i + j) 
 pub shares-count : (n own j : ℕ) (mail xs : List ℕ) → xs ≡ sharesOfOut n own j mail → n ≡ length xs
 shares-count n own j mail xs e = sym (ap length e ∙ shares-long n own j mail)
 
-module _ (h : Header) (own : ℕ) (o : Openings h own) where
+module _ (h : Header) (own : ℕ) (o : OwnOuts h own) where
   module _ (points : List ℕ) (is : points ≡ tab suc (h .n)) where
     points-long : length points ≡ h .n
     points-long = ap length is ∙ length-tab suc (h .n)
@@ -165,7 +165,7 @@ module _ (h : Header) (own : ℕ) (mail : List ℕ) (j : ℕ) (s : Seeking (outL
 pub ruleset opening = (needs, begin, nothing, shares-count, points-over, points-few, points-each, gathered-below, out-off, out-on)
 
 -- the room of the opening rows
-module _ (h : Header) (own : ℕ) (o : Openings h own) where
+module _ (h : Header) (own : ℕ) (o : OwnOuts h own) where
   used-small : (h .t + 1) * h .n ≤ 120
   used-small = mul-le-mul {n₁ = h .t + 1} {m₁ = h .n} {n₂ = 8} {m₂ = 15} (omega (arith, o .majority, o .n-high)) (o .n-high)
 
@@ -215,8 +215,8 @@ pub ruleset rowing = (needs, used-fits, used-within, used-count, opened-below, p
 pub plan-ready : (bs : List ℕ) (h : Header) → Planned bs h → Ready (h .field .p)
 plan-ready bs h pl = record { prime = rw (plan-p pl) at (valid bs (pl .passes) .prime); small = pl .p-high }
 
-pub plan-openings : (bs : List ℕ) (h : Header) (own : ℕ) → Planned bs h → own ≤ 64 → Openings h own
-plan-openings bs h own pl l = record { ready = plan-ready bs h pl; n-high = pl .n-high; majority = pl .majority; p-low = pl .p-low; own-high = l }
+pub plan-own-outs : (bs : List ℕ) (h : Header) (own : ℕ) → Planned bs h → own ≤ 64 → OwnOuts h own
+plan-own-outs bs h own pl l = record { ready = plan-ready bs h pl; n-high = pl .n-high; majority = pl .majority; p-low = pl .p-low; own-high = l }
 
 search-off : ℕ → ℕ → List ℕ → ℕ → ℕ → List ℕ → Found
 search-off p t points n own mail = firstFailing (λ j. nothingFound (firstOff p t points (sharesOfOut n own j mail))) own
@@ -284,7 +284,7 @@ module _ (bs : List ℕ) (h : Header) (pl : Planned bs h) (i : ℕ) where
 pub coins-fit : (bs : List ℕ) (h : Header) → Planned bs h → (d : ℕ) → d ≤ 1024 → Fits w64 (h .t * d)
 coins-fit bs h pl d l = record { fits = omega (arith, mul-le-mul {n₁ = h .t} {m₁ = d} {n₂ = 15} {m₂ = 1024} (omega (arith, pl .majority, pl .n-high)) l) }
 
-pub ruleset owning = (needs, plan-openings, outs-found, outs-nothing, own-under, own-over, own-inputs, own-coins, coins-fit)
+pub ruleset owning = (needs, plan-own-outs, outs-found, outs-nothing, own-under, own-over, own-inputs, own-coins, coins-fit)
 
 -- refusals 17 to 20
 pub list-below : (few : Refusal) (over : ℕ → Refusal) (p n : ℕ) (bs : List ℕ) (c : Checked) → c ≡ firstOf (listChecks few over p n bs) → c ≡ Passed → allBelow p (numbers bs) ≡ true

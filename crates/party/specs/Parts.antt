@@ -57,7 +57,7 @@ outsCheck plan i mail =
     (ownOutCount plan i))
 
 -- contents of a plan whose outs can be opened, and a party's number of outs
-pub record Openings (h : Header) (own : ℕ) : Type 0 where
+pub record OwnOuts (h : Header) (own : ℕ) : Type 0 where
   pub ready : Ready (h .field .p)
   pub n-high : h .n ≤ 15
   pub majority : 2 * h .t < h .n

@@ -16,7 +16,7 @@ ghost use Rattle.plan.specs.File.{planOf};
 ghost use Rattle.plan.specs.Planned.{Planned};
 ghost use Rattle.party.specs.Messages.{sharesOfOut};
 ghost use Rattle.party.specs.Calls.{partyChecks};
-ghost use Rattle.party.specs.Parts.{listChecks, ownChecks, stateChecks, mailChecks, outsCheck, outLies, Openings};
+ghost use Rattle.party.specs.Parts.{listChecks, ownChecks, stateChecks, mailChecks, outsCheck, outLies, OwnOuts};
 
 // Refusals 10 and 11.
 fn check_inputs(inputs: &[u8], count: usize, p: u64) -> Checked
@@ -100,7 +100,7 @@ fn shares_of_out(n: usize, own: usize, j: usize, mail: &[u8]) -> [u64; 15]
 
 // The first of a party's own outs whose shares don't lie on one polynomial, by the opening rows.
 fn first_off_out(h: Header, points: &[u64], rows: &[u64], own: usize, mail: &[u8]) -> Found
-    requires { ⌜ Openings h own ⌝ }
+    requires { ⌜ OwnOuts h own ⌝ }
     requires { ⌜ now points ≡ tab suc (h .n) ⌝ }
     requires { ⌜ now rows ≡ openingRows (h .field .p) (h .t) (now points) ⌝ }
     requires { ⌜ allBelow (h .field .p) (numbers (now mail)) ≡ true ⌝ }
@@ -121,7 +121,7 @@ fn first_off_out(h: Header, points: &[u64], rows: &[u64], own: usize, mail: &[u8
 
 // The same, with the opening rows worked in a room that is lent.
 fn first_off_in(h: Header, points: &[u64], room: &mut [u64], own: usize, mail: &[u8]) -> Found
-    requires { ⌜ Openings h own ⌝ }
+    requires { ⌜ OwnOuts h own ⌝ }
     requires { ⌜ now points ≡ tab suc (h .n) ⌝ }
     requires { ⌜ length (now room) ≡ 120 ⌝ }
     requires { ⌜ allBelow (h .field .p) (numbers (now mail)) ≡ true ⌝ }
@@ -134,7 +134,7 @@ fn first_off_in(h: Header, points: &[u64], room: &mut [u64], own: usize, mail: &
 
 // The first of a party's own outs whose shares don't lie on one polynomial.
 fn first_off_of(h: Header, own: usize, mail: &[u8]) -> Found
-    requires { ⌜ Openings h own ⌝ }
+    requires { ⌜ OwnOuts h own ⌝ }
     requires { ⌜ allBelow (h .field .p) (numbers (now mail)) ≡ true ⌝ }
     ensures { λ r. ⌜ r ≡ firstFailing (outLies h own (numbers (now (mail .entry)))) own ⌝ }
 {
