@@ -6,5 +6,4 @@ pub mod InputLaws
 pub mod OutLaws
 pub mod ProductLaws
 pub mod ResultLaws
-pub mod CheckLaws
-pub mod CallLaws
+pub mod WrittenLaws

@@ -159,7 +159,7 @@ rows-total shares os (suc n) =
     ∙ length-append (flat (tab row n)) (row n)
     ∙ ap₂ (λ (a b : ℕ). a + b) (rows-total shares os n) (outs-long shares (outWiresOf (suc n) os))
 
-wires-few : (party : ℕ) (os : List Output) → length (outWiresOf party os) ≤ length os
+pub wires-few : (party : ℕ) (os : List Output) → length (outWiresOf party os) ≤ length os
 unfolding outWiresOf
 wires-few party [] = omega arith
 wires-few party (o ∷ os) = by (eqb party (o .party)) (outWiresOf party os) (wires-few party os)

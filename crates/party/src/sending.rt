@@ -331,7 +331,17 @@ fn results(plan: &[u8], h: Header, mail: &[u8], out: &mut [u8])
 // ---- the call
 
 // Writes what party i's call number k sends, or in the last call its results.
-pub fn send(plan: &[u8], h: Header, i: usize, k: usize, inputs: &[u8], coins: &[u8], shares: &[u8], mail: &[u8], out: &mut [u8])
+pub fn send(
+    plan: &[u8],
+    h: Header,
+    i: usize,
+    k: usize,
+    inputs: &[u8],
+    coins: &[u8],
+    shares: &[u8],
+    mail: &[u8],
+    out: &mut [u8],
+)
     requires { ⌜ Planned (now plan) h ⌝ }
     requires { ⌜ Lent (planOf (now plan)) i k (now inputs) (now coins) (now shares) (now mail) (now out) ⌝ }
     ensures { λ _. ⌜ numbers (now (out .exit)) ≡ written (planOf (now (plan .entry))) k (callWith (planOf (now (plan .entry))) i k (numbers (now (inputs .entry))) (numbers (now (coins .entry))) (numbers (now (shares .entry))) (numbers (now (mail .entry)))) ⌝ }

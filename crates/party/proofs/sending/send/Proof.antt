@@ -1,73 +1,51 @@
-use borrow.Author.Needs.{needs}
+use Rattle.party.proofs.WrittenLaws.{calling}
 use Rattle.party.proofs.sending.send.Statement.{statement}
 use Rattle.party.proofs.sending.send.Tie as tie
-use Rattle.party.proofs.sending.send.Reads as reads
-use Rattle.party.proofs.sending.send.Lts as lts
-use Rattle.party.proofs.sending.results.Reads as results-reads
-use Rattle.party.proofs.sending.send_inputs.Reads as send-inputs-reads
-use Rattle.party.proofs.sending.send_outs.Reads as send-outs-reads
-use Rattle.party.proofs.sending.send_product.Reads as send-product-reads
-use Rattle.plan.proofs.multiply_count.Reads as multiply-count-reads
 
--- src/sending.rt:340:9
 send-inputs-requires : tie.Need-send-inputs-requires
-send-inputs-requires c κs = ?
+send-inputs-requires c κs = search calling
 
--- src/sending.rt:341:9
 same-length : tie.Need-same-length
-same-length c = search needs
+same-length c = search calling
 
--- src/sending.rt:341:9
 returns : tie.Need-returns
-returns c = ?
+returns c = search calling
 
--- src/sending.rt:343:9
 multiply-count-requires : tie.Need-multiply-count-requires
-multiply-count-requires c κs = search needs
+multiply-count-requires c κs = search calling
 
--- src/sending.rt:345:34
 sub-send-product : tie.Need-sub-send-product
-sub-send-product c = search needs
+sub-send-product c = search calling
 
--- src/sending.rt:345:9
 send-product-requires : tie.Need-send-product-requires
-send-product-requires c κs = ?
+send-product-requires c κs = (search calling, (search calling, (search calling, (search calling, search calling))))
 
--- src/sending.rt:346:9
 same-length-2 : tie.Need-same-length-2
-same-length-2 c = search needs
+same-length-2 c = search calling
 
--- src/sending.rt:346:9
 returns-2 : tie.Need-returns-2
-returns-2 c = ?
+returns-2 c = search calling
 
--- src/sending.rt:348:13
 add-if3 : tie.Need-add-if3
-add-if3 c = search needs
+add-if3 c = search calling
 
--- src/sending.rt:349:9
 send-outs-requires : tie.Need-send-outs-requires
-send-outs-requires c κs = ?
+send-outs-requires c κs = search calling
 
--- src/sending.rt:350:9
 same-length-3 : tie.Need-same-length-3
-same-length-3 c = search needs
+same-length-3 c = search calling
 
--- src/sending.rt:350:9
 returns-3 : tie.Need-returns-3
-returns-3 c = ?
+returns-3 c = search calling
 
--- src/sending.rt:352:5
 results-requires : tie.Need-results-requires
-results-requires c κs = ?
+results-requires c κs = search calling
 
--- src/sending.rt:334:1
 same-length-4 : tie.Need-same-length-4
-same-length-4 c = search needs
+same-length-4 c = search calling
 
--- src/sending.rt:334:1
 returns-4 : tie.Need-returns-4
-returns-4 c = ?
+returns-4 c = search calling
 
 pub send-spec : {M : Type 1} → statement M
 send-spec =
