@@ -7,3 +7,5 @@ pub mod OutLaws
 pub mod ProductLaws
 pub mod ResultLaws
 pub mod WrittenLaws
+pub mod CheckLaws
+pub mod CallLaws
