@@ -1,4 +1,5 @@
 pub mod PointLaws
+pub mod LearnLaws
 pub mod SendLaws
 pub mod DealLaws
 pub mod InputLaws
@@ -6,3 +7,5 @@ pub mod OutLaws
 pub mod ProductLaws
 pub mod ResultLaws
 pub mod WrittenLaws
+pub mod CheckLaws
+pub mod CallLaws

@@ -1,3 +1,6 @@
 pub mod Messages
 pub mod Calls
+pub mod Lent
 pub mod Sending
+pub mod Parts
+pub mod Admitted
