@@ -28,8 +28,8 @@ use Rattle.plan.proofs.Planned.{planned-read, refused-read, plan-t, plan-n, pla
 use Rattle.plan.proofs.Ways.{read-outcome}
 use Rattle.pool.specs.Sizes.{valueOf, mailOfCall, writtenByCall, seatCount, seatSize, callCount}
 
-pub plan-checked : (bs : List ℕ) (c : Checked) (r : ℕ) → c ≡ planCheck bs → r ≡ codeOf c → r ≡ codeOf (planCheck bs)
-plan-checked bs c r e f = f ∙ ap codeOf e
+pub code-answered : (a c : Checked) (r : ℕ) → c ≡ a → r ≡ codeOf c → r ≡ codeOf a
+code-answered a c r e f = f ∙ ap codeOf e
 
 -- ---- an answer with a value
 value-refused : (c : Checked) (q : Refusal) (v : ℕ) → c ≡ Refused q → valueOf c v ≡ codeOf c
@@ -157,6 +157,6 @@ pub count-other : (plan : Plan) (i call what : ℕ) → (what ≡ 0 → ⊥) →
 unfolding seatCount
 count-other plan i call what a b c d e = rw (ne-eqb what 0 a, ne-eqb what 1 b, ne-eqb what 2 c, ne-eqb what 3 d, ne-eqb what 4 e) refl
 
-pub ruleset answering = (needs, plan-checked, seat-plan-refused, calls-refused, read-planned, seat-below, seat-above, seat-sized, calls-counted)
+pub ruleset answering = (needs, code-answered, seat-plan-refused, calls-refused, read-planned, seat-below, seat-above, seat-sized, calls-counted)
 
 pub ruleset counting = (needs, mail-there, mail-none, written-there, written-none, own-coins-fit, own-coins-le, own-coins-eq, state-count, count-0, count-1, count-3, count-4, count-other)

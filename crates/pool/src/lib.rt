@@ -5,10 +5,12 @@ use plan::Reading;
 use plan::Refusal;
 ghost use mathlib.Core.Path.{_≡_};
 ghost use Prim.Native.Nat.{_*_, _<_, _≤_};
+ghost use lib.ListN.{length};
 ghost use Rattle.plan.specs.Refusals.{codeOf};
 ghost use Rattle.plan.specs.File.{planCheck, planOf};
 ghost use Rattle.plan.specs.Planned.{Planned};
 ghost use Rattle.plan.specs.Plans.{ownCoinCount};
+ghost use Rattle.party.specs.Calls.{callAnswer, stateAfter, outAfter};
 ghost use Rattle.pool.specs.Sizes.{mailOfCall, writtenByCall, seatCount, seatSize, callCount};
 
 // Checks a plan: refusals 1 to 8.
@@ -98,4 +100,22 @@ pub extern "C" fn pool_calls(plan: &[u8]) -> u64
         return plan::code(plan::outcome(r));
     };
     value(plan::multiply_count(plan, h) + 3)
+}
+
+// One call of a party: refusals 1 to 20.
+#[no_mangle]
+pub extern "C" fn pool_seat_call(
+    plan: &[u8],
+    seat: u16,
+    figures: &[u8],
+    coins: &[u8],
+    state: &mut [u8],
+    mail: &[u8],
+    out: &mut [u8],
+) -> u64
+    ensures answer { λ r. ⌜ r ≡ codeOf (callAnswer (now (plan .entry)) seat (now (figures .entry)) (now (coins .entry)) (now (state .entry)) (now (mail .entry)) (length (now (out .entry)))) ⌝ }
+    ensures state { λ _. ⌜ now (state .exit) ≡ stateAfter (now (plan .entry)) seat (now (figures .entry)) (now (coins .entry)) (now (state .entry)) (now (mail .entry)) (length (now (out .entry))) ⌝ }
+    ensures out { λ _. ⌜ now (out .exit) ≡ outAfter (now (plan .entry)) seat (now (figures .entry)) (now (coins .entry)) (now (state .entry)) (now (mail .entry)) (now (out .entry)) ⌝ }
+{
+    plan::code(party::call(plan, seat as usize, figures, coins, state, mail, out))
 }
