@@ -1,24 +1,28 @@
--- What each way through the code of a call's learning says of its definition.
---     working              a gate worked on the shares
---     Worked, going-on     the gates up to the next multiply
---     Learning, learning-own       the wires of one party's inputs
---     Gathered, gathering          those of all parties' inputs
+-- What each way through the code of a call's learning says of its definition, with a ruleset for the needs of each function.
+--     planned-ready, gate-kept       what a plan that passes gives
+--     working                        a gate worked on the shares
+--     Worked, going-on               the gates up to the next multiply
+--     learning-one                   a wire of a party's inputs
+--     Learning, learning-own         all wires of a party's inputs
+--     Gathered, gathering            the wires of all parties' inputs
+--     reading, reducing              the share of a product
+--     learning                       a call
 -- Assumes nothing.
 use mathlib.Core.Path.{_≡_, refl, sym, ap, _∙_}
 use mathlib.Core.Bool.{Bool, true, false, cond, _&&_}
 use mathlib.Core.List.{List, [], _∷_, _++_, flatMap}
-use Prim.Native.Nat.{ℕ, zero, suc, _+_, _-_, _*_, _/_, _<_, _≤_}
+use Prim.Native.Nat.{ℕ, zero, suc, _+_, _-_, _*_, _<_, _≤_}
 use native.Mathlib.Nat.{mod-eq-of-lt}
 use native.Mathlib.Numerals.{add-one}
 use native.Mathlib.Omega.{arith}
 use borrow.Author.Needs.{needs}
 use borrow.Author.Tests.{ltb-true, lt-ltb, le-ltb}
-use lib.Dec.{eqb, leb, ltb}
-use lib.ListN.{length, getD, take, drop, set, length-set, drop-of-length-le}
-use lib.Seq.{length-take-le, take-take, drop-cons, drop-drop, getD-drop, set-getD, getD-set-same, getD-set-other}
+use lib.Dec.{eqb, ltb}
+use lib.ListN.{length, getD, take, drop, set, drop-of-length-le}
+use lib.Seq.{length-take-le, take-take, drop-cons, drop-drop, getD-drop, set-getD}
 use Rattle.numbers.specs.Tables.{tab, countWhere}
 use Rattle.numbers.specs.Bytes.{numbers, stored, allBelow}
-use Rattle.numbers.proofs.Tables.{length-tab, getD-tab, take-tab, tab-ext}
+use Rattle.numbers.proofs.Tables.{length-tab, getD-tab, take-tab}
 use Rattle.numbers.proofs.Bytes.{numbers-stored}
 use Rattle.numbers.proofs.Below.{allBelow-set, allBelow-tab}
 use Rattle.numbers.proofs.Fills.{Filled, filling, filled}
@@ -33,11 +37,11 @@ use Rattle.party.proofs.PointLaws.{first-points, points-below}
 use Rattle.plan.specs.declared.Gate.{Gate}
 use Rattle.plan.specs.declared.Gate.the-variants.{Input, Add, Scale, Offset, Multiply}
 use Rattle.plan.specs.declared.Header.{Header}
-use Rattle.plan.specs.Plans.{Plan, partyCount, parties, dealerCount, dealerPoints, isInputOf, isMultiply, multiplies, multiplyWire, wiresFrom, wiresWhere, inputWires, ownInputCount}
+use Rattle.plan.specs.Plans.{Plan, parties, dealerCount, dealerPoints, isInputOf, isMultiply, multiplies, multiplyWire, wiresFrom, wiresWhere, inputWires, ownInputCount}
 use Rattle.plan.specs.File.{gateAt, gateOk, planOf}
 use Rattle.plan.specs.Planned.{Planned}
 use Rattle.plan.proofs.Planned.{plan-p, plan-t, plan-n, plan-points, plan-gates, plan-gate}
-use Rattle.plan.proofs.Valid.{Valid, valid}
+use Rattle.plan.proofs.Valid.{valid}
 use Rattle.party.specs.Lent.{Holds, Dealers}
 use Rattle.party.specs.Messages.{workGate, workFrom, setAll, wiresByParty, reduced, learn}
 
@@ -247,7 +251,7 @@ module _ (bs mail : List ℕ) (h : Header) (i from : ℕ) (s₀ : List ℕ) wher
       long = j ∙ w .long;
     }
 
-    pub place-small : from < 60000 → at < 65536
+    pub place-small : from ≤ 15360 → at ≤ 16384
     place-small l = omega (arith, w .few, w .within)
 
     pub learn-end : h .gates ≤ g → Holds (h .field .p) (setAll (numbers s₀) (inputWires (planOf bs) i) (drop from (numbers mail))) s
@@ -314,7 +318,7 @@ module _ (bs mail : List ℕ) (h : Header) (s₀ : List ℕ) where
       long = j ∙ w .long;
     }
 
-    pub begin-small : at < 60000
+    pub begin-small : at ≤ 15360
     begin-small = omega (arith, w .few, w .within)
 
     pub gather-end : h .n ≤ i → Holds (h .field .p) (setAll (numbers s₀) (wiresByParty (planOf bs)) (numbers mail)) s

@@ -1,9 +1,8 @@
--- Lists of elements that are lent as bytes, before and after a step of a call.
+-- What a step of a call takes and leaves: lists of elements that are lent as bytes, and dealers.
 use Prim.Native.Nat.{ℕ, _*_, _≤_, _<_}
 use mathlib.Core.Path.{_≡_}
 use mathlib.Core.Bool.{true}
 use mathlib.Core.List.{List}
-use lib.ListN.{length}
 use Rattle.numbers.specs.Bytes.{numbers, allBelow}
 use Rattle.sharing.specs.Ready.{Ready}
 use Rattle.plan.specs.declared.Header.{Header}

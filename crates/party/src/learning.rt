@@ -4,7 +4,7 @@ use plan::Gate;
 use plan::Header;
 ghost use mathlib.Core.Path.{_≡_};
 ghost use mathlib.Core.Bool.{true, cond};
-ghost use Prim.Native.Nat.{suc, _<_, _≤_, _+_, _*_};
+ghost use Prim.Native.Nat.{suc, _<_, _≤_, _+_};
 ghost use lib.ListN.{drop, getD, set};
 ghost use Rattle.numbers.specs.Bytes.{numbers, allBelow};
 ghost use Rattle.numbers.specs.Tables.{tab};
@@ -97,7 +97,7 @@ fn learn_input(
     shares: &mut [u8],
 ) -> usize
     requires { ⌜ Ready (h .field .p) ⌝ }
-    requires { ⌜ at < 65536 ⌝ }
+    requires { ⌜ at ≤ 16384 ⌝ }
     requires { ⌜ allBelow (h .field .p) (numbers (now mail)) ≡ true ⌝ }
     requires { ⌜ allBelow (h .field .p) (numbers (now shares)) ≡ true ⌝ }
     ensures { λ r. ⌜ record {
@@ -123,7 +123,7 @@ fn learn_inputs_of(
     shares: &mut [u8],
 ) -> usize
     requires { ⌜ Planned (now plan) h ⌝ }
-    requires { ⌜ from < 60000 ⌝ }
+    requires { ⌜ from ≤ 15360 ⌝ }
     requires { ⌜ allBelow (h .field .p) (numbers (now mail)) ≡ true ⌝ }
     requires { ⌜ allBelow (h .field .p) (numbers (now shares)) ≡ true ⌝ }
     ensures { λ r. ⌜ record {

@@ -1,6 +1,6 @@
 // The points of the parties.
 ghost use mathlib.Core.Path.{_≡_};
-ghost use Prim.Native.Nat.{suc, _≤_, _+_};
+ghost use Prim.Native.Nat.{suc};
 ghost use Rattle.numbers.specs.Tables.{tab};
 
 // Party i's point is i. Of n parties the points are the first n.
