@@ -187,8 +187,8 @@ fn deal(h: Header, secret: u64, coins: &[u8], from: usize, out: &mut [u8])
     let top = h.t + 1;
     let mut j: usize = 0;
     while j < h.n {
-        let v = sharing::value(h.field, &coefficients[..top], points[j]);
-        numbers::write(out, j, v);
+        let piece = sharing::value(h.field, &coefficients[..top], points[j]);
+        numbers::write(out, j, piece);
         j += 1;
     }
 }
@@ -308,8 +308,8 @@ fn open_outs(h: Header, weights: &[u64], mail: &[u8], out: &mut [u8])
     let own = out.len() / 2;
     let mut j: usize = 0;
     while j < own {
-        let v = opening(h, weights, own, j, mail);
-        numbers::write(out, j, v);
+        let value = opening(h, weights, own, j, mail);
+        numbers::write(out, j, value);
         j += 1;
     }
 }
