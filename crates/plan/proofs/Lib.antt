@@ -7,3 +7,4 @@ pub mod Counts
 pub mod Sizes
 pub mod Coalitions
 pub mod Valid
+pub mod Worked

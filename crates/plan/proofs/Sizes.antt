@@ -1,10 +1,10 @@
 -- The sizes of a run: what each way through the code says of them, and their bounds.
 --     sizing     what closes the needs of the functions that give them
 -- Assumes nothing.
-use mathlib.Core.Path.{_≡_, refl, sym, ap, _∙_}
-use mathlib.Core.Bool.{Bool, true, false, cond}
+use mathlib.Core.Path.{_≡_, sym, ap, _∙_}
+use mathlib.Core.Bool.{cond}
 use mathlib.Core.List.{List}
-use Prim.Native.Nat.{ℕ, zero, suc, _+_, _-_, _*_, _<_, _≤_}
+use Prim.Native.Nat.{ℕ, suc, _+_, _-_, _*_, _<_, _≤_}
 use native.Mathlib.Nat.{mul-le-mul}
 use native.Mathlib.Omega.{arith}
 use borrow.Author.Needs.{needs}
@@ -14,7 +14,7 @@ use mir.Val.{Fits}
 use lib.Dec.{eqb, leb, ltb}
 use lib.ListN.{length}
 use Rattle.plan.specs.declared.Header.{Header}
-use Rattle.plan.specs.Plans.{Plan, partyCount, dealerCount, dealings, multiplies, inputCount, ownInputCount, ownOutCount, mailCount, writtenCount, sentCount}
+use Rattle.plan.specs.Plans.{partyCount, dealerCount, dealings, multiplies, inputCount, ownInputCount, ownOutCount, mailCount, writtenCount, sentCount}
 use Rattle.plan.specs.File.{planOf}
 use Rattle.plan.specs.Planned.{Planned}
 use Rattle.plan.proofs.Planned.{plan-n, plan-dealers, plan-gates, plan-outs}

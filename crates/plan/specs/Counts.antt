@@ -1,8 +1,7 @@
 -- What the gates of a plan are counted for.
 use Prim.Native.Nat.{ℕ}
-use mathlib.Core.Bool.{Bool, false}
-use mathlib.Core.List.{List}
-use lib.Dec.{eqb, leb}
+use mathlib.Core.Bool.{Bool}
+use lib.Dec.{eqb}
 use lib.ListN.{take}
 use Rattle.numbers.specs.Tables.{countWhere}
 use Rattle.plan.specs.declared.Gate.{Gate}

@@ -7,10 +7,10 @@ use Rattle.sharing.proofs.deal.Statement.{statement}
 use Rattle.sharing.proofs.deal.Tie as tie
 
 abbrev Inv-loop : tie.InvT-loop
-Inv-loop f polynomial points shares₀ i₀ shares i = Filled (λ k. eval (f .p) polynomial (getD points k 0)) shares₀ shares i
+Inv-loop f polynomial points shares₀ k₀ shares k = Filled (λ j. eval (f .p) polynomial (getD points j 0)) shares₀ shares k
 
 abbrev μ-loop : tie.MeasureT-loop
-μ-loop f polynomial points shares₀ i₀ shares i = length shares₀ - i
+μ-loop f polynomial points shares₀ k₀ shares k = length shares₀ - k
 
 loop-holds : tie.Need-loop-holds Inv-loop μ-loop
 loop-holds c = search dealing
@@ -30,8 +30,8 @@ mul-shares c = search dealing
 slice-write-shares : tie.Need-slice-write-shares Inv-loop μ-loop
 slice-write-shares c = search dealing
 
-add-i : tie.Need-add-i Inv-loop μ-loop
-add-i c = search dealing
+add-k : tie.Need-add-k Inv-loop μ-loop
+add-k c = search dealing
 
 loop-less : tie.Need-loop-less Inv-loop μ-loop
 loop-less c = search dealing
@@ -57,7 +57,7 @@ deal-spec =
     value-requires
     mul-shares
     slice-write-shares
-    add-i
+    add-k
     loop-less
     loop-again
     same-length
