@@ -1,4 +1,5 @@
 pub mod Refusals
 pub mod Gates
 pub mod Ways
+pub mod Planned
 pub mod Valid
