@@ -1,5 +1,8 @@
 pub mod Sound
 pub mod Openings
 pub mod Below
-pub mod Tables
+pub mod Worked
 pub mod Wires
+pub mod RowLaws
+pub mod PowerLaws
+pub mod DealLaws

@@ -1,0 +1,66 @@
+-- The table of shares as the code keeps it: a row for each wire, in it each party's share. The code deals by powers of the points.
+use Prim.Native.Nat.{ℕ, zero, suc, _+_, _*_, _≤_, _<_}
+use mathlib.Core.Path.{_≡_}
+use mathlib.Core.Bool.{true}
+use mathlib.Core.List.{List, [], _∷_, _++_, map, flatMap}
+use lib.ListN.{length, take, drop, getD}
+use Rattle.numbers.specs.Tables.{tab}
+use Rattle.numbers.specs.Bytes.{allBelow}
+use Rattle.field.specs.Mod.{mul}
+use Rattle.sharing.specs.Poly.{eval}
+use Rattle.sharing.specs.Interp.{weights}
+use Rattle.plan.specs.declared.Gate.{Gate}
+use Rattle.plan.specs.declared.Header.{Header}
+use Rattle.plan.specs.Plans.{Plan}
+use Rattle.run.specs.Shares.{gateShare, coinsTaken}
+
+-- the rows of these wires, one after the other: each wire's shares at the points
+unfoldable pub rowsOf : List ℕ → List (ℕ → ℕ) → List ℕ
+rowsOf points env = flatMap (λ h. map h points) env
+
+-- x to the k
+unfoldable pub power : ℕ → ℕ → ℕ → ℕ
+power p x zero = 1
+power p x (suc k) = mul p (power p x k) x
+
+-- 1, x, x², .. m of them
+unfoldable pub powers : ℕ → ℕ → ℕ → List ℕ
+powers p x m = tab (power p x) m
+
+-- the powers of the points, a row for each
+unfoldable pub powerRows : ℕ → ℕ → List ℕ → List ℕ
+powerRows p m points = flatMap (λ x. powers p x m) points
+
+-- a grid's column: in it what each row gives to one receiver
+unfoldable pub column : List (List ℕ) → ℕ → List ℕ
+column grid j = map (λ row. getD row j 0) grid
+
+-- what is worked out once for a plan: the powers of all parties' points, and the weights at 0 of the dealers'
+pub record Prepared (h : Header) (rows ws : List ℕ) : Type 0 where
+  pub room : (h .t + 1) * h .n ≤ length rows
+  pub powers : take ((h .t + 1) * h .n) rows ≡ powerRows (h .field .p) (h .t + 1) (tab suc (h .n))
+  pub wide : h .t + h .t + 1 ≤ length ws
+  pub weighs : take (h .t + h .t + 1) ws ≡ weights (h .field .p) 0 (take (h .t + h .t + 1) (tab suc (h .n)))
+
+-- the power rows of the points stand in front
+pub record Powered (p k : ℕ) (points rows : List ℕ) : Type 0 where
+  pub room : k * length points ≤ length rows
+  pub front : take (k * length points) rows ≡ powerRows p k points
+
+-- a grid of pieces: to the receiver at each point, column j holds a piece of each of these polynomials
+pub record Dealt (p : ℕ) (points : List ℕ) (fs : List (List ℕ)) (grid : List (List ℕ)) : Type 0 where
+  pub columns : (j : ℕ) → j < length points → take (length fs) (column grid j) ≡ map (λ f. eval p f (getD points j 0)) fs
+
+-- row w of a table stands, with elements
+pub record Rowed (p n w : ℕ) (table : List ℕ) : Type 0 where
+  pub room : n * w + n ≤ length table
+  pub below : allBelow p (take n (drop (n * w) table)) ≡ true
+
+-- what a gate takes, from place `at` of the coins on, is there and below p
+pub record Taking (plan : Plan) (gate : Gate) (at : ℕ) (cs : List ℕ) : Type 0 where
+  pub room : at + coinsTaken plan gate ≤ length cs
+  pub below : allBelow (plan .p) (take (coinsTaken plan gate) (drop at cs)) ≡ true
+
+-- a step over gate g: where the rows of the wires below g stand, the rows of those wires and of wire g stand afterwards
+pub record Stepped (plan : Plan) (n : ℕ) (gate : Gate) (g x : ℕ) (cs old new : List ℕ) : Type 0 where
+  pub next : (env : List (ℕ → ℕ)) → take (n * g) old ≡ rowsOf (plan .points) env → take (n * (g + 1)) new ≡ rowsOf (plan .points) (env ++ (gateShare plan gate env x cs ∷ []))

@@ -1,0 +1,200 @@
+// The table of shares of a run: a row for each wire, in it every party's share. Gates are worked one after the other, all parties at once.
+use field::Field;
+use plan::Gate;
+use plan::Header;
+ghost use mathlib.Core.Path.{_≡_};
+ghost use mathlib.Core.Bool.{true};
+ghost use mathlib.Core.List.{[], _∷_, _++_, map};
+ghost use Prim.Native.Nat.{suc, _+_, _*_, _/_, _<_, _≤_};
+ghost use lib.ListN.{length, take, drop, getD};
+ghost use Rattle.numbers.specs.Tables.{tab};
+ghost use Rattle.numbers.specs.Bytes.{numbers, allBelow};
+ghost use Rattle.field.specs.Mod.{add, mul};
+ghost use Rattle.field.specs.Field.{Is};
+ghost use Rattle.sharing.specs.Poly.{eval};
+ghost use Rattle.sharing.specs.Interp.{dot};
+ghost use Rattle.sharing.specs.Ready.{Ready};
+ghost use Rattle.run.specs.Shares.{sharings};
+ghost use Rattle.run.specs.Rows.{rowsOf, powers, powerRows, column, Prepared, Powered, Dealt, Rowed};
+
+// ---- what is worked out once for a plan
+
+// The powers 1, x, x², .. of a point, as many as there is room for.
+fn powers(f: Field, x: u64, row: &mut [u64])
+    requires { ⌜ Ready (f .p) ⌝ }
+    requires { ⌜ x < f .p ⌝ }
+    ensures { λ _. ⌜ now (row .exit) ≡ powers (f .p) x (length (now (row .entry))) ⌝ }
+{
+    let mut power: u64 = 1;
+    let mut i = 0;
+    while i < row.len() {
+        row[i] = power;
+        power = f.mul(power, x);
+        i += 1;
+    }
+}
+
+// The powers of the points, k of each.
+fn power_rows(f: Field, k: usize, points: &[u64], rows: &mut [u64])
+    requires { ⌜ Ready (f .p) ⌝ }
+    requires { ⌜ allBelow (f .p) (now points) ≡ true ⌝ }
+    requires { ⌜ length (now rows) ≡ k * length (now points) ⌝ }
+    ensures { λ _. ⌜ now (rows .exit) ≡ powerRows (f .p) k (now (points .entry)) ⌝ }
+{
+    let mut at: usize = 0;
+    let mut i: usize = 0;
+    while i < points.len() {
+        let e = at + k;
+        powers(f, points[i], &mut rows[at..e]);
+        at = e;
+        i += 1;
+    }
+}
+
+// The parties' points, 1 to n.
+fn points(n: usize) -> [u64; 15]
+    requires { ⌜ n ≤ 15 ⌝ }
+    ensures { λ r. ⌜ take n r ≡ tab suc n ⌝ }
+{
+    let mut row = [0u64; 15];
+    let mut i: usize = 0;
+    while i < n {
+        row[i] = (i + 1) as u64;
+        i += 1;
+    }
+    row
+}
+
+// ---- dealings
+
+// The polynomial of a dealing: the dealt value, then t coins from one place of the list on.
+fn coefficients(value: u64, coins: &[u8], at: usize, t: usize) -> [u64; 8]
+    requires { ⌜ t < 8 ⌝ }
+    requires { ⌜ at + t ≤ length (now coins) / 2 ⌝ }
+    ensures { λ r. ⌜ take (t + 1) r ≡ value ∷ take t (drop at (numbers (now (coins .entry)))) ⌝ }
+{
+    let mut polynomial = [0u64; 8];
+    polynomial[0] = value;
+    let mut i: usize = 0;
+    while i < t {
+        polynomial[i + 1] = numbers::read(coins, at + i);
+        i += 1;
+    }
+    polynomial
+}
+
+// The pieces of a dealing: the polynomial's values at the points of all n parties, by the power rows.
+fn dealing(f: Field, n: usize, k: usize, rows: &[u64], polynomial: [u64; 8]) -> [u64; 15]
+    requires { ⌜ Ready (f .p) ⌝ }
+    requires { ⌜ (n ≤ 15) × (k ≤ 8) ⌝ }
+    requires { ⌜ Powered (f .p) k (tab suc n) (now rows) ⌝ }
+    requires { ⌜ allBelow (f .p) (take k polynomial) ≡ true ⌝ }
+    ensures { λ r. ⌜ take n r ≡ map (eval (f .p) (take k polynomial)) (tab suc n) ⌝ }
+{
+    let mut row = [0u64; 15];
+    let mut at: usize = 0;
+    let mut j: usize = 0;
+    while j < n {
+        let e = at + k;
+        row[j] = sharing::dot(f, &rows[at..e], &polynomial[..k]);
+        at = e;
+        j += 1;
+    }
+    row
+}
+
+// ---- gates that each party works on its own shares
+
+// Each party's share of wire a plus that of wire b.
+fn add_row(f: Field, n: usize, a: usize, b: usize, table: &[u64]) -> [u64; 15]
+    requires { ⌜ Ready (f .p) ⌝ }
+    requires { ⌜ n ≤ 15 ⌝ }
+    requires { ⌜ Rowed (f .p) n a (now table) ⌝ }
+    requires { ⌜ Rowed (f .p) n b (now table) ⌝ }
+    ensures { λ r. ⌜ take n r ≡ tab (λ j. add (f .p) (getD (now (table .entry)) (n * a + j) 0) (getD (now (table .entry)) (n * b + j) 0)) n ⌝ }
+{
+    let left = n * a;
+    let right = n * b;
+    let mut row = [0u64; 15];
+    let mut j: usize = 0;
+    while j < n {
+        row[j] = f.add(table[left + j], table[right + j]);
+        j += 1;
+    }
+    row
+}
+
+// Each party's share of wire a times c.
+fn scale_row(f: Field, n: usize, a: usize, c: u64, table: &[u64]) -> [u64; 15]
+    requires { ⌜ Ready (f .p) ⌝ }
+    requires { ⌜ n ≤ 15 ⌝ }
+    requires { ⌜ Rowed (f .p) n a (now table) ⌝ }
+    requires { ⌜ c < f .p ⌝ }
+    ensures { λ r. ⌜ take n r ≡ tab (λ j. mul (f .p) (getD (now (table .entry)) (n * a + j) 0) c) n ⌝ }
+{
+    let left = n * a;
+    let mut row = [0u64; 15];
+    let mut j: usize = 0;
+    while j < n {
+        row[j] = f.mul(table[left + j], c);
+        j += 1;
+    }
+    row
+}
+
+// Each party's share of wire a plus c.
+fn offset_row(f: Field, n: usize, a: usize, c: u64, table: &[u64]) -> [u64; 15]
+    requires { ⌜ Ready (f .p) ⌝ }
+    requires { ⌜ n ≤ 15 ⌝ }
+    requires { ⌜ Rowed (f .p) n a (now table) ⌝ }
+    requires { ⌜ c < f .p ⌝ }
+    ensures { λ r. ⌜ take n r ≡ tab (λ j. add (f .p) (getD (now (table .entry)) (n * a + j) 0) c) n ⌝ }
+{
+    let left = n * a;
+    let mut row = [0u64; 15];
+    let mut j: usize = 0;
+    while j < n {
+        row[j] = f.add(table[left + j], c);
+        j += 1;
+    }
+    row
+}
+
+// ---- multiply gates
+
+// What the first m parties deal: each one's share of wire a times its share of wire b.
+pub fn products(f: Field, n: usize, m: usize, a: usize, b: usize, table: &[u64]) -> [u64; 15]
+    requires { ⌜ Ready (f .p) ⌝ }
+    requires { ⌜ (m ≤ n) × (n ≤ 15) ⌝ }
+    requires { ⌜ Rowed (f .p) n a (now table) ⌝ }
+    requires { ⌜ Rowed (f .p) n b (now table) ⌝ }
+    ensures { λ r. ⌜ take m r ≡ tab (λ j. mul (f .p) (getD (now (table .entry)) (n * a + j) 0) (getD (now (table .entry)) (n * b + j) 0)) m ⌝ }
+{
+    let left = n * a;
+    let right = n * b;
+    let mut row = [0u64; 15];
+    let mut j: usize = 0;
+    while j < m {
+        row[j] = f.mul(table[left + j], table[right + j]);
+        j += 1;
+    }
+    row
+}
+
+// One column of a grid, weighed and summed, with one remainder.
+pub fn column_sum(f: Field, weights: &[u64], grid: [[u64; 15]; 15], j: usize) -> u64
+    requires { ⌜ Ready (f .p) ⌝ }
+    requires { ⌜ j < 15 ⌝ }
+    requires { ⌜ length (now weights) ≤ 15 ⌝ }
+    requires { ⌜ allBelow (f .p) (now weights) ≡ true ⌝ }
+    requires { ⌜ allBelow (f .p) (take (length (now weights)) (column grid j)) ≡ true ⌝ }
+    ensures { λ r. ⌜ Is (f .p) (dot (f .p) (now (weights .entry)) (column grid j)) r ⌝ }
+{
+    let mut sum: u64 = 0;
+    let mut d: usize = 0;
+    while d < weights.len() {
+        sum += weights[d] * grid[d][j];
+        d += 1;
+    }
+    sum % f.p
+}
