@@ -15,11 +15,13 @@ use mir.Syntax.{w64}
 use mir.Val.{Fits}
 use Rattle.numbers.specs.Tables.{tab}
 use Rattle.numbers.specs.Bytes.{allBelow}
-use Rattle.numbers.proofs.Tables.{tab-cons, tab-map, length-tab}
+use Rattle.numbers.proofs.Tables.{tab-cons, tab-map, length-tab, getD-tab}
+use Rattle.numbers.proofs.Below.{at-allBelow}
 use Rattle.numbers.proofs.Fills.{Filled, fill-none, fill-next, filled}
 use Rattle.field.specs.Mod.{add, mul}
 use Rattle.field.specs.Field.{Is}
 use Rattle.field.proofs.Solve.{canon-lt, mul-canon, #, quote, solve}
+use Rattle.field.proofs.Inverse.{pos}
 use Rattle.sharing.specs.Poly.{eval}
 use Rattle.sharing.specs.Interp.{dot}
 use Rattle.sharing.specs.Ready.{Ready}
@@ -55,6 +57,15 @@ module _ (p : ℕ) where
   pub length-powers : (x m : ℕ) → length (powers p x m) ≡ m
   unfolding powers
   length-powers x m = length-tab (power p x) m
+
+power-below : (p x k : ℕ) → Ready p → power p x k < p
+unfolding power
+power-below p x zero r = r .prime .above
+power-below p x (suc k) r = canon-lt (pos (r .prime)) (mul-canon (power p x k) x)
+
+pub powers-below : (p x m : ℕ) → Ready p → allBelow p (powers p x m) ≡ true
+unfolding powers
+powers-below p x m r = at-allBelow p (tab (power p x) m) (λ i l. rw (getD-tab (power p x) m i 0 (rw length-tab at l)) (power-below p x i r))
 
 -- the invariant: acc is the next power
 pub record Powering (p x acc : ℕ) (d₀ d : List ℕ) (i : ℕ) : Type 0 where
