@@ -115,7 +115,7 @@ pub ruleset piecing = (needs, piece-none, pieces-made, row-within, row-end-fits,
 
 -- ---- a column weighed and summed
 module _ (grid : List (List ℕ)) (j m : ℕ) where
-  column-entry : (d : ℕ) → d < m → getD (take m (column grid j)) d 0 ≡ getD (getD grid d []) j 0
+  pub column-entry : (d : ℕ) → d < m → getD (take m (column grid j)) d 0 ≡ getD (getD grid d []) j 0
   unfolding column
   column-entry d l = getD-take m (map (λ (row : List ℕ). getD row j 0) grid) d 0 l ∙ List·getD-map (λ (row : List ℕ). getD row j 0) grid d []
 

@@ -6,3 +6,4 @@ pub mod Wires
 pub mod RowLaws
 pub mod PowerLaws
 pub mod DealLaws
+pub mod GridLaws

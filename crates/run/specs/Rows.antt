@@ -47,9 +47,18 @@ pub record Powered (p k : ℕ) (points rows : List ℕ) : Type 0 where
   pub room : k * length points ≤ length rows
   pub front : take (k * length points) rows ≡ powerRows p k points
 
--- a grid of pieces: to the receiver at each point, column j holds a piece of each of these polynomials
+-- t coins for each of m dealings stand from place `at` on, and are below p
+pub record Coined (p t m at : ℕ) (cs : List ℕ) : Type 0 where
+  pub room : at + t * m ≤ length cs
+  pub below : allBelow p (take (t * m) (drop at cs)) ≡ true
+
+-- a grid of pieces: column j holds the values at point j of the polynomials
 pub record Dealt (p : ℕ) (points : List ℕ) (fs : List (List ℕ)) (grid : List (List ℕ)) : Type 0 where
   pub columns : (j : ℕ) → j < length points → take (length fs) (column grid j) ≡ map (λ f. eval p f (getD points j 0)) fs
+
+-- the first m entries of the first n columns are below p
+pub record Elements (p n m : ℕ) (grid : List (List ℕ)) : Type 0 where
+  pub each : (j : ℕ) → j < n → allBelow p (take m (column grid j)) ≡ true
 
 -- row w of a table stands, with elements
 pub record Rowed (p n w : ℕ) (table : List ℕ) : Type 0 where

@@ -15,7 +15,7 @@ ghost use Rattle.sharing.specs.Poly.{eval};
 ghost use Rattle.sharing.specs.Interp.{dot};
 ghost use Rattle.sharing.specs.Ready.{Ready};
 ghost use Rattle.run.specs.Shares.{sharings};
-ghost use Rattle.run.specs.Rows.{rowsOf, powers, powerRows, column, Prepared, Powered, Dealt, Rowed};
+ghost use Rattle.run.specs.Rows.{rowsOf, powers, powerRows, column, Prepared, Powered, Coined, Dealt, Elements, Rowed};
 
 // ---- what is worked out once for a plan
 
@@ -181,6 +181,36 @@ pub fn products(f: Field, n: usize, m: usize, a: usize, b: usize, table: &[u64])
     row
 }
 
+// The pieces of a multiply gate, each dealer's with its own t coins: row the dealer, column the receiver.
+fn pieces(
+    f: Field,
+    n: usize,
+    t: usize,
+    rows: &[u64],
+    products: [u64; 15],
+    coins: &[u8],
+    at: usize,
+) -> [[u64; 15]; 15]
+    requires { ⌜ Ready (f .p) ⌝ }
+    requires { ⌜ (2 * t < n) × (n ≤ 15) ⌝ }
+    requires { ⌜ Powered (f .p) (t + 1) (tab suc n) (now rows) ⌝ }
+    requires { ⌜ allBelow (f .p) (take (t + t + 1) products) ≡ true ⌝ }
+    requires { ⌜ Coined (f .p) t (t + t + 1) at (numbers (now coins)) ⌝ }
+    ensures { λ r. ⌜ Dealt (f .p) (tab suc n) (sharings t (take (t + t + 1) products) (drop at (numbers (now (coins .entry))))) r ⌝ }
+{
+    let dealers = t + t + 1;
+    let mut grid = [[0u64; 15]; 15];
+    let mut place = at;
+    let mut d: usize = 0;
+    while d < dealers {
+        let polynomial = coefficients(products[d], coins, place, t);
+        grid[d] = dealing(f, n, t + 1, rows, polynomial);
+        place += t;
+        d += 1;
+    }
+    grid
+}
+
 // One column of a grid, weighed and summed, with one remainder.
 pub fn column_sum(f: Field, weights: &[u64], grid: [[u64; 15]; 15], j: usize) -> u64
     requires { ⌜ Ready (f .p) ⌝ }
@@ -197,4 +227,22 @@ pub fn column_sum(f: Field, weights: &[u64], grid: [[u64; 15]; 15], j: usize) ->
         d += 1;
     }
     sum % f.p
+}
+
+// Every receiver's share: the sum of its column.
+fn reduce(f: Field, n: usize, weights: &[u64], grid: [[u64; 15]; 15]) -> [u64; 15]
+    requires { ⌜ Ready (f .p) ⌝ }
+    requires { ⌜ n ≤ 15 ⌝ }
+    requires { ⌜ length (now weights) ≤ 15 ⌝ }
+    requires { ⌜ allBelow (f .p) (now weights) ≡ true ⌝ }
+    requires { ⌜ Elements (f .p) n (length (now weights)) grid ⌝ }
+    ensures { λ r. ⌜ take n r ≡ tab (λ j. dot (f .p) (now (weights .entry)) (column grid j)) n ⌝ }
+{
+    let mut row = [0u64; 15];
+    let mut j: usize = 0;
+    while j < n {
+        row[j] = column_sum(f, weights, grid, j);
+        j += 1;
+    }
+    row
 }
