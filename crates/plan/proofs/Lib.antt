@@ -1,5 +1,9 @@
 pub mod Refusals
 pub mod Gates
 pub mod Ways
+pub mod Codes
 pub mod Planned
+pub mod Counts
+pub mod Sizes
+pub mod Coalitions
 pub mod Valid
