@@ -7,3 +7,6 @@ pub mod Coding
 pub mod Weighing
 pub mod Factors
 pub mod Rows
+pub mod Openings
+pub mod OnOne
+pub mod Worked
