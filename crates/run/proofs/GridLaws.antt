@@ -64,7 +64,7 @@ module _ (p t m at : ℕ) (cs : List ℕ) (c : Coined p t m at cs) (d : ℕ) (l 
       rw (← drop-drop (t * d) at cs, part-front (drop at cs) (t * m) (t * d) t (row-room t d m l))
       (allBelow-take p t (drop (t * d) (take (t * m) (drop at cs))) (allBelow-drop p (t * d) (take (t * m) (drop at cs)) (c .below)))
 
-below-cons : (p x : ℕ) (xs : List ℕ) → x < p → allBelow p xs ≡ true → allBelow p (x ∷ xs) ≡ true
+pub below-cons : (p x : ℕ) (xs : List ℕ) → x < p → allBelow p xs ≡ true → allBelow p (x ∷ xs) ≡ true
 unfolding allBelow
 below-cons p x xs l h = rw (lt-ltb x p l, h)
 

@@ -7,3 +7,4 @@ pub mod RowLaws
 pub mod PowerLaws
 pub mod DealLaws
 pub mod GridLaws
+pub mod StepLaws

@@ -18,9 +18,10 @@ use Rattle.numbers.specs.Tables.{tab}
 use Rattle.numbers.specs.Bytes.{allBelow}
 use Rattle.numbers.proofs.Tables.{tab-next, tab-zero, length-tab}
 use Rattle.numbers.proofs.Below.{allBelow-at}
+use Rattle.field.specs.Mod.{mul}
 use Rattle.field.specs.Field.{Is}
 use Rattle.sharing.specs.Ready.{Ready}
-use Rattle.run.specs.Rows.{Rowed}
+use Rattle.run.specs.Rows.{productsOf, Rowed}
 
 -- ---- rows of k entries
 module _ {A : Type 0} (F : A → List ℕ) where
@@ -108,4 +109,8 @@ module _ (p n w : ℕ) (table : List ℕ) (r : Rowed p n w table) where
 pub make-first : (f : ℕ → ℕ) (m n p v : ℕ) (d : List ℕ) (j : ℕ) → Making f m d j → m ≤ n → n ≤ 15 → j < m → Is p (f j) v → Making f m (set d j v) (j + 1)
 make-first f m n p v d j h a b l e = make-next-is f m d j h p v (omega arith) l e
 
-pub ruleset row-reading = (making, first-entry-below, make-first, row-start-fits, entry-within, entry-fits, entry-place-fits, row-entry-below)
+pub products-made : (p n m a b : ℕ) (table d : List ℕ) (j : ℕ) → Making (λ k. mul p (getD table (n * a + k) 0) (getD table (n * b + k) 0)) m d j → m ≤ j → take m d ≡ productsOf p n m a b table
+unfolding productsOf
+products-made p n m a b table d j h l = made _ m d j h l
+
+pub ruleset row-reading = (making, products-made, first-entry-below, make-first, row-start-fits, entry-within, entry-fits, entry-place-fits, row-entry-below)

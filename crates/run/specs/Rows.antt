@@ -8,7 +8,8 @@ use Rattle.numbers.specs.Tables.{tab}
 use Rattle.numbers.specs.Bytes.{allBelow}
 use Rattle.field.specs.Mod.{mul}
 use Rattle.sharing.specs.Poly.{eval}
-use Rattle.sharing.specs.Interp.{weights}
+use Rattle.sharing.specs.Interp.{weights, dot}
+use Rattle.sharing.specs.Ready.{Ready}
 use Rattle.plan.specs.declared.Gate.{Gate}
 use Rattle.plan.specs.declared.Header.{Header}
 use Rattle.plan.specs.Plans.{Plan}
@@ -31,9 +32,24 @@ powers p x m = tab (power p x) m
 unfoldable pub powerRows : ℕ → ℕ → List ℕ → List ℕ
 powerRows p m points = flatMap (λ x. powers p x m) points
 
+-- what the first m parties deal where the table's wires a and b are multiplied: the products of their shares
+unfoldable pub productsOf : ℕ → ℕ → ℕ → ℕ → ℕ → List ℕ → List ℕ
+productsOf p n m a b table = tab (λ j. mul p (getD table (n * a + j) 0) (getD table (n * b + j) 0)) m
+
+-- the weighted sum of the values of these polynomials at x
+unfoldable pub mixedAt : ℕ → List ℕ → List (List ℕ) → ℕ → ℕ
+mixedAt p ws fs x = dot p ws (map (λ f. eval p f x) fs)
+
 -- a grid's column: in it what each row gives to one receiver
 unfoldable pub column : List (List ℕ) → ℕ → List ℕ
 column grid j = map (λ row. getD row j 0) grid
+
+-- the bounds of a plan's contents
+pub record Sized (h : Header) : Type 0 where
+  pub ready : Ready (h .field .p)
+  pub many : h .n ≤ 15
+  pub majority : 2 * h .t < h .n
+  pub small : h .n < h .field .p
 
 -- what is worked out once for a plan: the powers of all parties' points, and the weights at 0 of the dealers'
 pub record Prepared (h : Header) (rows ws : List ℕ) : Type 0 where
@@ -65,11 +81,21 @@ pub record Rowed (p n w : ℕ) (table : List ℕ) : Type 0 where
   pub room : n * w + n ≤ length table
   pub below : allBelow p (take n (drop (n * w) table)) ≡ true
 
--- what a gate takes, from place `at` of the coins on, is there and below p
+-- the rows of g wires stand in front, with elements
+pub record Standing (p n g : ℕ) (table : List ℕ) : Type 0 where
+  pub room : n * g ≤ length table
+  pub below : allBelow p (take (n * g) table) ≡ true
+
+-- the coins that a gate takes, from place `at` on, are there and below p
 pub record Taking (plan : Plan) (gate : Gate) (at : ℕ) (cs : List ℕ) : Type 0 where
   pub room : at + coinsTaken plan gate ≤ length cs
   pub below : allBelow (plan .p) (take (coinsTaken plan gate) (drop at cs)) ≡ true
 
+-- the row of gate g's wire, where the rows of the wires below g stand
+pub record Worked (plan : Plan) (n : ℕ) (gate : Gate) (g x : ℕ) (cs table row : List ℕ) : Type 0 where
+  pub is : (env : List (ℕ → ℕ)) → take (n * g) table ≡ rowsOf (plan .points) env → take n row ≡ map (gateShare plan gate env x cs) (plan .points)
+
 -- a step over gate g: where the rows of the wires below g stand, the rows of those wires and of wire g stand afterwards
 pub record Stepped (plan : Plan) (n : ℕ) (gate : Gate) (g x : ℕ) (cs old new : List ℕ) : Type 0 where
   pub next : (env : List (ℕ → ℕ)) → take (n * g) old ≡ rowsOf (plan .points) env → take (n * (g + 1)) new ≡ rowsOf (plan .points) (env ++ (gateShare plan gate env x cs ∷ []))
+  pub rest : drop (n * (g + 1)) new ≡ drop (n * (g + 1)) old

@@ -7,6 +7,7 @@ ghost use mathlib.Core.Bool.{true};
 ghost use mathlib.Core.List.{[], _∷_, _++_, map};
 ghost use Prim.Native.Nat.{suc, _+_, _*_, _/_, _<_, _≤_};
 ghost use lib.ListN.{length, take, drop, getD};
+ghost use lib.Seq.{paste};
 ghost use Rattle.numbers.specs.Tables.{tab};
 ghost use Rattle.numbers.specs.Bytes.{numbers, allBelow};
 ghost use Rattle.field.specs.Mod.{add, mul};
@@ -14,8 +15,11 @@ ghost use Rattle.field.specs.Field.{Is};
 ghost use Rattle.sharing.specs.Poly.{eval};
 ghost use Rattle.sharing.specs.Interp.{dot};
 ghost use Rattle.sharing.specs.Ready.{Ready};
-ghost use Rattle.run.specs.Shares.{sharings};
-ghost use Rattle.run.specs.Rows.{rowsOf, powers, powerRows, column, Prepared, Powered, Coined, Dealt, Elements, Rowed};
+ghost use Rattle.plan.specs.Planned.{Planned};
+ghost use Rattle.plan.specs.File.{planOf, gateAt};
+ghost use Rattle.run.specs.Ideal.{inputsTaken};
+ghost use Rattle.run.specs.Shares.{sharings, coinsTaken, shareTable};
+ghost use Rattle.run.specs.Rows.{rowsOf, powers, powerRows, productsOf, mixedAt, column, Sized, Prepared, Powered, Coined, Dealt, Elements, Rowed, Standing, Taking, Worked, Stepped};
 
 // ---- what is worked out once for a plan
 
@@ -63,6 +67,23 @@ fn points(n: usize) -> [u64; 15]
         i += 1;
     }
     row
+}
+
+// The power rows of all parties' points and the weights at 0 of the dealers', for all dealings of a plan.
+pub fn prepare(h: Header, rows: &mut [u64], weights: &mut [u64])
+    requires { ⌜ Sized h ⌝ }
+    requires { ⌜ 120 ≤ length (now rows) ⌝ }
+    requires { ⌜ 15 ≤ length (now weights) ⌝ }
+    ensures { λ _. ⌜ Prepared h (now (rows .exit)) (now (weights .exit)) ⌝ }
+{
+    let f = h.field;
+    let n = h.n;
+    let k = h.t + 1;
+    let m = h.t + k;
+    let e = k * n;
+    let points = points(n);
+    power_rows(f, k, &points[..n], &mut rows[..e]);
+    sharing::weights(f, 0, &points[..m], &mut weights[..m]);
 }
 
 // ---- dealings
@@ -168,7 +189,7 @@ pub fn products(f: Field, n: usize, m: usize, a: usize, b: usize, table: &[u64])
     requires { ⌜ (m ≤ n) × (n ≤ 15) ⌝ }
     requires { ⌜ Rowed (f .p) n a (now table) ⌝ }
     requires { ⌜ Rowed (f .p) n b (now table) ⌝ }
-    ensures { λ r. ⌜ take m r ≡ tab (λ j. mul (f .p) (getD (now (table .entry)) (n * a + j) 0) (getD (now (table .entry)) (n * b + j) 0)) m ⌝ }
+    ensures { λ r. ⌜ take m r ≡ productsOf (f .p) n m a b (now (table .entry)) ⌝ }
 {
     let left = n * a;
     let right = n * b;
@@ -245,4 +266,98 @@ fn reduce(f: Field, n: usize, weights: &[u64], grid: [[u64; 15]; 15]) -> [u64; 1
         j += 1;
     }
     row
+}
+
+// A multiply gate's row: the dealers' products are dealt, and each receiver's pieces weighed and summed.
+fn multiply_row(
+    f: Field,
+    n: usize,
+    t: usize,
+    rows: &[u64],
+    weights: &[u64],
+    a: usize,
+    b: usize,
+    coins: &[u8],
+    at: usize,
+    table: &[u64],
+) -> [u64; 15]
+    requires { ⌜ Ready (f .p) ⌝ }
+    requires { ⌜ (2 * t < n) × (n ≤ 15) ⌝ }
+    requires { ⌜ Powered (f .p) (t + 1) (tab suc n) (now rows) ⌝ }
+    requires { ⌜ (length (now weights) ≡ t + t + 1) × (allBelow (f .p) (now weights) ≡ true) ⌝ }
+    requires { ⌜ Coined (f .p) t (t + t + 1) at (numbers (now coins)) ⌝ }
+    requires { ⌜ Rowed (f .p) n a (now table) ⌝ }
+    requires { ⌜ Rowed (f .p) n b (now table) ⌝ }
+    ensures { λ r. ⌜ take n r ≡ map (mixedAt (f .p) (now (weights .entry)) (sharings t (productsOf (f .p) n (t + t + 1) a b (now (table .entry))) (drop at (numbers (now (coins .entry)))))) (tab suc n) ⌝ }
+{
+    let products = products(f, n, t + t + 1, a, b, table);
+    let grid = pieces(f, n, t, rows, products, coins, at);
+    reduce(f, n, weights, grid)
+}
+
+// ---- one gate
+
+// An input gate's row: the input is dealt.
+fn input_row(f: Field, n: usize, t: usize, rows: &[u64], x: u64, coins: &[u8], at: usize) -> [u64; 15]
+    requires { ⌜ Ready (f .p) ⌝ }
+    requires { ⌜ (2 * t < n) × (n ≤ 15) ⌝ }
+    requires { ⌜ Powered (f .p) (t + 1) (tab suc n) (now rows) ⌝ }
+    requires { ⌜ x < f .p ⌝ }
+    requires { ⌜ Coined (f .p) t 1 at (numbers (now coins)) ⌝ }
+    ensures { λ r. ⌜ take n r ≡ map (eval (f .p) (x ∷ take t (drop at (numbers (now (coins .entry)))))) (tab suc n) ⌝ }
+{
+    let polynomial = coefficients(x, coins, at, t);
+    dealing(f, n, t + 1, rows, polynomial)
+}
+
+// Writes a row's first n entries from one place of the table on.
+fn put_row(table: &mut [u64], at: usize, row: [u64; 15], n: usize)
+    requires { ⌜ n ≤ 15 ⌝ }
+    requires { ⌜ at + n ≤ length (now table) ⌝ }
+    ensures { λ _. ⌜ now (table .exit) ≡ paste (now (table .entry)) at row n ⌝ }
+{
+    let mut j: usize = 0;
+    while j < n {
+        table[at + j] = row[j];
+        j += 1;
+    }
+}
+
+// ---- a run
+
+// How many inputs and coins are taken.
+pub struct Taken {
+    pub inputs: usize,
+    pub coins: usize,
+}
+
+// What gate g takes of the inputs and of the coins.
+pub fn taken_at(plan: &[u8], h: Header, g: usize) -> Taken
+    requires { ⌜ Planned (now plan) h ⌝ }
+    ensures { λ r. ⌜ (r .inputs ≡ inputsTaken (gateAt (now (plan .entry)) g)) × (r .coins ≡ coinsTaken (planOf (now (plan .entry))) (gateAt (now (plan .entry)) g)) ⌝ }
+{
+    let t = h.t;
+    let gate = plan::gate_at(plan, g);
+    match gate {
+        Gate::Input(_) => Taken {
+            inputs: 1,
+            coins: t,
+        },
+        Gate::Add(_, _) => Taken {
+            inputs: 0,
+            coins: 0,
+        },
+        Gate::Scale(_, _) => Taken {
+            inputs: 0,
+            coins: 0,
+        },
+        Gate::Offset(_, _) => Taken {
+            inputs: 0,
+            coins: 0,
+        },
+        Gate::Multiply(_, _) => Taken {
+            inputs: 0,
+            coins: t * (t + t + 1),
+        },
+    }
 }
