@@ -8,3 +8,4 @@ pub mod PowerLaws
 pub mod DealLaws
 pub mod GridLaws
 pub mod StepLaws
+pub mod GateLaws

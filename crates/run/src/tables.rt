@@ -318,6 +318,51 @@ fn input_row(
     dealing(f, n, t + 1, rows, polynomial)
 }
 
+// The row of gate g's wire, from the rows of the wires below it.
+fn gate_row(
+    plan: &[u8],
+    h: Header,
+    rows: &[u64],
+    weights: &[u64],
+    g: usize,
+    x: u64,
+    coins: &[u8],
+    at: usize,
+    table: &[u64],
+) -> [u64; 15]
+    requires { ⌜ Planned (now plan) h ⌝ }
+    requires { ⌜ g < h .gates ⌝ }
+    requires { ⌜ Prepared h (now rows) (now weights) ⌝ }
+    requires { ⌜ x < h .field .p ⌝ }
+    requires { ⌜ Taking (planOf (now plan)) (gateAt (now plan) g) at (numbers (now coins)) ⌝ }
+    requires { ⌜ Standing (h .field .p) (h .n) g (now table) ⌝ }
+    ensures { λ r. ⌜ Worked (planOf (now (plan .entry))) (h .n) (gateAt (now (plan .entry)) g) g x (drop at (numbers (now (coins .entry)))) (now (table .entry)) r ⌝ }
+{
+    let f = h.field;
+    let n = h.n;
+    let t = h.t;
+    let dealers = t + t + 1;
+    let gate = plan::gate_at(plan, g);
+    match gate {
+        Gate::Input(_) => input_row(f, n, t, rows, x, coins, at),
+        Gate::Add(a, b) => add_row(f, n, a, b, table),
+        Gate::Scale(a, c) => scale_row(f, n, a, c, table),
+        Gate::Offset(a, c) => offset_row(f, n, a, c, table),
+        Gate::Multiply(a, b) => multiply_row(
+            f,
+            n,
+            t,
+            rows,
+            &weights[..dealers],
+            a,
+            b,
+            coins,
+            at,
+            table,
+        ),
+    }
+}
+
 // Writes a row's first n entries from one place of the table on.
 fn put_row(table: &mut [u64], at: usize, row: [u64; 15], n: usize)
     requires { ⌜ n ≤ 15 ⌝ }
