@@ -9,3 +9,4 @@ pub mod DealLaws
 pub mod GridLaws
 pub mod StepLaws
 pub mod GateLaws
+pub mod FillLaws

@@ -19,7 +19,7 @@ ghost use Rattle.plan.specs.Planned.{Planned};
 ghost use Rattle.plan.specs.File.{planOf, gateAt};
 ghost use Rattle.run.specs.Ideal.{inputsTaken};
 ghost use Rattle.run.specs.Shares.{sharings, coinsTaken, shareTable};
-ghost use Rattle.run.specs.Rows.{rowsOf, powers, powerRows, productsOf, mixedAt, column, Sized, Prepared, Powered, Coined, Dealt, Elements, Rowed, Standing, Taking, Worked, Stepped};
+ghost use Rattle.run.specs.Rows.{rowsOf, powers, powerRows, productsOf, mixedAt, column, Sized, Prepared, Powered, Coined, Dealt, Elements, Rowed, Standing, Taking, Worked, Stepped, Given};
 
 // ---- what is worked out once for a plan
 
@@ -376,6 +376,33 @@ fn put_row(table: &mut [u64], at: usize, row: [u64; 15], n: usize)
     }
 }
 
+// Works gate g for all parties: sets the row of its wire, from the rows of the wires below it. x is the next input; the gate's coins stand from place `at` on.
+pub fn step(
+    plan: &[u8],
+    h: Header,
+    rows: &[u64],
+    weights: &[u64],
+    g: usize,
+    x: u64,
+    coins: &[u8],
+    at: usize,
+    table: &mut [u64],
+)
+    requires { ⌜ Planned (now plan) h ⌝ }
+    requires { ⌜ g < h .gates ⌝ }
+    requires { ⌜ Prepared h (now rows) (now weights) ⌝ }
+    requires { ⌜ x < h .field .p ⌝ }
+    requires { ⌜ Taking (planOf (now plan)) (gateAt (now plan) g) at (numbers (now coins)) ⌝ }
+    requires { ⌜ Standing (h .field .p) (h .n) g (now table) ⌝ }
+    requires { ⌜ h .n * h .gates ≤ length (now table) ⌝ }
+    ensures { λ _. ⌜ Stepped (planOf (now (plan .entry))) (h .n) (gateAt (now (plan .entry)) g) g x (drop at (numbers (now (coins .entry)))) (now (table .entry)) (now (table .exit)) ⌝ }
+{
+    let n = h.n;
+    let start = n * g;
+    let row = gate_row(plan, h, rows, weights, g, x, coins, at, table);
+    put_row(table, start, row, n);
+}
+
 // ---- a run
 
 // How many inputs and coins are taken.
@@ -412,5 +439,30 @@ pub fn taken_at(plan: &[u8], h: Header, g: usize) -> Taken
             inputs: 0,
             coins: t * (t + t + 1),
         },
+    }
+}
+
+// The table of a run: every party's share of every wire, in front of what the table holds beyond.
+pub fn fill(plan: &[u8], h: Header, inputs: &[u8], coins: &[u8], table: &mut [u64])
+    requires { ⌜ Planned (now plan) h ⌝ }
+    requires { ⌜ Given (planOf (now plan)) (now inputs) (now coins) ⌝ }
+    requires { ⌜ h .n * h .gates ≤ length (now table) ⌝ }
+    ensures { λ _. ⌜ take (h .n * h .gates) (now (table .exit)) ≡ rowsOf (planOf (now (plan .entry)) .points) (shareTable (planOf (now (plan .entry))) (numbers (now (inputs .entry))) (numbers (now (coins .entry)))) ⌝ }
+    ensures { λ _. ⌜ drop (h .n * h .gates) (now (table .exit)) ≡ drop (h .n * h .gates) (now (table .entry)) ⌝ }
+{
+    let mut rows = [0u64; 120];
+    let mut weights = [0u64; 15];
+    prepare(h, &mut rows, &mut weights);
+    let gates = h.gates;
+    let mut i: usize = 0;
+    let mut at: usize = 0;
+    let mut g: usize = 0;
+    while g < gates {
+        let x = numbers::read(inputs, i);
+        step(plan, h, &rows, &weights, g, x, coins, at, table);
+        let taken = taken_at(plan, h, g);
+        i += taken.inputs;
+        at += taken.coins;
+        g += 1;
     }
 }
