@@ -10,12 +10,12 @@ use mathlib.Core.Bool.{Bool, true, false, cond}
 use mathlib.Core.List.{List, [], _∷_, _++_, map, flatMap}
 use Prim.Native.Nat.{ℕ, zero, suc, _+_, _-_, _*_, _/_, _^_, _<_, _≤_}
 use native.Mathlib.Numerals.{add-one}
-use native.Mathlib.Nat.{mul-suc, mul-zero, mul-le-mul, mul-le-mul-left, mul-add}
+use native.Mathlib.Nat.{mul-suc, mul-zero, mul-one, mul-le-mul, mul-le-mul-left, mul-add}
 use native.Mathlib.Omega.{arith}
 use borrow.Author.Needs.{needs}
 use borrow.Author.Tests.{lt-ltb}
 use lib.ListN.{length, take, drop, set, getD, length-append, length-take, length-drop, length-map, take-append-drop}
-use lib.Seq.{paste, take-paste, drop-paste, getD-take, take-suc, take-all, drop-drop, length-take-le}
+use lib.Seq.{paste, take-paste, drop-paste, getD-take, take-suc, take-all, take-take, drop-drop, length-take-le}
 use mir.Syntax.{w64}
 use mir.Val.{Fits}
 use Rattle.numbers.specs.Tables.{tab, countWhere}
@@ -24,25 +24,30 @@ use Rattle.numbers.proofs.Tables.{length-tab}
 use Rattle.numbers.proofs.Counts.{countWhere-take-suc, countWhere-take-zero, countWhere-le-length}
 use Rattle.numbers.proofs.Below.{allBelow-take, allBelow-drop}
 use Rattle.numbers.proofs.Bytes.{numbers-length}
+use Rattle.field.specs.Mod.{mul}
+use Rattle.field.specs.Field.{Is}
+use Rattle.sharing.specs.Poly.{eval}
+use Rattle.sharing.specs.Interp.{dot, weights}
 use Rattle.sharing.specs.Ready.{Ready}
 use Rattle.sharing.proofs.Coding.{entry-below}
 use Rattle.plan.specs.declared.Gate.{Gate}
 use Rattle.plan.specs.declared.Gate.the-variants.{Input, Add, Scale, Offset, Multiply}
 use Rattle.plan.specs.declared.Header.{Header}
-use Rattle.plan.specs.Plans.{Plan, partyCount, isInput, dealerCount, dealersOf, dealings, inputCount, coinCount}
+use Rattle.plan.specs.Plans.{Plan, partyCount, isInput, dealerCount, dealerPoints, dealersOf, dealings, inputCount, coinCount}
 use Rattle.plan.specs.File.{planOf, gateAt}
 use Rattle.plan.specs.Planned.{Planned}
 use Rattle.plan.proofs.Planned.{plan-t, plan-p, plan-points, plan-n, plan-gates, plan-gate}
 use Rattle.plan.proofs.Counts.{dealings-le}
 use Rattle.plan.proofs.Valid.{Valid, valid}
+use Rattle.party.specs.Messages.{reduced}
 use Rattle.run.specs.Ideal.{inputsTaken}
-use Rattle.run.specs.Shares.{wireAt, gateShare, coinsTaken, shareTable, coinsBelow}
-use Rattle.run.specs.Rows.{rowsOf, Sized, Prepared, Standing, Taking, Worked, Stepped, Given}
+use Rattle.run.specs.Shares.{wireAt, sharings, dealtAt, piecesAt, gateShare, coinsTaken, shareTable, coinsBelow}
+use Rattle.run.specs.Rows.{rowsOf, column, Sized, Prepared, Standing, Taking, Worked, Stepped, Given}
 use Rattle.run.proofs.Below.{append-below, map-below, share-below}
 use Rattle.run.proofs.Wires.{table-length, table-gate}
-use Rattle.run.proofs.RowLaws.{flat-snoc, row-room}
+use Rattle.run.proofs.RowLaws.{flat-snoc, take-drop, part-front, row-room}
 use Rattle.run.proofs.StepLaws.{planned-ready, planned-sized}
-use Rattle.run.proofs.GateLaws.{rows-entry}
+use Rattle.run.proofs.GateLaws.{rows-row, entry-of-wire}
 
 -- ---- a step over one gate
 next-row : (n g : ℕ) → n * (g + 1) ≡ n * g + n
@@ -127,6 +132,16 @@ module _ (plan : Plan) (g : ℕ) (l : g < length (plan .gates)) where
       mul-le-mul-left (plan .t)
       (omega (arith, flat-append (take k (plan .gates)) (drop k (plan .gates)), ap (λ (gs : List Gate). length (flatMap (dealersOf plan) gs)) (take-append-drop k (plan .gates))))
 
+-- the first g + 1 wires of a table, from the first g
+pub take-table-next : (plan : Plan) (xs cs : List ℕ) (g : ℕ) → g < length (plan .gates)
+    → take g (shareTable plan xs cs) ++ (gateShare plan (getD (plan .gates) g (Input 0)) (take g (shareTable plan xs cs)) (getD xs (countWhere isInput (take g (plan .gates))) 0) (drop (coinsBelow plan g) cs) ∷ [])
+    ≡ take (g + 1) (shareTable plan xs cs)
+unfolding wireAt
+take-table-next plan xs cs g l =
+    let t : List (ℕ → ℕ) = shareTable plan xs cs in
+    ap (λ (s : ℕ → ℕ). take g t ++ (s ∷ [])) (sym (table-gate plan xs cs g l))
+    ∙ sym (ap (λ (m : ℕ). take m t) (add-one g) ∙ take-suc t g (λ y. 0) (rw (table-length plan xs cs) l))
+
 -- ---- the loop over the gates: the rows of g wires stand, i inputs and c coins are taken
 pub record Filling (bs : List ℕ) (h : Header) (xs cs d₀ d : List ℕ) (i c g : ℕ) : Type 0 where
   pub within : g ≤ h .gates
@@ -209,7 +224,7 @@ module _ (bs : List ℕ) (h : Header) (k : Planned bs h) (inputs coins : List �
       pub fill-next : (x a b : ℕ) (e : List ℕ) → x ≡ getD (numbers inputs) i 0 → Stepped (planOf bs) (h .n) (gateAt bs g) g x (drop c (numbers coins)) d e → length e ≡ length d
           → a ≡ inputsTaken (gateAt bs g) → b ≡ coinsTaken (planOf bs) (gateAt bs g)
           → Filling bs h (numbers inputs) (numbers coins) d₀ e (i + a) (c + b) (g + 1)
-      unfolding wireAt table
+      unfolding table
       fill-next x a b e ex s kept ea eb = record {
         within = omega arith;
         long = kept ∙ f .long;
@@ -219,13 +234,8 @@ module _ (bs : List ℕ) (h : Header) (k : Planned bs h) (inputs coins : List �
         rest = s .rest ∙ later;
       }
         where
-          wire : gateShare (planOf bs) (gateAt bs g) (take g table) x (drop c (numbers coins)) ≡ getD table g (λ y. 0)
-          wire = rw (ex, f .inputs, f .coins, ← gate-is) (sym (table-gate (planOf bs) (numbers inputs) (numbers coins) g inside))
-
           grows : take g table ++ (gateShare (planOf bs) (gateAt bs g) (take g table) x (drop c (numbers coins)) ∷ []) ≡ take (g + 1) table
-          grows =
-              ap (λ (s : ℕ → ℕ). take g table ++ (s ∷ [])) wire
-              ∙ sym (ap (λ (m : ℕ). take m table) (add-one g) ∙ take-suc table g (λ y. 0) (rw (table-length (planOf bs) (numbers inputs) (numbers coins)) inside))
+          grows = rw (ex, f .inputs, f .coins, ← gate-is) (take-table-next (planOf bs) (numbers inputs) (numbers coins) g inside)
 
           later : drop (h .n * (g + 1)) d ≡ drop (h .n * (g + 1)) d₀
           later =
@@ -246,3 +256,54 @@ module _ (bs : List ℕ) (h : Header) (k : Planned bs h) (inputs coins : List �
       table-kept = ap (λ (m : ℕ). drop (h .n * m) d) (sym all) ∙ f .rest ∙ ap (λ (m : ℕ). drop (h .n * m) d₀) all
 
 pub ruleset filling-table = (needs, planned-sized, fill-none, next-below, gate-taking, gate-standing, gate-room, coins-fit, inputs-fit, fill-next, table-filled, table-kept)
+
+-- ---- reading the table of a run
+module _ (bs : List ℕ) (h : Header) (k : Planned bs h) (xs cs d : List ℕ) (room : h .n * h .gates ≤ length d) (is : take (h .n * h .gates) d ≡ rowsOf (planOf bs .points) (shareTable (planOf bs) xs cs)) (w : ℕ) (l : w < h .gates) where
+  points-count : length (planOf bs .points) ≡ h .n
+  unfolding partyCount
+  points-count = plan-n k
+
+  -- party j's share of wire w, parties counted from 0
+  pub table-entry : (j : ℕ) → j < h .n → getD d (h .n * w + j) 0 ≡ wireAt (shareTable (planOf bs) xs cs) w (getD (planOf bs .points) j 0)
+  table-entry j m = entry-of-wire (planOf bs .points) (h .n) points-count (k .n-low) d (h .gates) room (shareTable (planOf bs) xs cs) is w j l m
+
+  -- all shares of wire w
+  pub table-row : take (h .n) (drop (h .n * w) d) ≡ map (wireAt (shareTable (planOf bs) xs cs) w) (planOf bs .points)
+  table-row =
+      part-front d (h .n * h .gates) (h .n * w) (h .n) (row-room (h .n) w (h .gates) l)
+      ∙ rw is (rows-row (planOf bs .points) (h .n) points-count (shareTable (planOf bs) xs cs) w (rw (table-length (planOf bs) xs cs, plan-gates k) l))
+
+-- ---- the coins of a gate
+sharings-coins : (t : ℕ) (ss cs ds : List ℕ) → take (t * length ss) cs ≡ take (t * length ss) ds → sharings t ss cs ≡ sharings t ss ds
+unfolding sharings
+sharings-coins t [] cs ds e = refl
+sharings-coins t (s ∷ ss) cs ds e =
+    let k : ℕ = t * length ss in
+    let all : t * suc (length ss) ≡ t + k = omega (arith, mul-suc t (length ss)) in
+    let both : take (t + k) cs ≡ take (t + k) ds = rw all at e in
+    ap₂ (λ (f : List ℕ) (r : List (List ℕ)). (s ∷ f) ∷ r)
+    (sym (take-take t (t + k) cs (omega arith)) ∙ ap (take t) both ∙ take-take t (t + k) ds (omega arith))
+    (sharings-coins t ss (drop t cs) (drop t ds) (take-drop cs t k ∙ ap (drop t) both ∙ sym (take-drop ds t k)))
+
+-- a gate's share depends on the coins that it takes alone
+module _ (plan : Plan) (env : List (ℕ → ℕ)) (x : ℕ) (cs ds : List ℕ) where
+  pub share-coins : (gate : Gate) → take (coinsTaken plan gate) cs ≡ take (coinsTaken plan gate) ds → gateShare plan gate env x cs ≡ gateShare plan gate env x ds
+  unfolding gateShare coinsTaken dealersOf piecesAt dealtAt dealerPoints
+  share-coins (Input s) e =
+      let one : plan .t * 1 ≡ plan .t = mul-one (plan .t) in
+      let share : List ℕ → ℕ → ℕ = λ f y. eval (plan .p) (x ∷ f) y in
+      ap share (rw one at e)
+  share-coins (Add a b) e = refl
+  share-coins (Scale a c) e = refl
+  share-coins (Offset a c) e = refl
+  share-coins (Multiply a b) e =
+      let ss : List ℕ = map (λ y. mul (plan .p) (wireAt env a y) (wireAt env b y)) (take (dealerCount plan) (plan .points)) in
+      let few : plan .t * length ss ≤ plan .t * length (tab suc (dealerCount plan)) = mul-le-mul-left (plan .t) (rw (length-tab suc (dealerCount plan), length-map) (omega (arith, length-take (dealerCount plan) (plan .points)))) in
+      let share : List (List ℕ) → ℕ → ℕ = λ fs y. dot (plan .p) (weights (plan .p) 0 (take (dealerCount plan) (plan .points))) (map (λ f. eval (plan .p) f y) fs) in
+      ap share
+      (sharings-coins (plan .t) ss cs ds (sym (take-take (plan .t * length ss) _ cs few) ∙ ap (take (plan .t * length ss)) e ∙ take-take (plan .t * length ss) _ ds few))
+
+-- ---- a column of pieces is reduced
+pub column-reduced : (plan : Plan) (ws : List ℕ) (grid : List (List ℕ)) (j r : ℕ) → ws ≡ weights (plan .p) 0 (dealerPoints plan) → Is (plan .p) (dot (plan .p) ws (column grid j)) r → Is (plan .p) (reduced plan (column grid j)) r
+unfolding reduced
+column-reduced plan ws grid j r e is = rw (← e) is

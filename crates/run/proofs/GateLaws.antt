@@ -168,29 +168,29 @@ module _ (bs : List ℕ) (h : Header) (k : Planned bs h) (g : ℕ) (l : g < h .g
       unfolding gateOk
       multiplies is = both-true (ltb a g) (ltb b g) (rule (Multiply a b) is)
 
-      pub add-left : read ≡ Add a b → Rowed (h .field .p) (h .n) a table
-      add-left is = standing-row (h .field .p) (h .n) g a table s (ltb-true a g (adds is .0))
+      pub add-left-stands : read ≡ Add a b → Rowed (h .field .p) (h .n) a table
+      add-left-stands is = standing-row (h .field .p) (h .n) g a table s (ltb-true a g (adds is .0))
 
-      pub add-right : read ≡ Add a b → Rowed (h .field .p) (h .n) b table
-      add-right is = standing-row (h .field .p) (h .n) g b table s (ltb-true b g (adds is .1))
+      pub add-right-stands : read ≡ Add a b → Rowed (h .field .p) (h .n) b table
+      add-right-stands is = standing-row (h .field .p) (h .n) g b table s (ltb-true b g (adds is .1))
 
-      pub scale-wire : read ≡ Scale a b → Rowed (h .field .p) (h .n) a table
-      scale-wire is = standing-row (h .field .p) (h .n) g a table s (ltb-true a g (scales is .0))
+      pub scale-stands : read ≡ Scale a b → Rowed (h .field .p) (h .n) a table
+      scale-stands is = standing-row (h .field .p) (h .n) g a table s (ltb-true a g (scales is .0))
 
       pub scale-constant : read ≡ Scale a b → b < h .field .p
       scale-constant is = ltb-true b (h .field .p) (scales is .1)
 
-      pub offset-wire : read ≡ Offset a b → Rowed (h .field .p) (h .n) a table
-      offset-wire is = standing-row (h .field .p) (h .n) g a table s (ltb-true a g (offsets is .0))
+      pub offset-stands : read ≡ Offset a b → Rowed (h .field .p) (h .n) a table
+      offset-stands is = standing-row (h .field .p) (h .n) g a table s (ltb-true a g (offsets is .0))
 
       pub offset-constant : read ≡ Offset a b → b < h .field .p
       offset-constant is = ltb-true b (h .field .p) (offsets is .1)
 
-      pub multiply-left : read ≡ Multiply a b → Rowed (h .field .p) (h .n) a table
-      multiply-left is = standing-row (h .field .p) (h .n) g a table s (ltb-true a g (multiplies is .0))
+      pub multiply-left-stands : read ≡ Multiply a b → Rowed (h .field .p) (h .n) a table
+      multiply-left-stands is = standing-row (h .field .p) (h .n) g a table s (ltb-true a g (multiplies is .0))
 
-      pub multiply-right : read ≡ Multiply a b → Rowed (h .field .p) (h .n) b table
-      multiply-right is = standing-row (h .field .p) (h .n) g b table s (ltb-true b g (multiplies is .1))
+      pub multiply-right-stands : read ≡ Multiply a b → Rowed (h .field .p) (h .n) b table
+      multiply-right-stands is = standing-row (h .field .p) (h .n) g b table s (ltb-true b g (multiplies is .1))
 
     -- coins
     module _ (at : ℕ) (cs : List ℕ) (taking : Taking (planOf bs) (gateAt bs g) at cs) where
@@ -255,4 +255,4 @@ module _ (bs : List ℕ) (h : Header) (k : Planned bs h) (g : ℕ) (l : g < h .g
           (rw (plan-p k, plan-t k, plan-points k) (prepared .weighs))
           (rw (plan-p k, plan-t k, plan-points k) made))
 
-pub ruleset working = (needs, planned-ready, powered, weights-stand, weights-counted, weights-counted-back, weights-elements, add-left, add-right, scale-wire, scale-constant, offset-wire, offset-constant, multiply-left, multiply-right, input-coins, multiply-coins, worked-add, worked-scale, worked-offset, worked-input, worked-multiply)
+pub ruleset working = (needs, planned-ready, powered, weights-stand, weights-counted, weights-counted-back, weights-elements, add-left-stands, add-right-stands, scale-stands, scale-constant, offset-stands, offset-constant, multiply-left-stands, multiply-right-stands, input-coins, multiply-coins, worked-add, worked-scale, worked-offset, worked-input, worked-multiply)

@@ -45,7 +45,7 @@ module _ {A : Type 0} (F : A → List ℕ) where
         rw (e, drop-append-add (F a) (flatMap F l) (k * i)) (flat-part l i d (omega arith))
 
 -- a part of what stands in front
-take-drop : (l : List ℕ) (a k : ℕ) → take k (drop a l) ≡ drop a (take (a + k) l)
+pub take-drop : (l : List ℕ) (a k : ℕ) → take k (drop a l) ≡ drop a (take (a + k) l)
 take-drop l zero k = let e : zero + k ≡ k = omega arith in rw e
 take-drop [] (suc a) k = rw (take-nil (suc a + k), take-nil k, drop-nil (suc a))
 take-drop (x ∷ l) (suc a) k = let e : suc a + k ≡ suc (a + k) = omega arith in rw e (take-drop l a k)
