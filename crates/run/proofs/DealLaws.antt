@@ -3,16 +3,16 @@
 --     Piecing, piecing        the loop over the receivers
 --     Weighed, weighing       the loop down a column
 -- Assumes nothing.
-use mathlib.Core.Path.{_≡_, refl, sym, ap, ap₂, _∙_}
-use mathlib.Core.Bool.{Bool, true, false}
-use mathlib.Core.List.{List, [], _∷_, _++_, map, flatMap}
-use Prim.Native.Nat.{ℕ, zero, suc, _+_, _-_, _*_, _/_, _%_, _^_, _<_, _≤_}
+use mathlib.Core.Path.{_≡_, refl, sym, ap, _∙_}
+use mathlib.Core.Bool.{true}
+use mathlib.Core.List.{List, [], _∷_, map}
+use Prim.Native.Nat.{ℕ, suc, _+_, _-_, _*_, _/_, _%_, _^_, _<_, _≤_}
 use native.Mathlib.Numerals.{add-one}
 use native.Mathlib.Nat.{add-sub-cancel-left, mul-suc, mul-zero}
 use native.Mathlib.Omega.{arith}
 use borrow.Author.Needs.{needs}
-use lib.ListN.{length, take, drop, set, getD, length-set, length-drop, length-map, List·getD-map}
-use lib.Seq.{take-suc, take-suc-set, take-all, getD-take, getD-drop, length-take-le}
+use lib.ListN.{length, take, drop, set, getD, replicate, length-set, length-drop, length-map, List·getD-map}
+use lib.Seq.{take-suc, take-suc-set, getD-take, getD-drop, length-take-le}
 use mir.Syntax.{w64}
 use mir.Val.{Fits}
 use Rattle.numbers.specs.Tables.{tab}
@@ -25,7 +25,7 @@ use Rattle.sharing.specs.Poly.{eval}
 use Rattle.sharing.specs.Interp.{dot}
 use Rattle.sharing.specs.Ready.{Ready}
 use Rattle.sharing.proofs.Coding.{map-tab, Summed, sum-none, sum-more, sum-whole, sum-fits, term-fits}
-use Rattle.run.specs.Rows.{powers, powerRows, Powered, column}
+use Rattle.run.specs.Rows.{powers, Powered, column}
 use Rattle.run.proofs.RowLaws.{Making, make-none, make-next, made, row-room}
 use Rattle.run.proofs.PowerLaws.{eval-powers, length-powers, powers-below, power-row}
 
@@ -65,8 +65,8 @@ pub record Piecing (p k n : ℕ) (f d : List ℕ) (at j : ℕ) : Type 0 where
   pub fills : Making (λ i. eval p f (getD (tab suc n) i 0)) n d j
 
 module _ (p k n : ℕ) (f : List ℕ) where
-  pub piece-none : (d : List ℕ) → length d ≡ 15 → Piecing p k n f d 0 0
-  piece-none d e = record { place = sym (mul-zero k); fills = make-none _ n d e }
+  pub piece-none : Piecing p k n f (replicate 15 0) 0 0
+  piece-none = record { place = sym (mul-zero k); fills = make-none _ n }
 
   module _ (d : List ℕ) (at j : ℕ) (h : Piecing p k n f d at j) where
     pub pieces-made : n ≤ j → take n d ≡ map (eval p f) (tab suc n)

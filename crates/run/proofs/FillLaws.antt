@@ -5,17 +5,16 @@
 --     Filling, filling-table            the loop over the gates
 --     table-entry                       an entry of the table of a run
 -- Assumes nothing.
-use mathlib.Core.Path.{_≡_, refl, sym, ap, ap₂, _∙_, fun-ext}
-use mathlib.Core.Bool.{Bool, true, false, cond}
+use mathlib.Core.Path.{_≡_, refl, sym, ap, ap₂, _∙_}
+use mathlib.Core.Bool.{true, cond}
 use mathlib.Core.List.{List, [], _∷_, _++_, map, flatMap}
-use Prim.Native.Nat.{ℕ, zero, suc, _+_, _-_, _*_, _/_, _^_, _<_, _≤_}
+use Prim.Native.Nat.{ℕ, suc, _+_, _*_, _<_, _≤_}
 use native.Mathlib.Numerals.{add-one}
 use native.Mathlib.Nat.{mul-suc, mul-zero, mul-one, mul-le-mul, mul-le-mul-left, mul-add}
 use native.Mathlib.Omega.{arith}
 use borrow.Author.Needs.{needs}
-use borrow.Author.Tests.{lt-ltb}
-use lib.ListN.{length, take, drop, set, getD, length-append, length-take, length-drop, length-map, take-append-drop}
-use lib.Seq.{paste, take-paste, drop-paste, getD-take, take-suc, take-all, take-take, drop-drop, length-take-le}
+use lib.ListN.{length, take, drop, getD, length-append, length-take, length-map, take-append-drop}
+use lib.Seq.{paste, take-paste, drop-paste, getD-take, take-suc, take-all, take-take, drop-drop}
 use mir.Syntax.{w64}
 use mir.Val.{Fits}
 use Rattle.numbers.specs.Tables.{tab, countWhere}
@@ -28,21 +27,20 @@ use Rattle.field.specs.Mod.{mul}
 use Rattle.field.specs.Field.{Is}
 use Rattle.sharing.specs.Poly.{eval}
 use Rattle.sharing.specs.Interp.{dot, weights}
-use Rattle.sharing.specs.Ready.{Ready}
 use Rattle.sharing.proofs.Coding.{entry-below}
 use Rattle.plan.specs.declared.Gate.{Gate}
 use Rattle.plan.specs.declared.Gate.the-variants.{Input, Add, Scale, Offset, Multiply}
 use Rattle.plan.specs.declared.Header.{Header}
-use Rattle.plan.specs.Plans.{Plan, partyCount, isInput, dealerCount, dealerPoints, dealersOf, dealings, inputCount, coinCount}
+use Rattle.plan.specs.Plans.{Plan, partyCount, isInput, dealerCount, dealerPoints, dealersOf, dealings, coinCount}
 use Rattle.plan.specs.File.{planOf, gateAt}
 use Rattle.plan.specs.Planned.{Planned}
-use Rattle.plan.proofs.Planned.{plan-t, plan-p, plan-points, plan-n, plan-gates, plan-gate}
+use Rattle.plan.proofs.Planned.{plan-t, plan-p, plan-n, plan-gates, plan-gate}
 use Rattle.plan.proofs.Counts.{dealings-le}
 use Rattle.plan.proofs.Valid.{Valid, valid}
 use Rattle.party.specs.Messages.{reduced}
 use Rattle.run.specs.Ideal.{inputsTaken}
 use Rattle.run.specs.Shares.{wireAt, sharings, dealtAt, piecesAt, gateShare, coinsTaken, shareTable, coinsBelow}
-use Rattle.run.specs.Rows.{rowsOf, column, Sized, Prepared, Standing, Taking, Worked, Stepped, Given}
+use Rattle.run.specs.Rows.{rowsOf, column, Standing, Taking, Worked, Stepped, Given}
 use Rattle.run.proofs.Below.{append-below, map-below, share-below}
 use Rattle.run.proofs.Wires.{table-length, table-gate}
 use Rattle.run.proofs.RowLaws.{flat-snoc, take-drop, part-front, row-room}

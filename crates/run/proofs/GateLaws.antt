@@ -2,41 +2,39 @@
 --     entry-of-wire              an entry of the table is a share
 --     working                    what closes the needs of the function that works one gate
 -- Assumes nothing.
-use mathlib.Core.Path.{_≡_, refl, sym, ap, ap₂, _∙_}
-use mathlib.Core.Bool.{Bool, true, false, _&&_}
-use mathlib.Core.List.{List, [], _∷_, _++_, map, flatMap}
-use Prim.Native.Nat.{ℕ, zero, suc, _+_, _-_, _*_, _/_, _^_, _<_, _≤_}
-use native.Mathlib.Numerals.{add-one}
-use native.Mathlib.Nat.{mul-suc, mul-zero, add-zero, mul-one, mul-le-mul, mul-div-cancel-left}
+use mathlib.Core.Path.{_≡_, sym, ap, ap₂, _∙_}
+use mathlib.Core.Bool.{true}
+use mathlib.Core.List.{List, _∷_, map}
+use Prim.Native.Nat.{ℕ, suc, _+_, _*_, _/_, _<_, _≤_}
+use native.Mathlib.Nat.{mul-one, mul-div-cancel-left}
 use native.Mathlib.Omega.{arith}
 use borrow.Author.Needs.{needs}
 use borrow.Author.Tests.{ltb-true}
 use lib.Dec.{ltb}
-use lib.ListN.{length, take, drop, set, getD, length-append, length-take, length-drop, length-map}
-use lib.Seq.{getD-take, getD-drop, take-take, length-take-le}
+use lib.ListN.{length, take, drop, getD, length-map}
+use lib.Seq.{getD-take, getD-drop, length-take-le}
 use Rattle.numbers.specs.Tables.{tab}
-use Rattle.numbers.specs.Bytes.{numbers, allBelow}
-use Rattle.numbers.proofs.Tables.{length-tab, getD-tab, take-tab, tab-ext, tab-map}
-use Rattle.numbers.proofs.Below.{allBelow-at, at-allBelow, allBelow-take, allBelow-drop}
+use Rattle.numbers.specs.Bytes.{allBelow}
+use Rattle.numbers.proofs.Tables.{length-tab, tab-ext}
+use Rattle.numbers.proofs.Below.{allBelow-take, allBelow-drop}
 use Rattle.field.specs.Mod.{add, mul}
 use Rattle.sharing.specs.Poly.{eval}
-use Rattle.sharing.specs.Interp.{dot, weights}
-use Rattle.sharing.specs.Ready.{Ready}
+use Rattle.sharing.specs.Interp.{weights}
 use Rattle.sharing.proofs.Coding.{map-tab}
 use Rattle.sharing.proofs.Rows.{weights-below}
 use Rattle.plan.specs.declared.Gate.{Gate}
 use Rattle.plan.specs.declared.Gate.the-variants.{Input, Add, Scale, Offset, Multiply}
 use Rattle.plan.specs.declared.Header.{Header}
-use Rattle.plan.specs.Plans.{Plan, partyCount, dealersOf, dealerCount, dealerPoints}
+use Rattle.plan.specs.Plans.{Plan, partyCount, dealerCount, dealerPoints}
 use Rattle.plan.specs.File.{planOf, gateAt, gateOk}
 use Rattle.plan.specs.Planned.{Planned}
 use Rattle.plan.proofs.Planned.{both-true, plan-t, plan-p, plan-points, plan-n, plan-gates, plan-gate}
 use Rattle.plan.proofs.Valid.{valid}
 use Rattle.run.specs.Shares.{wireAt, sharings, piecesAt, dealtAt, gateShare, coinsTaken}
-use Rattle.run.specs.Rows.{rowsOf, powerRows, productsOf, mixedAt, Sized, Prepared, Powered, Coined, Rowed, Standing, Taking, Worked}
+use Rattle.run.specs.Rows.{rowsOf, productsOf, mixedAt, Prepared, Powered, Coined, Rowed, Standing, Taking, Worked}
 use Rattle.run.proofs.RowLaws.{flat-length, flat-part, part-front, row-room}
 use Rattle.run.proofs.GridLaws.{getD-values}
-use Rattle.run.proofs.StepLaws.{planned-ready, planned-sized, coins-of-input, coins-of-multiply}
+use Rattle.run.proofs.StepLaws.{planned-ready, coins-of-input, coins-of-multiply}
 
 -- ---- the rows of a table
 cancel : (n a b : ℕ) → 1 ≤ n → n * a ≡ n * b → a ≡ b

@@ -5,15 +5,15 @@
 -- Assumes nothing.
 use mathlib.Core.Path.{_≡_, refl, sym, ap, ap₂, _∙_}
 use mathlib.Core.Bool.{Bool, true, false}
-use mathlib.Core.List.{List, [], _∷_, _++_, map}
-use Prim.Native.Nat.{ℕ, zero, suc, _+_, _-_, _*_, _/_, _^_, _<_, _≤_}
+use mathlib.Core.List.{List, [], _∷_, map}
+use Prim.Native.Nat.{ℕ, zero, suc, _+_, _*_, _/_, _^_, _<_, _≤_}
 use native.Mathlib.Numerals.{add-one}
 use native.Mathlib.Nat.{mul-suc, mul-zero, add-zero}
 use native.Mathlib.Omega.{arith}
 use borrow.Author.Needs.{needs}
 use borrow.Author.Tests.{lt-ltb, eqb-true, eqb-false}
 use lib.Dec.{eqb}
-use lib.ListN.{length, take, drop, set, getD, length-set, length-take, length-drop, length-map, List·getD-map}
+use lib.ListN.{length, take, drop, set, getD, length-set, length-map, List·getD-map}
 use lib.Seq.{getD-set-same, getD-set-other, getD-take, drop-drop, ext-getD, length-take-le}
 use mir.Syntax.{w64}
 use mir.Val.{Fits}
@@ -22,14 +22,12 @@ use Rattle.numbers.specs.Bytes.{numbers, allBelow}
 use Rattle.numbers.proofs.Tables.{length-tab, getD-tab}
 use Rattle.numbers.proofs.Below.{allBelow-at, allBelow-take, allBelow-drop}
 use Rattle.numbers.proofs.Bytes.{numbers-length}
-use Rattle.field.specs.Field.{Is}
 use Rattle.sharing.specs.Poly.{eval}
-use Rattle.sharing.specs.Interp.{dot}
 use Rattle.sharing.specs.Ready.{Ready}
 use Rattle.sharing.proofs.Coding.{map-tab}
 use Rattle.run.specs.Shares.{sharings}
-use Rattle.run.specs.Rows.{Powered, column, Coined, Dealt, Elements}
-use Rattle.run.proofs.RowLaws.{Making, making, part-front, row-room}
+use Rattle.run.specs.Rows.{column, Coined, Dealt, Elements}
+use Rattle.run.proofs.RowLaws.{making, part-front, row-room}
 use Rattle.run.proofs.DealLaws.{column-entry}
 
 -- ---- the polynomials of dealings

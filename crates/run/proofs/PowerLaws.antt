@@ -3,8 +3,8 @@
 --     powering                     what closes the needs of the loop that fills a row of powers
 --     rows-of-powers, power-row    the power rows, and one of them
 -- Assumes nothing.
-use mathlib.Core.Path.{_≡_, refl, sym, ap, ap₂, _∙_}
-use mathlib.Core.Bool.{Bool, true, false}
+use mathlib.Core.Path.{_≡_, refl, sym, ap, _∙_}
+use mathlib.Core.Bool.{true}
 use mathlib.Core.List.{List, [], _∷_, _++_, map, flatMap, append-assoc, append-nil}
 use Prim.Native.Nat.{ℕ, zero, suc, _+_, _-_, _*_, _^_, _<_, _≤_}
 use native.Mathlib.Numerals.{add-one}
@@ -18,7 +18,7 @@ use Rattle.numbers.specs.Bytes.{allBelow}
 use Rattle.numbers.proofs.Tables.{tab-cons, tab-map, length-tab, getD-tab}
 use Rattle.numbers.proofs.Below.{at-allBelow}
 use Rattle.numbers.proofs.Fills.{Filled, fill-none, fill-next, filled}
-use Rattle.field.specs.Mod.{add, mul}
+use Rattle.field.specs.Mod.{mul}
 use Rattle.field.specs.Field.{Is}
 use Rattle.field.proofs.Solve.{canon-lt, mul-canon, #, quote, solve}
 use Rattle.field.proofs.Inverse.{pos}

@@ -3,24 +3,21 @@
 --     Making, making                           a loop that fills an array's first n entries
 -- Assumes nothing.
 use mathlib.Core.Path.{_≡_, refl, sym, ap, _∙_}
-use mathlib.Core.Bool.{Bool, true, false}
-use mathlib.Core.List.{List, [], _∷_, _++_, map, flatMap, append-assoc, append-nil}
+use mathlib.Core.List.{List, [], _∷_, _++_, flatMap, append-assoc, append-nil}
 use Prim.Native.Nat.{ℕ, zero, suc, _+_, _-_, _*_, _^_, _<_, _≤_}
 use native.Mathlib.Numerals.{add-one}
 use native.Mathlib.Nat.{mul-zero, mul-suc, mul-le-mul-left}
 use native.Mathlib.Omega.{arith}
 use borrow.Author.Needs.{needs}
-use lib.ListN.{length, take, drop, set, getD, length-append, length-take, length-drop, length-set, length-map}
-use lib.Seq.{take-nil, drop-nil, take-suc-set, take-at, drop-append-add, getD-take, getD-drop, take-append-add, take-take, take-add, length-take-le}
+use lib.ListN.{length, take, drop, set, getD, replicate, length-replicate, length-append, length-drop, length-set}
+use lib.Seq.{take-nil, drop-nil, take-suc-set, take-at, drop-append-add, getD-take, getD-drop, take-take, drop-set-lt, drop-drop, length-take-le}
 use mir.Syntax.{w64}
 use mir.Val.{Fits}
 use Rattle.numbers.specs.Tables.{tab}
-use Rattle.numbers.specs.Bytes.{allBelow}
-use Rattle.numbers.proofs.Tables.{tab-next, tab-zero, length-tab}
+use Rattle.numbers.proofs.Tables.{tab-next, tab-zero}
 use Rattle.numbers.proofs.Below.{allBelow-at}
 use Rattle.field.specs.Mod.{mul}
 use Rattle.field.specs.Field.{Is}
-use Rattle.sharing.specs.Ready.{Ready}
 use Rattle.run.specs.Rows.{productsOf, Rowed}
 
 -- ---- rows of k entries
@@ -56,15 +53,21 @@ part-front l m a k le = take-drop l a k ∙ ap (drop a) (sym (take-take (a + k) 
 pub row-room : (k j n : ℕ) → j < n → k * j + k ≤ k * n
 row-room k j n l = omega (arith, mul-suc k j, mul-le-mul-left {m = suc j} {n = n} k (omega arith))
 
+drop-zeros : (n m : ℕ) → drop n (replicate {A = ℕ} m 0) ≡ replicate (m - n) 0
+drop-zeros zero m = let e : m - zero ≡ m = omega arith in rw e
+drop-zeros (suc n) zero = let e : zero - suc n ≡ zero = omega arith in rw e
+drop-zeros (suc n) (suc m) = let e : suc m - suc n ≡ m - n = omega arith in rw e (drop-zeros n m)
+
 -- ---- a loop that fills the first n entries of an array of 15 by a rule
 pub record Making (f : ℕ → ℕ) (n : ℕ) (d : List ℕ) (j : ℕ) : Type 0 where
   pub within : j ≤ n
   pub long : length d ≡ 15
   pub front : take j d ≡ tab f j
+  pub rest : drop j d ≡ drop j (replicate 15 0)
 
 module _ (f : ℕ → ℕ) (n : ℕ) where
-  pub make-none : (d : List ℕ) → length d ≡ 15 → Making f n d 0
-  make-none d e = record { within = omega arith; long = e; front = sym (tab-zero f) }
+  pub make-none : Making f n (replicate 15 0) 0
+  make-none = record { within = omega arith; long = length-replicate {A = ℕ} 15 0; front = sym (tab-zero f); rest = refl }
 
   module _ (d : List ℕ) (j : ℕ) (h : Making f n d j) where
     pub make-next : (v : ℕ) → n ≤ 15 → j < n → v ≡ f j → Making f n (set d j v) (j + 1)
@@ -72,6 +75,7 @@ module _ (f : ℕ → ℕ) (n : ℕ) where
       within = omega arith;
       long = length-set d j v ∙ h .long;
       front = rw (tab-next, add-one, take-suc-set d j v (omega (arith, h .long)), h .front, e);
+      rest = drop-set-lt (j + 1) d j v (omega arith) ∙ sym (drop-drop 1 j d) ∙ ap (drop 1) (h .rest) ∙ drop-drop 1 j (replicate 15 0);
     }
 
     pub make-next-is : (p v : ℕ) → n ≤ 15 → j < n → Is p (f j) v → Making f n (set d j v) (j + 1)
@@ -80,7 +84,10 @@ module _ (f : ℕ → ℕ) (n : ℕ) where
     pub made : n ≤ j → take n d ≡ tab f n
     made l = let q : j ≡ n = omega (arith, h .within) in rw (← q) (h .front)
 
-pub ruleset making = (needs, make-none, make-next, make-next-is, made)
+    pub unmade : n ≤ j → drop n d ≡ replicate (15 - n) 0
+    unmade l = let q : j ≡ n = omega (arith, h .within) in rw (← q) (h .rest ∙ drop-zeros j 15)
+
+pub ruleset making = (needs, make-none, make-next, make-next-is, made, unmade)
 
 -- ---- reading a row of the table
 module _ (p n w : ℕ) (table : List ℕ) (r : Rowed p n w table) where

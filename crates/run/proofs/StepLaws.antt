@@ -3,26 +3,24 @@
 --     Pasting, pasting                  the loop that writes a row
 --     takings                           what a gate takes
 -- Assumes nothing.
-use mathlib.Core.Path.{_≡_, refl, sym, ap, ap₂, _∙_}
-use mathlib.Core.Bool.{Bool, true, false}
-use mathlib.Core.List.{List, [], _∷_, _++_, map, flatMap}
-use Prim.Native.Nat.{ℕ, zero, suc, _+_, _-_, _*_, _/_, _^_, _<_, _≤_}
+use mathlib.Core.Path.{_≡_, sym, ap, _∙_}
+use mathlib.Core.Bool.{true}
+use mathlib.Core.List.{List, _∷_, _++_, map}
+use Prim.Native.Nat.{ℕ, suc, _+_, _*_, _/_, _<_, _≤_}
 use native.Mathlib.Numerals.{add-one}
-use native.Mathlib.Nat.{mul-suc, mul-zero, add-zero, mul-one, mul-le-mul}
+use native.Mathlib.Nat.{mul-zero, mul-one, mul-le-mul}
 use native.Mathlib.Omega.{arith}
 use borrow.Author.Needs.{needs}
-use borrow.Author.Tests.{lt-ltb}
-use lib.ListN.{length, take, drop, set, getD, length-set, length-append, length-take, length-drop, length-map}
-use lib.Seq.{paste, paste-zero, paste-suc, length-paste, take-paste, drop-paste, getD-take, getD-drop, take-at, take-take, length-take-le}
+use lib.ListN.{length, take, drop, set, getD, length-append}
+use lib.Seq.{paste, paste-zero, paste-suc, length-paste, take-at, drop-at, take-take, length-take-le}
 use mir.Syntax.{w64}
 use mir.Val.{Fits}
 use Rattle.numbers.specs.Tables.{tab}
 use Rattle.numbers.specs.Bytes.{numbers, allBelow}
-use Rattle.numbers.proofs.Tables.{length-tab, getD-tab, take-tab, tab-ext}
-use Rattle.numbers.proofs.Below.{allBelow-at, at-allBelow, allBelow-take}
+use Rattle.numbers.proofs.Tables.{length-tab, getD-tab, tab-ext}
+use Rattle.numbers.proofs.Below.{at-allBelow, allBelow-take}
 use Rattle.numbers.proofs.Bytes.{numbers-length}
 use Rattle.field.specs.Mod.{mul}
-use Rattle.field.specs.Field.{Is}
 use Rattle.field.proofs.Solve.{canon-lt, mul-canon}
 use Rattle.field.proofs.Inverse.{pos}
 use Rattle.sharing.specs.Poly.{eval}
@@ -33,18 +31,17 @@ use Rattle.sharing.proofs.Coding.{map-tab}
 use Rattle.plan.specs.declared.Gate.{Gate}
 use Rattle.plan.specs.declared.Gate.the-variants.{Input, Add, Scale, Offset, Multiply}
 use Rattle.plan.specs.declared.Header.{Header}
-use Rattle.plan.specs.Plans.{Plan, dealersOf, dealerCount}
-use Rattle.plan.specs.File.{planOf, gateAt}
+use Rattle.plan.specs.Plans.{dealersOf, dealerCount}
+use Rattle.plan.specs.File.{planOf}
 use Rattle.plan.specs.Planned.{Planned}
-use Rattle.plan.proofs.Planned.{plan-t, plan-p, plan-points, plan-n, plan-gate}
+use Rattle.plan.proofs.Planned.{plan-t, plan-p}
 use Rattle.plan.proofs.Valid.{valid}
 use Rattle.run.specs.Ideal.{inputsTaken}
 use Rattle.run.specs.Shares.{sharings, coinsTaken}
-use Rattle.run.specs.Rows.{powerRows, productsOf, mixedAt, Sized, Prepared, Powered, column, Coined, Dealt, Elements, Rowed}
+use Rattle.run.specs.Rows.{powerRows, productsOf, mixedAt, Sized, Prepared, column, Coined, Dealt, Elements}
 use Rattle.run.proofs.Below.{map-below}
-use Rattle.run.proofs.RowLaws.{part-front, row-room}
 use Rattle.run.proofs.DealLaws.{dot-first}
-use Rattle.run.proofs.GridLaws.{length-sharings, getD-values, coefficients-few, coins-few, dealers-few, coins-below, below-cons}
+use Rattle.run.proofs.GridLaws.{length-sharings, coefficients-few, coins-few, below-cons}
 
 -- ---- what a plan's contents give
 pub planned-ready : (bs : List ℕ) (h : Header) → Planned bs h → Ready (h .field .p)
@@ -260,7 +257,14 @@ module _ (h : Header) (s : Sized h) where
               weighs = take-at zs (drop (h .t + h .t + 1) ws) (h .t + h .t + 1) b ∙ ez ∙ ap (weights (h .field .p) 0) (first ∙ ap (take (h .t + h .t + 1)) is);
             }
 
+module _ (h : Header) (s : Sized h) where
+  pub powers-kept : (rows ys : List ℕ) → 120 ≤ length rows → length ys ≡ length (take ((h .t + 1) * h .n) rows) → drop ((h .t + 1) * h .n) (ys ++ drop ((h .t + 1) * h .n) rows) ≡ drop ((h .t + 1) * h .n) rows
+  powers-kept rows ys room e = drop-at ys (drop ((h .t + 1) * h .n) rows) ((h .t + 1) * h .n) (e ∙ sym (powers-count h s rows room))
+
+  pub weights-kept : (ws zs : List ℕ) → 15 ≤ length ws → length zs ≡ length (take (h .t + h .t + 1) ws) → drop (h .t + h .t + 1) (zs ++ drop (h .t + h .t + 1) ws) ≡ drop (h .t + h .t + 1) ws
+  weights-kept ws zs wide e = drop-at zs (drop (h .t + h .t + 1) ws) (h .t + h .t + 1) (e ∙ sym (weights-count h s ws wide))
+
 pub ready-above : (p : ℕ) → Ready p → 0 < p
 ready-above p r = pos (r .prime)
 
-pub ruleset preparing = (needs, ready-above, powers-fit, powers-within, powers-count, weights-within, weights-count, points-count, dealers-count, points-below, dealers-below, powers-long, weights-long, prepared)
+pub ruleset preparing = (needs, ready-above, powers-fit, powers-within, powers-count, weights-within, weights-count, points-count, dealers-count, points-below, dealers-below, powers-long, weights-long, prepared, powers-kept, weights-kept)

@@ -4,9 +4,9 @@ use plan::Gate;
 use plan::Header;
 ghost use mathlib.Core.Path.{_≡_};
 ghost use mathlib.Core.Bool.{true};
-ghost use mathlib.Core.List.{[], _∷_, _++_, map};
-ghost use Prim.Native.Nat.{suc, _+_, _*_, _/_, _<_, _≤_};
-ghost use lib.ListN.{length, take, drop, getD};
+ghost use mathlib.Core.List.{_∷_, map};
+ghost use Prim.Native.Nat.{suc, _+_, _-_, _*_, _/_, _<_, _≤_};
+ghost use lib.ListN.{length, take, drop, getD, replicate};
 ghost use lib.Seq.{paste};
 ghost use Rattle.numbers.specs.Tables.{tab};
 ghost use Rattle.numbers.specs.Bytes.{numbers, allBelow};
@@ -75,6 +75,8 @@ pub fn prepare(h: Header, rows: &mut [u64], weights: &mut [u64])
     requires { ⌜ 120 ≤ length (now rows) ⌝ }
     requires { ⌜ 15 ≤ length (now weights) ⌝ }
     ensures { λ _. ⌜ Prepared h (now (rows .exit)) (now (weights .exit)) ⌝ }
+    ensures { λ _. ⌜ drop ((h .t + 1) * h .n) (now (rows .exit)) ≡ drop ((h .t + 1) * h .n) (now (rows .entry)) ⌝ }
+    ensures { λ _. ⌜ drop (h .t + h .t + 1) (now (weights .exit)) ≡ drop (h .t + h .t + 1) (now (weights .entry)) ⌝ }
 {
     let f = h.field;
     let n = h.n;
@@ -190,6 +192,7 @@ pub fn products(f: Field, n: usize, m: usize, a: usize, b: usize, table: &[u64])
     requires { ⌜ Rowed (f .p) n a (now table) ⌝ }
     requires { ⌜ Rowed (f .p) n b (now table) ⌝ }
     ensures { λ r. ⌜ take m r ≡ productsOf (f .p) n m a b (now (table .entry)) ⌝ }
+    ensures { λ r. ⌜ drop m r ≡ replicate (15 - m) 0 ⌝ }
 {
     let left = n * a;
     let right = n * b;

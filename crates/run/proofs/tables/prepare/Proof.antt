@@ -54,7 +54,7 @@ same-length-2 : tie.Need-same-length-2
 same-length-2 c = search preparing
 
 returns : tie.Need-returns
-returns c = search preparing
+returns c = (search preparing, (search preparing, search preparing))
 
 pub prepare-spec : {M : Type 1} → statement M
 prepare-spec =

@@ -57,7 +57,7 @@ loop-again : tie.Need-loop-again Inv-loop μ-loop
 loop-again c = search row-reading
 
 returns : tie.Need-returns Inv-loop μ-loop
-returns c = search row-reading
+returns c = (search row-reading, search row-reading)
 
 pub products-spec : {M : Type 1} → statement M
 products-spec =
