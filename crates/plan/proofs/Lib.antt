@@ -1,1 +1,4 @@
+pub mod Refusals
+pub mod Gates
+pub mod Ways
 pub mod Valid

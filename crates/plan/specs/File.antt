@@ -85,6 +85,13 @@ gateOk n p g (Multiply a b) = ltb a g && ltb b g
 unfoldable pub outOk : ℕ → ℕ → Output → Bool
 outOk n gates o = between 1 n (o .party) && ltb (o .wire) gates
 
+-- gate g of a plan keeps its rule, and out o its own
+unfoldable pub gateKept : List ℕ → ℕ → Bool
+gateKept bs g = gateOk (nAt bs) (pAt bs) g (gateAt bs g)
+
+unfoldable pub outKept : List ℕ → ℕ → Bool
+outKept bs o = outOk (nAt bs) (gateCountAt bs) (outAt bs o)
+
 unfoldable pub layoutOk : List ℕ → Bool
 layoutOk bs =
     eqb (getD bs 7 0) 0
@@ -103,8 +110,8 @@ planChecks bs =
     ∷ need refusal.Threshold (ltb (2 * tAt bs) (nAt bs))
     ∷ need refusal.Modulus (isPrime (pAt bs) && ltb (nAt bs) (pAt bs))
     ∷ need refusal.Layout (layoutOk bs)
-    ∷ unlessFound refusal.GateRule (firstFailing (λ g. gateOk (nAt bs) (pAt bs) g (gateAt bs g)) (gateCountAt bs))
-    ∷ unlessFound refusal.OutputRule (firstFailing (λ o. outOk (nAt bs) (gateCountAt bs) (outAt bs o)) (outCountAt bs))
+    ∷ unlessFound refusal.GateRule (firstFailing (gateKept bs) (gateCountAt bs))
+    ∷ unlessFound refusal.OutputRule (firstFailing (outKept bs) (outCountAt bs))
     ∷ []
 
 unfoldable pub planCheck : List ℕ → Checked

@@ -1,5 +1,5 @@
 -- Refusals (document 01, "The refusals, in checking order"): a call's checks are one list, and its answer is the first that does not hold.
-use Prim.Native.Nat.{ℕ, _+_, _*_}
+use Prim.Native.Nat.{ℕ, _+_, _*_, _%_}
 use mathlib.Core.Bool.{Bool, cond}
 use mathlib.Core.List.{List, [], _∷_}
 use Rattle.numbers.specs.declared.Found.{Found}
@@ -59,10 +59,10 @@ placeOf (refusal.OffPolynomial o) = o
 placeOf (refusal.InputsDiffer i) = i
 placeOf (refusal.OutputsDiffer o) = o
 
--- the answer of a C call that gives no number of its own: the refusal's number in the low byte, its place above it; 0 where there is none
+-- the answer of a C call that gives no number of its own: bits 0 to 7 are the refusal's number, bits 8 to 39 its place; 0 where there is none
 unfoldable pub codeOf : Checked → ℕ
 codeOf Passed = 0
-codeOf (Refused r) = numberOf r + 256 * placeOf r
+codeOf (Refused r) = numberOf r + 256 * (placeOf r % 4294967296)
 
 -- the first of two checks that does not hold
 unfoldable pub andThen : Checked → Checked → Checked

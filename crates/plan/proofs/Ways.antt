@@ -1,0 +1,332 @@
+-- What each way through the reader says of its definition.
+--     rules, seeking, beginning, laying, contents, body     what closes the needs of the functions that check a plan
+-- Assumes nothing.
+use mathlib.Core.Path.{_≡_, refl, sym, ap, _∙_}
+use mathlib.Core.Bool.{Bool, true, false, cond, _&&_}
+use mathlib.Core.List.{List, [], _∷_}
+use Prim.Native.Nat.{ℕ, suc, _+_, _-_, _*_, _<_, _≤_}
+use native.Mathlib.Omega.{arith}
+use borrow.Author.Needs.{needs}
+use borrow.Author.Tests.{not-true, not-false, lt-ltb, le-ltb, le-leb, lt-leb, eq-eqb, ne-eqb}
+use lib.Dec.{eqb, leb, ltb}
+use lib.ListN.{length, getD, take, drop, take-append-drop}
+use Rattle.numbers.specs.Tables.{firstFrom, firstFailing}
+use Rattle.numbers.specs.Bytes.{wordAt}
+use Rattle.numbers.specs.declared.Found.{Found}
+use Rattle.numbers.specs.declared.Found.the-variants.{At, Nothing}
+use Rattle.numbers.proofs.Searches.{Seeking, begin, found, passed, nothing}
+use Rattle.field.specs.declared.Field.{Field}
+use Rattle.field.specs.declared.Made.{Made}
+use Rattle.field.specs.declared.Made.the-variants as made
+use Rattle.field.specs.Prime.{isPrime}
+use Rattle.field.specs.Field.{madeOf}
+use Rattle.plan.specs.declared.Gate.{Gate}
+use Rattle.plan.specs.declared.Gate.the-variants.{Input, Add, Scale, Offset, Multiply}
+use Rattle.plan.specs.declared.Output.{Output}
+use Rattle.plan.specs.declared.Header.{Header}
+use Rattle.plan.specs.declared.Reading.{Reading}
+use Rattle.plan.specs.declared.Reading.the-variants as reading
+use Rattle.plan.specs.declared.Checked.{Checked}
+use Rattle.plan.specs.declared.Checked.the-variants.{Passed, Refused}
+use Rattle.plan.specs.declared.Refusal.{Refusal}
+use Rattle.plan.specs.declared.Refusal.the-variants as refusal
+use Rattle.plan.specs.Refusals.{firstOf, andThen, need, unlessFound}
+use Rattle.plan.proofs.Refusals.{andThen-passed, andThen-refused, firstOf-append}
+use Rattle.plan.specs.File.{magic, sameBytes, between, gateAt, outAt, gateOk, outOk, gateKept, outKept, layoutOk, planChecks, planCheck, headerOf, readingOf, readPlan}
+
+-- ---- small tests
+pub between-under : (a b x : ℕ) → x < a → false ≡ between a b x
+unfolding between
+between-under a b x l = rw (lt-leb a x l)
+
+pub between-from : (a b x : ℕ) → a ≤ x → leb x b ≡ between a b x
+unfolding between
+between-from a b x l = rw (le-leb a x l)
+
+pub below-first-not : (a g b p : ℕ) → g ≤ a → false ≡ (ltb a g && ltb b p)
+below-first-not a g b p l = rw (le-ltb a g l)
+
+pub below-first : (a g b p : ℕ) → a < g → ltb b p ≡ (ltb a g && ltb b p)
+below-first a g b p l = rw (lt-ltb a g l)
+
+-- ---- a gate's and an out's rule
+module _ (n p g : ℕ) (gate : Gate) (r : Bool) where
+  pub rule-input : (s : ℕ) → gate ≡ Input s → r ≡ between 1 n s → r ≡ gateOk n p g gate
+  unfolding gateOk
+  rule-input s e h = rw e h
+
+  pub rule-add : (a b : ℕ) → gate ≡ Add a b → r ≡ (ltb a g && ltb b g) → r ≡ gateOk n p g gate
+  unfolding gateOk
+  rule-add a b e h = rw e h
+
+  pub rule-scale : (a c : ℕ) → gate ≡ Scale a c → r ≡ (ltb a g && ltb c p) → r ≡ gateOk n p g gate
+  unfolding gateOk
+  rule-scale a c e h = rw e h
+
+  pub rule-offset : (a c : ℕ) → gate ≡ Offset a c → r ≡ (ltb a g && ltb c p) → r ≡ gateOk n p g gate
+  unfolding gateOk
+  rule-offset a c e h = rw e h
+
+  pub rule-multiply : (a b : ℕ) → gate ≡ Multiply a b → r ≡ (ltb a g && ltb b g) → r ≡ gateOk n p g gate
+  unfolding gateOk
+  rule-multiply a b e h = rw e h
+
+module _ (n gates : ℕ) (o : Output) (t : Bool) (e : t ≡ between 1 n (o .party)) where
+  pub rule-no-party : t ≡ false → false ≡ outOk n gates o
+  unfolding outOk
+  rule-no-party f = rw (← e, f)
+
+  pub rule-wire : t ≡ true → ltb (o .wire) gates ≡ outOk n gates o
+  unfolding outOk
+  rule-wire f = rw (← e, f)
+
+pub ruleset rules = (needs, not-true, not-false, between-under, between-from, below-first-not, below-first, rule-input, rule-add, rule-scale, rule-offset, rule-multiply, rule-no-party, rule-wire)
+
+-- ---- the two searches
+module _ (bs : List ℕ) (gates : ℕ) where
+  pub gates-begin : Seeking (gateKept bs) gates 0
+  gates-begin = record { within = omega arith; rest = begin (gateKept bs) gates }
+
+  module _ (g : ℕ) (h : Seeking (gateKept bs) gates g) (s : gates ≡ wordAt bs 12) where
+    pub gates-end : gates ≤ g → Nothing ≡ firstFailing (gateKept bs) (wordAt bs 12)
+    gates-end l = rw (← s) (nothing (gateKept bs) gates g h l)
+
+    module _ (n p : ℕ) (en : n ≡ getD bs 5 0) (ep : p ≡ wordAt bs 8) (gate : Gate) (t : Bool) (l : g < gates) (e : gate ≡ gateAt bs g) (k : t ≡ gateOk n p g gate) where
+      kept : t ≡ gateKept bs g
+      unfolding gateKept
+      kept = rw (← en, ← ep, ← e) k
+
+      pub gates-found : t ≡ false → At g ≡ firstFailing (gateKept bs) (wordAt bs 12)
+      gates-found f = rw (← s) (found (gateKept bs) gates g h l (rw (← kept) f))
+
+      pub gates-passed : t ≡ true → Seeking (gateKept bs) gates (g + 1)
+      gates-passed f = record { within = omega arith; rest = passed (gateKept bs) gates g h l (rw (← kept) f) }
+
+module _ (bs : List ℕ) (outs : ℕ) where
+  pub outs-begin : Seeking (outKept bs) outs 0
+  outs-begin = record { within = omega arith; rest = begin (outKept bs) outs }
+
+  module _ (o : ℕ) (h : Seeking (outKept bs) outs o) (s : outs ≡ wordAt bs 16) where
+    pub outs-end : outs ≤ o → Nothing ≡ firstFailing (outKept bs) (wordAt bs 16)
+    outs-end l = rw (← s) (nothing (outKept bs) outs o h l)
+
+    module _ (n gates : ℕ) (en : n ≡ getD bs 5 0) (eg : gates ≡ wordAt bs 12) (out : Output) (t : Bool) (l : o < outs) (e : out ≡ outAt bs o) (k : t ≡ outOk n gates out) where
+      out-kept : t ≡ outKept bs o
+      unfolding outKept
+      out-kept = rw (← en, ← eg, ← e) k
+
+      pub outs-found : t ≡ false → At o ≡ firstFailing (outKept bs) (wordAt bs 16)
+      outs-found f = rw (← s) (found (outKept bs) outs o h l (rw (← out-kept) f))
+
+      pub outs-passed : t ≡ true → Seeking (outKept bs) outs (o + 1)
+      outs-passed f = record { within = omega arith; rest = passed (outKept bs) outs o h l (rw (← out-kept) f) }
+
+pub ruleset seeking = (needs, not-true, not-false, gates-begin, gates-end, gates-found, gates-passed, outs-begin, outs-end, outs-found, outs-passed)
+
+-- ---- the letters POOL
+same-four : (s : List ℕ) → 4 ≤ length s → sameBytes (take 4 s) magic ≡ (eqb (getD s 0 0) 80 && (eqb (getD s 1 0) 79 && (eqb (getD s 2 0) 79 && eqb (getD s 3 0) 76)))
+unfolding sameBytes magic
+same-four [] l = absurd (omega arith)
+same-four (a ∷ []) l = absurd (omega arith)
+same-four (a ∷ b ∷ []) l = absurd (omega arith)
+same-four (a ∷ b ∷ c ∷ []) l = absurd (omega arith)
+same-four (a ∷ b ∷ c ∷ d ∷ s) l = and-end (eqb a 80) (eqb b 79) (eqb c 79) (eqb d 76)
+  where
+    and-end : (a b c d : Bool) → (a && (b && (c && (d && true)))) ≡ (a && (b && (c && d)))
+    and-end true true true true = refl
+    and-end true true true false = refl
+    and-end true true false d = refl
+    and-end true false c d = refl
+    and-end false b c d = refl
+
+pub begun-short : (s : List ℕ) → length s < 18 → false ≡ (leb 18 (length s) && sameBytes (take 4 s) magic)
+begun-short s l = rw (lt-leb 18 (length s) l)
+
+module _ (s : List ℕ) (l : 18 ≤ length s) where
+  letters : (leb 18 (length s) && sameBytes (take 4 s) magic) ≡ (eqb (getD s 0 0) 80 && (eqb (getD s 1 0) 79 && (eqb (getD s 2 0) 79 && eqb (getD s 3 0) 76)))
+  letters = rw (le-leb 18 (length s) l) (same-four s (omega arith))
+
+  pub begun-p : (getD s 0 0 ≡ 80 → ⊥) → false ≡ (leb 18 (length s) && sameBytes (take 4 s) magic)
+  begun-p a = rw (letters, ne-eqb (getD s 0 0) 80 a)
+
+  pub begun-o : getD s 0 0 ≡ 80 → (getD s 1 0 ≡ 79 → ⊥) → false ≡ (leb 18 (length s) && sameBytes (take 4 s) magic)
+  begun-o a b = rw (letters, eq-eqb (getD s 0 0) 80 a, ne-eqb (getD s 1 0) 79 b)
+
+  pub begun-oo : getD s 0 0 ≡ 80 → getD s 1 0 ≡ 79 → (getD s 2 0 ≡ 79 → ⊥) → false ≡ (leb 18 (length s) && sameBytes (take 4 s) magic)
+  begun-oo a b c = rw (letters, eq-eqb (getD s 0 0) 80 a, eq-eqb (getD s 1 0) 79 b, ne-eqb (getD s 2 0) 79 c)
+
+  pub begun-l : getD s 0 0 ≡ 80 → getD s 1 0 ≡ 79 → getD s 2 0 ≡ 79 → eqb (getD s 3 0) 76 ≡ (leb 18 (length s) && sameBytes (take 4 s) magic)
+  begun-l a b c = rw (letters, eq-eqb (getD s 0 0) 80 a, eq-eqb (getD s 1 0) 79 b, eq-eqb (getD s 2 0) 79 c)
+
+pub ruleset beginning = (needs, begun-short, begun-p, begun-o, begun-oo, begun-l)
+
+-- ---- the layout
+module _ (s : List ℕ) where
+  module _ (z : ℕ) (ez : z ≡ getD s 7 0) where
+    pub layout-zero : (z ≡ 0 → ⊥) → false ≡ layoutOk s
+    unfolding layoutOk
+    layout-zero h = rw (← ez, ne-eqb z 0 h)
+
+    module _ (hz : z ≡ 0) (a : ℕ) (ea : a ≡ wordAt s 10) where
+      pub layout-gates-offset : (a ≡ 18 → ⊥) → false ≡ layoutOk s
+      unfolding layoutOk
+      layout-gates-offset h = rw (← ez, eq-eqb z 0 hz, ← ea, ne-eqb a 18 h)
+
+      module _ (ha : a ≡ 18) (g : ℕ) (eg : g ≡ wordAt s 12) (t : Bool) (et : t ≡ between 1 1024 g) where
+        pub layout-gates : t ≡ false → false ≡ layoutOk s
+        unfolding layoutOk
+        layout-gates h = rw (← ez, eq-eqb z 0 hz, ← ea, eq-eqb a 18 ha, ← eg, ← et, h)
+
+        pub layout-further : t ≡ true → (r : Bool) → r ≡ (eqb (wordAt s 14) (18 + 6 * g) && (between 1 64 (wordAt s 16) && eqb (length s) (18 + 6 * g + 3 * wordAt s 16))) → r ≡ layoutOk s
+        unfolding layoutOk
+        layout-further h r e = rw (← ez, eq-eqb z 0 hz, ← ea, eq-eqb a 18 ha, ← eg, ← et, h) e
+
+module _ (s : List ℕ) (g b : ℕ) (eb : b ≡ wordAt s 14) where
+  pub outs-displaced : (b ≡ 18 + 6 * g → ⊥) → false ≡ (eqb (wordAt s 14) (18 + 6 * g) && (between 1 64 (wordAt s 16) && eqb (length s) (18 + 6 * g + 3 * wordAt s 16)))
+  outs-displaced h = rw (← eb, ne-eqb b (18 + 6 * g) h)
+
+  module _ (hb : b ≡ 18 + 6 * g) (o : ℕ) (eo : o ≡ wordAt s 16) (u : Bool) (eu : u ≡ between 1 64 o) where
+    pub outs-many : u ≡ false → false ≡ (eqb (wordAt s 14) (18 + 6 * g) && (between 1 64 (wordAt s 16) && eqb (length s) (18 + 6 * g + 3 * wordAt s 16)))
+    outs-many h = rw (← eb, eq-eqb b (18 + 6 * g) hb, ← eo, ← eu, h)
+
+    pub outs-length : u ≡ true → eqb (length s) (18 + 6 * g + 3 * o) ≡ (eqb (wordAt s 14) (18 + 6 * g) && (between 1 64 (wordAt s 16) && eqb (length s) (18 + 6 * g + 3 * wordAt s 16)))
+    outs-length h = rw (← eb, eq-eqb b (18 + 6 * g) hb, ← eo, ← eu, h)
+
+pub ruleset laying = (needs, not-true, not-false, layout-zero, layout-gates-offset, layout-gates, layout-further, outs-displaced, outs-many, outs-length)
+
+-- ---- refusals 1 to 4
+module _ (s : List ℕ) (t : Bool) (et : t ≡ (leb 18 (length s) && sameBytes (take 4 s) magic)) where
+  pub contents-magic : t ≡ false → Refused refusal.Magic ≡ firstOf (take 4 (planChecks s))
+  unfolding planChecks firstOf andThen need
+  contents-magic h = rw (← et, h)
+
+  module _ (ht : t ≡ true) (v : ℕ) (ev : v ≡ getD s 4 0) where
+    pub contents-version : (v ≡ 1 → ⊥) → Refused refusal.Version ≡ firstOf (take 4 (planChecks s))
+    unfolding planChecks firstOf andThen need
+    contents-version h = rw (← et, ht, ← ev, ne-eqb v 1 h)
+
+    module _ (hv : v ≡ 1) (n : ℕ) (en : n ≡ getD s 5 0) (u : Bool) (eu : u ≡ between 1 15 n) where
+      pub contents-parties : u ≡ false → Refused refusal.Parties ≡ firstOf (take 4 (planChecks s))
+      unfolding planChecks firstOf andThen need
+      contents-parties h = rw (← et, ht, ← ev, eq-eqb v 1 hv, ← en, ← eu, h)
+
+      module _ (hu : u ≡ true) (d : ℕ) (ed : d ≡ getD s 6 0) where
+        pub contents-threshold : n ≤ 2 * d → Refused refusal.Threshold ≡ firstOf (take 4 (planChecks s))
+        unfolding planChecks firstOf andThen need
+        contents-threshold h = rw (← et, ht, ← ev, eq-eqb v 1 hv, ← en, ← eu, hu, ← ed, le-ltb (2 * d) n h)
+
+        pub contents-passed : 2 * d < n → Passed ≡ firstOf (take 4 (planChecks s))
+        unfolding planChecks firstOf andThen need
+        contents-passed h = rw (← et, ht, ← ev, eq-eqb v 1 hv, ← en, ← eu, hu, ← ed, lt-ltb (2 * d) n h)
+
+pub ruleset contents = (needs, not-true, not-false, contents-magic, contents-version, contents-parties, contents-threshold, contents-passed)
+
+-- ---- refusals 6 to 8
+module _ (s : List ℕ) (t : Bool) (et : t ≡ layoutOk s) where
+  pub body-layout : t ≡ false → Refused refusal.Layout ≡ firstOf (drop 5 (planChecks s))
+  unfolding planChecks firstOf andThen need
+  body-layout h = rw (← et, h)
+
+  module _ (ht : t ≡ true) (f : Found) (ef : f ≡ firstFailing (gateKept s) (wordAt s 12)) where
+    pub body-gate : (k : ℕ) → f ≡ At k → Refused (refusal.GateRule k) ≡ firstOf (drop 5 (planChecks s))
+    unfolding planChecks firstOf andThen need unlessFound
+    body-gate k h = rw (← et, ht, ← ef, h)
+
+    module _ (hf : f ≡ Nothing) (o : Found) (eo : o ≡ firstFailing (outKept s) (wordAt s 16)) where
+      pub body-out : (k : ℕ) → o ≡ At k → Refused (refusal.OutputRule k) ≡ firstOf (drop 5 (planChecks s))
+      unfolding planChecks firstOf andThen need unlessFound
+      body-out k h = rw (← et, ht, ← ef, hf, ← eo, h)
+
+      pub body-passed : o ≡ Nothing → Passed ≡ firstOf (drop 5 (planChecks s))
+      unfolding planChecks firstOf andThen need unlessFound
+      body-passed h = rw (← et, ht, ← ef, hf, ← eo, h)
+
+pub ruleset body = (needs, not-true, not-false, body-layout, body-gate, body-out, body-passed)
+
+-- ---- the whole reading
+pub reading-passed : (c : Checked) (h : Header) → c ≡ Passed → reading.Passed h ≡ readingOf c h
+unfolding readingOf
+reading-passed c h e = rw e
+
+pub reading-refused : (c : Checked) (h : Header) (r : Refusal) → c ≡ Refused r → reading.Refused r ≡ readingOf c h
+unfolding readingOf
+reading-refused c h r e = rw e
+
+made-not : (p : ℕ) → p < 65536 → madeOf p ≡ made.Refused → isPrime p ≡ false
+unfolding madeOf
+made-not p l h = pick (isPrime p) (rw (lt-ltb p 65536 l) at h)
+  where
+    pick : (t : Bool) → cond t (made.Field (record { p = p })) made.Refused ≡ made.Refused → t ≡ false
+    pick true e = let z : _≡_ {A = ℕ} 0 1 = cc in absurd (omega arith)
+    pick false e = refl
+
+made-is : (p : ℕ) (f : Field) → p < 65536 → madeOf p ≡ made.Field f → (isPrime p ≡ true) × (f ≡ record { p = p })
+unfolding madeOf
+made-is p f l h = pick (isPrime p) (rw (lt-ltb p 65536 l) at h)
+  where
+    pick : (t : Bool) → cond t (made.Field (record { p = p })) made.Refused ≡ made.Field f → (t ≡ true) × (f ≡ record { p = p })
+    pick true e = (refl, (cc))
+    pick false e = let z : _≡_ {A = ℕ} 0 1 = cc in absurd (omega arith)
+
+-- refusal 5, and what follows it
+module _ (s : List ℕ) (p : ℕ) (small : p < 65536) (ep : p ≡ wordAt s 8) (m : Made) (em : m ≡ madeOf p) where
+  pub reading-no-field : m ≡ made.Refused → reading.Refused refusal.Modulus ≡ readingOf (firstOf (drop 4 (planChecks s))) (headerOf s)
+  unfolding planChecks firstOf andThen need readingOf
+  reading-no-field h = rw (← ep, made-not p small (sym em ∙ h))
+
+  module _ (f : Field) (hf : m ≡ made.Field f) (n : ℕ) (en : n ≡ getD s 5 0) where
+    pub reading-low-prime : p ≤ n → reading.Refused refusal.Modulus ≡ readingOf (firstOf (drop 4 (planChecks s))) (headerOf s)
+    unfolding planChecks firstOf andThen need readingOf
+    reading-low-prime h = rw (← ep, made-is p f small (sym em ∙ hf) .0, ← en, le-ltb n p h)
+
+    prime-passes : n < p → firstOf (drop 4 (planChecks s)) ≡ firstOf (drop 5 (planChecks s))
+    unfolding planChecks firstOf andThen need
+    prime-passes h = rw (← ep, made-is p f small (sym em ∙ hf) .0, ← en, lt-ltb n p h)
+
+    module _ (t g o : ℕ) (et : t ≡ getD s 6 0) (eg : g ≡ wordAt s 12) (eo : o ≡ wordAt s 16) where
+      its-header : record { n = n; t = t; field = f; gates = g; outs = o } ≡ headerOf s
+      unfolding headerOf
+      its-header = rw (made-is p f small (sym em ∙ hf) .1, ep, en, et, eg, eo)
+
+      pub reading-on : n < p → (c : Checked) (r : Reading) → c ≡ firstOf (drop 5 (planChecks s)) → r ≡ readingOf c (record { n = n; t = t; field = f; gates = g; outs = o })
+          → r ≡ readingOf (firstOf (drop 4 (planChecks s))) (headerOf s)
+      reading-on h c r ec er = er ∙ rw (prime-passes h, ec, its-header)
+
+-- the four before
+module _ (s : List ℕ) (c : Checked) (ec : c ≡ firstOf (take 4 (planChecks s))) where
+  parts : planCheck s ≡ andThen (firstOf (take 4 (planChecks s))) (firstOf (drop 4 (planChecks s)))
+  unfolding planCheck
+  parts = rw (← firstOf-append (take 4 (planChecks s)) (drop 4 (planChecks s)), take-append-drop 4 (planChecks s))
+
+  pub read-contents : (r : Refusal) → c ≡ Refused r → reading.Refused r ≡ readPlan s
+  unfolding readPlan readingOf
+  read-contents r h = rw (parts, andThen-refused (firstOf (take 4 (planChecks s))) (firstOf (drop 4 (planChecks s))) r (sym ec ∙ h))
+
+  pub read-further : c ≡ Passed → (r : Reading) → r ≡ readingOf (firstOf (drop 4 (planChecks s))) (headerOf s) → r ≡ readPlan s
+  unfolding readPlan
+  read-further h r e = e ∙ rw (parts, andThen-passed (firstOf (take 4 (planChecks s))) (firstOf (drop 4 (planChecks s))) (sym ec ∙ h))
+
+-- ---- what a reading says of the check
+of-passed : (c : Checked) (h k : Header) → readingOf c h ≡ reading.Passed k → (c ≡ Passed) × (k ≡ h)
+unfolding readingOf
+of-passed Passed h k e = (refl, (cc))
+of-passed (Refused r) h k e = let z : _≡_ {A = ℕ} 0 1 = cc in absurd (omega arith)
+
+of-refused : (c : Checked) (h : Header) (r : Refusal) → readingOf c h ≡ reading.Refused r → c ≡ Refused r
+unfolding readingOf
+of-refused Passed h r e = let z : _≡_ {A = ℕ} 0 1 = cc in absurd (omega arith)
+of-refused (Refused q) h r e = cc
+
+pub check-of-passed : (s : List ℕ) (r : Reading) (h : Header) → r ≡ readPlan s → r ≡ reading.Passed h → Passed ≡ planCheck s
+unfolding readPlan
+check-of-passed s r h e f = sym (of-passed (planCheck s) (headerOf s) h (sym e ∙ f) .0)
+
+pub check-of-refused : (s : List ℕ) (r : Reading) (q : Refusal) → r ≡ readPlan s → r ≡ reading.Refused q → Refused q ≡ planCheck s
+unfolding readPlan
+check-of-refused s r q e f = sym (of-refused (planCheck s) (headerOf s) q (sym e ∙ f))
+
+pub header-of-passed : (s : List ℕ) (h : Header) → readPlan s ≡ reading.Passed h → h ≡ headerOf s
+unfolding readPlan
+header-of-passed s h e = of-passed (planCheck s) (headerOf s) h e .1
+
+pub ruleset reads = (needs, reading-passed, reading-refused, reading-no-field, reading-low-prime, reading-on, read-contents, read-further, check-of-passed, check-of-refused)
