@@ -1,5 +1,5 @@
-pub mod Sound
-pub mod Openings
-pub mod Below
-pub mod Tables
-pub mod Wires
+pub mod Lists
+pub mod Blocks
+pub mod States
+pub mod Carried
+pub mod Counts
