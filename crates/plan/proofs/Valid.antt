@@ -1,14 +1,26 @@
 -- What the proofs use of a plan that passes.
-use Prim.Native.Nat.{ℕ, _+_, _%_, _≤_, _<_}
-use mathlib.Core.Path.{_≡_}
+use Prim.Native.Nat.{ℕ, zero, suc, _+_, _*_, _%_, _≤_, _<_}
+use native.Mathlib.Nat.{mod-eq-of-lt}
+use native.Mathlib.Omega.{arith}
+use mathlib.Core.Path.{_≡_, sym, subst}
 use mathlib.Core.Logic.{_≢_}
 use mathlib.Core.Bool.{true}
+use mathlib.Core.List.{List}
+use borrow.Author.Tests.{ltb-true}
+use lib.Dec.{T, ltb}
 use lib.ListN.{length, getD}
-use Rattle.field.specs.Prime.{Prime}
+use Rattle.numbers.specs.Tables.{tab}
+use Rattle.numbers.proofs.Tables.{length-tab, getD-tab}
+use Rattle.numbers.proofs.Searches.{nothing-passes}
+use Rattle.field.specs.Prime.{isPrime, Prime}
+use Rattle.field.proofs.Primes.{prime-sound}
 use Rattle.sharing.specs.Interp.{All, Distinct}
+use Rattle.sharing.proofs.Shares.{points-distinct}
+use Rattle.plan.specs.declared.Checked.the-variants.{Passed}
 use Rattle.plan.specs.declared.Gate.the-variants.{Input}
 use Rattle.plan.specs.Plans.{Plan, partyCount}
-use Rattle.plan.specs.File.{gateOk, outOk}
+use Rattle.plan.specs.File.{nAt, tAt, pAt, gateCountAt, outCountAt, gateAt, outAt, gateOk, outOk, gateKept, outKept, planCheck, planOf}
+use Rattle.plan.proofs.Planned.{Passing, passing, both-true}
 
 pub record Valid (plan : Plan) : Type 0 where
   pub prime : Prime (plan .p)
@@ -19,3 +31,48 @@ pub record Valid (plan : Plan) : Type 0 where
   pub small : All (λ x. x < plan .p) (plan .points)
   pub gates : (g : ℕ) → g < length (plan .gates) → gateOk (partyCount plan) (plan .p) g (getD (plan .gates) g (Input 0)) ≡ true
   pub outs : (o : ℕ) → o < length (plan .outs) → outOk (partyCount plan) (length (plan .gates)) (getD (plan .outs) o (record { party = 0; wire = 0 })) ≡ true
+
+all-tab : (P : ℕ → Type 0) (f : ℕ → ℕ) (n : ℕ) → ((i : ℕ) → i < n → P (f i)) → All P (tab f n)
+unfolding tab
+all-tab P f zero h = tt
+all-tab P f (suc n) h = (h 0 (omega arith), all-tab P (λ k. f (suc k)) n (λ i l. h (suc i) (omega arith)))
+
+module _ (bs : List ℕ) (h : planCheck bs ≡ Passed) where
+  checks : Passing bs
+  checks = passing bs h
+
+  above : nAt bs < pAt bs
+  above = ltb-true (nAt bs) (pAt bs) (both-true (isPrime (pAt bs)) (ltb (nAt bs) (pAt bs)) (checks .modulus) .1)
+
+  points-small : (i : ℕ) → i < nAt bs → suc i < pAt bs
+  points-small i l = omega (arith, above)
+
+  gates-kept : (g : ℕ) → g < gateCountAt bs → gateOk (nAt bs) (pAt bs) g (gateAt bs g) ≡ true
+  unfolding gateKept
+  gates-kept g l = nothing-passes (gateKept bs) (gateCountAt bs) (checks .gates) g l
+
+  outs-kept : (o : ℕ) → o < outCountAt bs → outOk (nAt bs) (gateCountAt bs) (outAt bs o) ≡ true
+  unfolding outKept
+  outs-kept o l = nothing-passes (outKept bs) (outCountAt bs) (checks .outs) o l
+
+  -- a plan that passes is valid
+  pub valid : Valid (planOf bs)
+  unfolding planOf partyCount
+  valid =
+      record {
+        prime = prime-sound (pAt bs) (subst T (sym (both-true (isPrime (pAt bs)) (ltb (nAt bs) (pAt bs)) (checks .modulus) .0)) tt);
+        majority = rw (length-tab suc (nAt bs)) (omega (arith, ltb-true (2 * tAt bs) (nAt bs) (checks .threshold)));
+        distinct = points-distinct (pAt bs) (nAt bs) above;
+        nonzero =
+            all-tab (λ x. x % pAt bs ≢ 0) suc (nAt bs) (λ i l e. omega (arith, mod-eq-of-lt {n = suc i} {m = pAt bs} (points-small i l)));
+        small = all-tab (λ x. x < pAt bs) suc (nAt bs) points-small;
+        gates =
+            λ g l.
+            let k : g < gateCountAt bs = rw (← length-tab (gateAt bs) (gateCountAt bs)) l in
+            rw (length-tab suc (nAt bs), getD-tab (gateAt bs) (gateCountAt bs) g (Input 0) k) (gates-kept g k);
+        outs =
+            λ o l.
+            let k : o < outCountAt bs = rw (← length-tab (outAt bs) (outCountAt bs)) l in
+            rw (length-tab suc (nAt bs), length-tab (gateAt bs) (gateCountAt bs), getD-tab (outAt bs) (outCountAt bs) o (record { party = 0; wire = 0 }) k)
+            (outs-kept o k);
+      }

@@ -8,6 +8,8 @@ use Prim.Native.Nat.{ℕ, suc, _+_, _-_, _*_, _<_, _≤_}
 use native.Mathlib.Omega.{arith}
 use borrow.Author.Needs.{needs}
 use borrow.Author.Tests.{not-true, not-false, lt-ltb, le-ltb, le-leb, lt-leb, eq-eqb, ne-eqb}
+use mir.Syntax.{w8}
+use mir.Val.{Fits}
 use lib.Dec.{eqb, leb, ltb}
 use lib.ListN.{length, getD, take, drop, take-append-drop}
 use Rattle.numbers.specs.Tables.{firstFrom, firstFailing}
@@ -85,7 +87,7 @@ pub ruleset rules = (needs, not-true, not-false, between-under, between-from, be
 -- ---- the two searches
 module _ (bs : List ℕ) (gates : ℕ) where
   pub gates-begin : Seeking (gateKept bs) gates 0
-  gates-begin = record { within = omega arith; rest = begin (gateKept bs) gates }
+  gates-begin = begin (gateKept bs) gates
 
   module _ (g : ℕ) (h : Seeking (gateKept bs) gates g) (s : gates ≡ wordAt bs 12) where
     pub gates-end : gates ≤ g → Nothing ≡ firstFailing (gateKept bs) (wordAt bs 12)
@@ -100,11 +102,11 @@ module _ (bs : List ℕ) (gates : ℕ) where
       gates-found f = rw (← s) (found (gateKept bs) gates g h l (rw (← kept) f))
 
       pub gates-passed : t ≡ true → Seeking (gateKept bs) gates (g + 1)
-      gates-passed f = record { within = omega arith; rest = passed (gateKept bs) gates g h l (rw (← kept) f) }
+      gates-passed f = passed (gateKept bs) gates g h l (rw (← kept) f)
 
 module _ (bs : List ℕ) (outs : ℕ) where
   pub outs-begin : Seeking (outKept bs) outs 0
-  outs-begin = record { within = omega arith; rest = begin (outKept bs) outs }
+  outs-begin = begin (outKept bs) outs
 
   module _ (o : ℕ) (h : Seeking (outKept bs) outs o) (s : outs ≡ wordAt bs 16) where
     pub outs-end : outs ≤ o → Nothing ≡ firstFailing (outKept bs) (wordAt bs 16)
@@ -119,7 +121,7 @@ module _ (bs : List ℕ) (outs : ℕ) where
       outs-found f = rw (← s) (found (outKept bs) outs o h l (rw (← out-kept) f))
 
       pub outs-passed : t ≡ true → Seeking (outKept bs) outs (o + 1)
-      outs-passed f = record { within = omega arith; rest = passed (outKept bs) outs o h l (rw (← out-kept) f) }
+      outs-passed f = passed (outKept bs) outs o h l (rw (← out-kept) f)
 
 pub ruleset seeking = (needs, not-true, not-false, gates-begin, gates-end, gates-found, gates-passed, outs-begin, outs-end, outs-found, outs-passed)
 
@@ -244,6 +246,11 @@ module _ (s : List ℕ) (t : Bool) (et : t ≡ layoutOk s) where
 pub ruleset body = (needs, not-true, not-false, body-layout, body-gate, body-out, body-passed)
 
 -- ---- the whole reading
+-- bytes make a two-byte number
+pub word-small : (s : List ℕ) (at : ℕ) → Fits w8 (getD s at 0) → Fits w8 (getD s (at + 1) 0) → wordAt s at < 65536
+unfolding wordAt
+word-small s at l h = omega arith
+
 pub reading-passed : (c : Checked) (h : Header) → c ≡ Passed → reading.Passed h ≡ readingOf c h
 unfolding readingOf
 reading-passed c h e = rw e

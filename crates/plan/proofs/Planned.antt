@@ -1,0 +1,169 @@
+-- What a plan that passes is.
+--     Passing, passing              the checks, one by one
+--     planned, planned-read         the bounds of its contents
+--     party-count .. out-of-plan    the plan's parts, by its contents
+-- Assumes nothing.
+use mathlib.Core.Path.{_≡_, refl, sym, ap, _∙_}
+use mathlib.Core.Bool.{Bool, true, false, _&&_}
+use mathlib.Core.List.{List, [], _∷_}
+use Prim.Native.Nat.{ℕ, suc, _+_, _*_, _<_, _≤_}
+use native.Mathlib.Omega.{arith}
+use borrow.Author.Tests.{ltb-true, leb-true, eqb-true}
+use lib.Dec.{eqb, leb, ltb}
+use lib.ListN.{length, getD, take}
+use Rattle.numbers.specs.Tables.{tab, firstFailing}
+use Rattle.numbers.specs.Bytes.{wordAt}
+use Rattle.numbers.specs.declared.Found.the-variants.{Nothing}
+use Rattle.numbers.proofs.Tables.{length-tab, getD-tab}
+use Rattle.field.specs.Prime.{isPrime}
+use Rattle.plan.specs.declared.Gate.{Gate}
+use Rattle.plan.specs.declared.Gate.the-variants.{Input}
+use Rattle.plan.specs.declared.Output.{Output}
+use Rattle.plan.specs.declared.Header.{Header}
+use Rattle.plan.specs.declared.Reading.{Reading}
+use Rattle.plan.specs.declared.Reading.the-variants as reading
+use Rattle.plan.specs.declared.Refusal.{Refusal}
+use Rattle.plan.specs.declared.Refusal.the-variants as refusal
+use Rattle.plan.specs.declared.Checked.{Checked}
+use Rattle.plan.specs.declared.Checked.the-variants.{Passed, Refused}
+use Rattle.plan.specs.Refusals.{firstOf, need, unlessFound}
+use Rattle.plan.specs.Plans.{Plan, partyCount, dealerCount}
+use Rattle.plan.specs.File.{nAt, tAt, pAt, gateCountAt, outCountAt, between, gateAt, outAt, gateKept, outKept, layoutOk, planChecks, planCheck, planOf, headerOf, readPlan}
+use Rattle.plan.specs.Planned.{Planned, ReadAs}
+use Rattle.plan.proofs.Refusals.{passed-both, passed-need, passed-found}
+use Rattle.plan.proofs.Ways.{check-of-passed, check-of-refused, header-of-passed}
+
+-- ---- the checks of a plan that passes
+pub record Passing (bs : List ℕ) : Type 0 where
+  pub parties : between 1 15 (nAt bs) ≡ true
+  pub threshold : ltb (2 * tAt bs) (nAt bs) ≡ true
+  pub modulus : (isPrime (pAt bs) && ltb (nAt bs) (pAt bs)) ≡ true
+  pub layout : layoutOk bs ≡ true
+  pub gates : firstFailing (gateKept bs) (gateCountAt bs) ≡ Nothing
+  pub outs : firstFailing (outKept bs) (outCountAt bs) ≡ Nothing
+
+pub passing : (bs : List ℕ) → planCheck bs ≡ Passed → Passing bs
+unfolding planCheck planChecks firstOf
+passing bs h =
+    let a = passed-both _ _ h in
+    let b = passed-both _ _ (a .1) in
+    let c = passed-both _ _ (b .1) in
+    let d = passed-both _ _ (c .1) in
+    let e = passed-both _ _ (d .1) in
+    let f = passed-both _ _ (e .1) in
+    let g = passed-both _ _ (f .1) in
+    let o = passed-both _ _ (g .1) in
+    record {
+      parties = passed-need refusal.Parties _ (c .0);
+      threshold = passed-need refusal.Threshold _ (d .0);
+      modulus = passed-need refusal.Modulus _ (e .0);
+      layout = passed-need refusal.Layout _ (f .0);
+      gates = passed-found refusal.GateRule _ (g .0);
+      outs = passed-found refusal.OutputRule _ (o .0);
+    }
+
+-- ---- its bounds
+pub both-true : (a b : Bool) → (a && b) ≡ true → (a ≡ true) × (b ≡ true)
+both-true true b h = (refl, h)
+both-true false b h = let z : _≡_ {A = ℕ} 0 1 = cc in absurd (omega arith)
+
+pub between-true : (a b x : ℕ) → between a b x ≡ true → (a ≤ x) × (x ≤ b)
+unfolding between
+between-true a b x h = let t = both-true (leb a x) (leb x b) h in (leb-true a x (t .0), leb-true x b (t .1))
+
+pub record Laid (bs : List ℕ) : Type 0 where
+  pub gates : between 1 1024 (gateCountAt bs) ≡ true
+  pub outs : between 1 64 (outCountAt bs) ≡ true
+  pub long : length bs ≡ 18 + 6 * gateCountAt bs + 3 * outCountAt bs
+
+pub laid : (bs : List ℕ) → layoutOk bs ≡ true → Laid bs
+unfolding layoutOk
+laid bs h =
+    let a = both-true (eqb (getD bs 7 0) 0) _ h in
+    let b = both-true (eqb (wordAt bs 10) 18) _ (a .1) in
+    let c = both-true (between 1 1024 (gateCountAt bs)) _ (b .1) in
+    let d = both-true (eqb (wordAt bs 14) (18 + 6 * gateCountAt bs)) _ (c .1) in
+    let e = both-true (between 1 64 (outCountAt bs)) _ (d .1) in
+    record { gates = c .0; outs = e .0; long = eqb-true (length bs) (18 + 6 * gateCountAt bs + 3 * outCountAt bs) (e .1) }
+
+pub planned : (bs : List ℕ) → pAt bs < 65536 → planCheck bs ≡ Passed → Planned bs (headerOf bs)
+unfolding headerOf
+planned bs small h =
+    let q : Passing bs = passing bs h in
+    let l : Laid bs = laid bs (q .layout) in
+    let n = between-true 1 15 (nAt bs) (q .parties) in
+    let g = between-true 1 1024 (gateCountAt bs) (l .gates) in
+    let o = between-true 1 64 (outCountAt bs) (l .outs) in
+    record {
+      passes = h;
+      is = refl;
+      n-low = n .0;
+      n-high = n .1;
+      majority = ltb-true (2 * tAt bs) (nAt bs) (q .threshold);
+      p-low = ltb-true (nAt bs) (pAt bs) (both-true (isPrime (pAt bs)) (ltb (nAt bs) (pAt bs)) (q .modulus) .1);
+      p-high = small;
+      gates-low = g .0;
+      gates-high = g .1;
+      outs-low = o .0;
+      outs-high = o .1;
+      long = l .long;
+    }
+
+-- what a reading says
+pub planned-read : (bs : List ℕ) (r : Reading) (h : Header) → ReadAs bs r → r ≡ reading.Passed h → Planned bs h
+planned-read bs r h a e =
+    rw (header-of-passed bs h (sym (a .eq) ∙ e)) (planned bs (a .small) (sym (check-of-passed bs r h (a .eq) e)))
+
+pub refused-read : (bs : List ℕ) (r : Reading) (q : Refusal) → ReadAs bs r → r ≡ reading.Refused q → planCheck bs ≡ Refused q
+refused-read bs r q a e = sym (check-of-refused bs r q (a .eq) e)
+
+-- ---- the plan by its contents
+module _ (bs : List ℕ) where
+  pub length-gates : length (planOf bs .gates) ≡ gateCountAt bs
+  unfolding planOf
+  length-gates = length-tab (gateAt bs) (gateCountAt bs)
+
+  pub length-outs : length (planOf bs .outs) ≡ outCountAt bs
+  unfolding planOf
+  length-outs = length-tab (outAt bs) (outCountAt bs)
+
+module _ {bs : List ℕ} {h : Header} (k : Planned bs h) where
+  pub plan-t : planOf bs .t ≡ h .t
+  unfolding planOf headerOf
+  plan-t = sym (ap (λ (x : Header). x .t) (k .is))
+
+  pub plan-p : planOf bs .p ≡ h .field .p
+  unfolding planOf headerOf
+  plan-p = sym (ap (λ (x : Header). x .field .p) (k .is))
+
+  pub plan-points : planOf bs .points ≡ tab suc (h .n)
+  unfolding planOf headerOf
+  plan-points = ap (tab suc) (sym (ap (λ (x : Header). x .n) (k .is)))
+
+  pub plan-n : partyCount (planOf bs) ≡ h .n
+  unfolding partyCount
+  plan-n = ap length plan-points ∙ length-tab suc (h .n)
+
+  pub plan-dealers : dealerCount (planOf bs) ≡ h .t + h .t + 1
+  unfolding dealerCount
+  plan-dealers = rw plan-t
+
+  pub plan-gates : length (planOf bs .gates) ≡ h .gates
+  unfolding headerOf
+  plan-gates = length-gates bs ∙ sym (ap (λ (x : Header). x .gates) (k .is))
+
+  pub plan-outs : length (planOf bs .outs) ≡ h .outs
+  unfolding headerOf
+  plan-outs = length-outs bs ∙ sym (ap (λ (x : Header). x .outs) (k .is))
+
+  pub plan-gate : (g : ℕ) → g < h .gates → getD (planOf bs .gates) g (Input 0) ≡ gateAt bs g
+  unfolding planOf
+  plan-gate g l =
+      let e : g < gateCountAt bs = rw (← length-gates bs, plan-gates) l in
+      getD-tab (gateAt bs) (gateCountAt bs) g (Input 0) e
+
+  pub plan-out : (o : ℕ) → o < h .outs → getD (planOf bs .outs) o (record { party = 0; wire = 0 }) ≡ outAt bs o
+  unfolding planOf
+  plan-out o l =
+      let e : o < outCountAt bs = rw (← length-outs bs, plan-outs) l in
+      getD-tab (outAt bs) (outCountAt bs) o (record { party = 0; wire = 0 }) e
