@@ -7,3 +7,4 @@ pub mod Coding
 pub mod Weighing
 pub mod Factors
 pub mod Rows
+pub mod Openings

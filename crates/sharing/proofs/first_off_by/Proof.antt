@@ -5,10 +5,10 @@ use Rattle.sharing.proofs.first_off_by.Statement.{statement}
 use Rattle.sharing.proofs.first_off_by.Tie as tie
 
 abbrev Inv-loop : tie.InvT-loop
-Inv-loop f t points rows shares k at₀ i₀ at i = Checked (f .p) t points shares at i
+Inv-loop f t points rows shares k at₀ party₀ at party = Checked (f .p) t points shares at party
 
 abbrev μ-loop : tie.MeasureT-loop
-μ-loop f t points rows shares k at₀ i₀ at i = length points - i
+μ-loop f t points rows shares k at₀ party₀ at party = length points - party
 
 add-k : tie.Need-add-k Inv-loop μ-loop
 add-k c = search checking
@@ -43,8 +43,8 @@ shared-slice-read-if1 c = search checking
 returns : tie.Need-returns Inv-loop μ-loop
 returns c = search checking
 
-add-i : tie.Need-add-i Inv-loop μ-loop
-add-i c = search checking
+add-party : tie.Need-add-party Inv-loop μ-loop
+add-party c = search checking
 
 loop-less : tie.Need-loop-less Inv-loop μ-loop
 loop-less c = search checking
@@ -72,7 +72,7 @@ first-off-by-spec =
     mul-if1
     shared-slice-read-if1
     returns
-    add-i
+    add-party
     loop-less
     loop-again
     returns-2)

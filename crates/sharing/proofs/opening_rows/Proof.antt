@@ -6,10 +6,10 @@ use Rattle.sharing.proofs.opening_rows.Statement.{statement}
 use Rattle.sharing.proofs.opening_rows.Tie as tie
 
 abbrev Inv-loop : tie.InvT-loop
-Inv-loop f t points rows₀ k at₀ i₀ rows at i = Written (openingRow (f .p) t points) (t + 1) (length points) rows₀ rows at i
+Inv-loop f t points rows₀ k at₀ party₀ rows at party = Written (openingRow (f .p) t points) (t + 1) (length points) rows₀ rows at party
 
 abbrev μ-loop : tie.MeasureT-loop
-μ-loop f t points rows₀ k at₀ i₀ rows at i = length points - i
+μ-loop f t points rows₀ k at₀ party₀ rows at party = length points - party
 
 add-k : tie.Need-add-k Inv-loop μ-loop
 add-k c = search writing
@@ -44,8 +44,8 @@ part-weights-end c = search writing
 weights-requires : tie.Need-weights-requires Inv-loop μ-loop
 weights-requires c κs = search writing
 
-add-i : tie.Need-add-i Inv-loop μ-loop
-add-i c = search writing
+add-party : tie.Need-add-party Inv-loop μ-loop
+add-party c = search writing
 
 loop-less : tie.Need-loop-less Inv-loop μ-loop
 loop-less c = search writing
@@ -76,7 +76,7 @@ opening-rows-spec =
     part-weights-start
     part-weights-end
     weights-requires
-    add-i
+    add-party
     loop-less
     loop-again
     same-length

@@ -3,10 +3,10 @@ use Rattle.sharing.proofs.vanishing.Statement.{statement}
 use Rattle.sharing.proofs.vanishing.Tie as tie
 
 abbrev Inv-loop : tie.InvT-loop
-Inv-loop f members out₀ i₀ out i = Grown (f .p) members out₀ out i
+Inv-loop f members out₀ left₀ out left = Grown (f .p) members out₀ out left
 
 abbrev μ-loop : tie.MeasureT-loop
-μ-loop f members out₀ i₀ out i = i
+μ-loop f members out₀ left₀ out left = left
 
 one-requires : tie.Need-one-requires Inv-loop μ-loop
 one-requires c κs = search growing
@@ -14,8 +14,8 @@ one-requires c κs = search growing
 loop-holds : tie.Need-loop-holds Inv-loop μ-loop
 loop-holds c = search growing
 
-sub-i : tie.Need-sub-i Inv-loop μ-loop
-sub-i c = search growing
+sub-left : tie.Need-sub-left Inv-loop μ-loop
+sub-left c = search growing
 
 mul-inverse : tie.Need-mul-inverse Inv-loop μ-loop
 mul-inverse c = search growing
@@ -52,7 +52,7 @@ vanishing-spec =
     μ-loop
     one-requires
     loop-holds
-    sub-i
+    sub-left
     mul-inverse
     shared-slice-read-inverse
     inverse-requires
