@@ -1,3 +1,8 @@
+pub mod Tables
+pub mod Wires
+pub mod Sound
+pub mod Openings
+pub mod Below
 pub mod Lists
 pub mod Blocks
 pub mod States
