@@ -171,7 +171,7 @@ pub record Checked (p t : ℕ) (points shares : List ℕ) (at i : ℕ) : Type 0 
 
 module _ (p t : ℕ) (points shares : List ℕ) where
   pub check-begin : Checked p t points shares 0 0
-  check-begin = record { place = omega arith; seek = record { within = omega arith; rest = begin (agrees p t points shares) (length points) } }
+  check-begin = record { place = omega arith; seek = begin (agrees p t points shares) (length points) }
 
   pub check-end : (at i : ℕ) → Checked p t points shares at i → length points ≤ i → Nothing ≡ firstOff p t points shares
   unfolding firstOff
@@ -218,7 +218,7 @@ module _ (p t : ℕ) (points shares : List ℕ) where
     pub check-on : (v : ℕ) → Is p (dot p (take (at + (t + 1) - at) (drop at rows)) shares) v → v ≡ getD shares i 0 → Checked p t points shares (at + (t + 1)) (i + 1)
     check-on v is on = record {
       place = omega (arith, h .place, next-at (t + 1) i);
-      seek = record { within = omega arith; rest = passed (agrees p t points shares) (length points) i (h .seek) l (rw (← value-is v is) (eq-eqb (getD shares i 0) v (sym on))) };
+      seek = passed (agrees p t points shares) (length points) i (h .seek) l (rw (← value-is v is) (eq-eqb (getD shares i 0) v (sym on)));
     }
 
 pub ruleset checking = (needs, check-begin, check-end, row-within, end-fits, start-fits, part-below, part-short, part-small, check-off, check-on)

@@ -1,0 +1,58 @@
+-- Laws of numbers that are written one after the other to a lent list.
+--     sent-none, sent-one, sent-more, sent-all      the list after each of them
+-- Assumes nothing.
+use mathlib.Core.Path.{_≡_, refl, sym, ap, _∙_}
+use mathlib.Core.Bool.{Bool, true, false, cond}
+use mathlib.Core.List.{List, [], _∷_, _++_, append-nil, append-assoc}
+use Prim.Native.Nat.{ℕ, zero, suc, _+_, _-_, _*_, _/_, _<_, _≤_}
+use native.Mathlib.Numerals.{add-one}
+use native.Mathlib.Omega.{arith}
+use borrow.Author.Needs.{needs}
+use lib.ListN.{length, getD, take, drop, set, length-append, drop-of-length-le}
+use lib.Seq.{sets, sets-eq}
+use Rattle.numbers.specs.Tables.{tab}
+use Rattle.numbers.specs.Bytes.{numbers, stored}
+use Rattle.numbers.proofs.Bytes.{numbers-length, length-stored, numbers-stored}
+use Rattle.party.specs.Sending.{Sent}
+
+-- ---- a list whose entries are set one after the other
+sets-append : (l : List ℕ) (at : ℕ) (vs ws : List ℕ) → sets l at (vs ++ ws) ≡ sets (sets l at vs) (at + length vs) ws
+sets-append l at [] ws = let e : at ≡ at + 0 = omega arith in ap (λ (n : ℕ). sets l n ws) e
+sets-append l at (v ∷ vs) ws =
+    let e : suc at + length vs ≡ at + suc (length vs) = omega arith in
+    sets-append (set l at v) (suc at) vs ws ∙ ap (λ (n : ℕ). sets (sets (set l at v) (suc at) vs) n ws) e
+
+sets-all : (l vs : List ℕ) → length vs ≡ length l → sets l 0 vs ≡ vs
+sets-all l vs e =
+    sets-eq vs l 0 (omega arith)
+    ∙ ap (λ (r : List ℕ). vs ++ r) (drop-of-length-le l {i = 0 + length vs} (omega arith))
+    ∙ append-nil vs
+
+-- ---- a lent list
+pub sent-none : (old : List ℕ) (at : ℕ) → Sent [] at old old at
+sent-none old at = record { long = refl; place = omega arith; is = refl }
+
+pub sent-one : (old new : List ℕ) (at v : ℕ) → new ≡ stored old at v → v < 65536 → Sent (v ∷ []) at old new (at + 1)
+sent-one old new at v e l = record {
+  long = ap length e ∙ length-stored old at v;
+  place = refl;
+  is = ap numbers e ∙ numbers-stored old at v l;
+}
+
+module _ (vs ws old mid new : List ℕ) (at middle next : ℕ) where
+  pub sent-more : Sent vs at old mid middle → Sent ws middle mid new next → Sent (vs ++ ws) at old new next
+  sent-more a b = record {
+    long = b .long ∙ a .long;
+    place = omega (arith, a .place, b .place, length-append vs ws);
+    is = b .is ∙ ap (λ (l : List ℕ). sets l middle ws) (a .is) ∙ ap (λ (n : ℕ). sets (sets (numbers old) at vs) n ws) (a .place) ∙ sym (sets-append (numbers old) at vs ws);
+  }
+
+pub sent-all : (vs old new : List ℕ) (next : ℕ) → Sent vs 0 old new next → length old ≡ 2 * length vs → numbers new ≡ vs
+sent-all vs old new next s e = s .is ∙ sets-all (numbers old) vs (omega (arith, numbers-length old))
+
+-- ---- a number that is written where a test holds
+pub sent-unless : (b : Bool) (v at : ℕ) (old : List ℕ) → b ≡ false → Sent (cond b (v ∷ []) []) at old old at
+sent-unless b v at old e = rw e (sent-none old at)
+
+pub sent-where : (b : Bool) (v at : ℕ) (old new : List ℕ) → b ≡ true → new ≡ stored old at v → v < 65536 → Sent (cond b (v ∷ []) []) at old new (at + 1)
+sent-where b v at old new e is l = rw e (sent-one old new at v is l)
