@@ -8,3 +8,5 @@ pub mod Blocks
 pub mod States
 pub mod Carried
 pub mod Counts
+pub mod WriteLaws
+pub mod ViewLaws

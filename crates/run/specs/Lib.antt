@@ -2,3 +2,5 @@ pub mod Rounds
 pub mod Ideal
 pub mod Shares
 pub mod BenchCalls
+pub mod Writing
+pub mod Flat
