@@ -1,17 +1,22 @@
 -- The table of shares as the code holds it: flat, a row for each wire, in it a share for each party.
-use Prim.Native.Nat.{ℕ, suc, _+_, _-_, _*_}
+use Prim.Native.Nat.{ℕ, suc, _+_, _-_, _*_, _<_, _≤_}
 use mathlib.Core.Path.{_≡_}
-use mathlib.Core.Bool.{true}
-use mathlib.Core.List.{List, [], map, flatMap}
+use mathlib.Core.Bool.{true, cond}
+use mathlib.Core.List.{List, [], _∷_, map, flatMap}
+use lib.Dec.{eqb, leb}
 use lib.ListN.{length, take, drop, getD}
 use Rattle.numbers.specs.Tables.{tab}
 use Rattle.numbers.specs.Bytes.{allBelow}
 use Rattle.field.specs.Mod.{mul}
+use Rattle.sharing.specs.Poly.{eval}
+use Rattle.sharing.specs.Sharing.{opened}
+use Rattle.sharing.specs.Ready.{Ready}
 use Rattle.plan.specs.declared.Gate.{Gate}
 use Rattle.plan.specs.declared.Gate.the-variants.{Input, Add, Scale, Offset, Multiply}
-use Rattle.sharing.specs.Sharing.{opened}
-use Rattle.plan.specs.Plans.{Plan, parties, dealerCount, inputWires, outWires}
-use Rattle.run.specs.Shares.{piecesAt, coinsBelow}
+use Rattle.plan.specs.declared.Header.{Header}
+use Rattle.plan.specs.Plans.{Plan, parties, isMultiply, wiresWhere, inputWires, outWires}
+use Rattle.party.specs.Sending.{coinsFrom}
+use Rattle.run.specs.Shares.{coinsBelow}
 
 -- party i's share of wire w, of n parties
 unfoldable pub shareIn : ℕ → List ℕ → ℕ → ℕ → ℕ
@@ -29,34 +34,55 @@ firstIn plan n table i = flatMap (λ j. map (shareIn n table i) (inputWires plan
 unfoldable pub outsIn : Plan → ℕ → List ℕ → ℕ → List ℕ
 outsIn plan n table i = flatMap (λ j. map (shareIn n table j) (outWires plan i)) (parties plan)
 
--- a wire's opening
-unfoldable pub openedIn : Plan → ℕ → List ℕ → ℕ → ℕ
-openedIn plan n table w = opened (plan .p) (plan .t) (plan .points) (rowIn n table w)
+-- wire w's opening, where p is the prime, t the threshold and 1 to n the points
+unfoldable pub openedIn : Header → List ℕ → ℕ → ℕ
+openedIn h table w = opened (h .field .p) (h .t) (tab suc (h .n)) (rowIn (h .n) table w)
 
--- what is dealt at a multiply: the dealers' products of their two shares
-unfoldable pub productsIn : Plan → ℕ → List ℕ → ℕ → ℕ → List ℕ
-productsIn plan n table a b = tab (λ d. mul (plan .p) (shareIn n table (suc d) a) (shareIn n table (suc d) b)) (dealerCount plan)
+-- the piece at x of dealer d's product of its shares of two wires, d counted from 0, when the dealings' coins begin at `from`
+unfoldable pub pieceIn : Header → List ℕ → ℕ → ℕ → List ℕ → ℕ → ℕ → ℕ → ℕ
+pieceIn h table a b cs from x d =
+    eval (h .field .p) (mul (h .field .p) (shareIn (h .n) table (d + 1) a) (shareIn (h .n) table (d + 1) b) ∷ coinsFrom (h .t) (from + h .t * d) cs) x
 
-unfoldable pub dealtIn : Plan → ℕ → List ℕ → Gate → List ℕ
-dealtIn plan n table (Input s) = []
-dealtIn plan n table (Add a b) = []
-dealtIn plan n table (Scale a c) = []
-dealtIn plan n table (Offset a c) = []
-dealtIn plan n table (Multiply a b) = productsIn plan n table a b
+-- the pieces at x of a multiply's dealings
+unfoldable pub piecesIn : Header → List ℕ → List ℕ → ℕ → ℕ → Gate → List ℕ
+piecesIn h table cs from x (Input s) = []
+piecesIn h table cs from x (Add a b) = []
+piecesIn h table cs from x (Scale a c) = []
+piecesIn h table cs from x (Offset a c) = []
+piecesIn h table cs from x (Multiply a b) = tab (pieceIn h table a b cs from x) (h .t + h .t + 1)
 
--- the pieces at x of the dealings at multiply gate g
-unfoldable pub piecesIn : Plan → ℕ → List ℕ → List ℕ → ℕ → ℕ → List ℕ
-piecesIn plan n table cs x g = piecesAt plan (dealtIn plan n table (getD (plan .gates) g (Input 0))) (drop (coinsBelow plan g) cs) x
+-- the mail of all multiplies' rounds at x
+unfoldable pub middleIn : Plan → Header → List ℕ → List ℕ → ℕ → List ℕ
+middleIn plan h table cs x =
+    flatMap (λ g. piecesIn h table cs (coinsBelow plan g) x (getD (plan .gates) g (Input 0))) (wiresWhere isMultiply plan)
 
--- how many deal at a gate
-unfoldable pub dealersIn : ℕ → Gate → ℕ
-dealersIn t (Input s) = 1
-dealersIn t (Add a b) = 0
-dealersIn t (Scale a c) = 0
-dealersIn t (Offset a c) = 0
-dealersIn t (Multiply a b) = t + t + 1
+-- the coins that a gate takes, t for each of its dealers
+unfoldable pub coinsIn : ℕ → Gate → ℕ
+coinsIn t (Input s) = t
+coinsIn t (Add a b) = 0
+coinsIn t (Scale a c) = 0
+coinsIn t (Offset a c) = 0
+coinsIn t (Multiply a b) = t * (t + t + 1)
+
+-- party i's coins at a gate whose coins begin at `from`
+unfoldable pub ownAt : ℕ → ℕ → List ℕ → ℕ → Gate → List ℕ
+ownAt t i cs from (Input s) = cond (eqb i s) (coinsFrom t from cs) []
+ownAt t i cs from (Add a b) = []
+ownAt t i cs from (Scale a c) = []
+ownAt t i cs from (Offset a c) = []
+ownAt t i cs from (Multiply a b) = cond (leb i (t + t + 1)) (coinsFrom t (from + t * (i - 1)) cs) []
 
 -- a flat table of elements of the field of p, for n parties and so many gates
 pub record Flat (p n gates : ℕ) (table : List ℕ) : Type 0 where
   pub long : length table ≡ n * gates
   pub below : allBelow p table ≡ true
+
+-- the field, the parties and the table of a run
+pub record Running (h : Header) (table : List ℕ) : Type 0 where
+  pub ready : Ready (h .field .p)
+  pub some : 1 ≤ h .n
+  pub few : h .n ≤ 15
+  pub threshold : 2 * h .t < h .n
+  pub points : h .n < h .field .p
+  pub gates : h .gates ≤ 1024
+  pub flat : Flat (h .field .p) (h .n) (h .gates) table

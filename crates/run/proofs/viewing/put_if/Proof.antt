@@ -5,11 +5,8 @@ use Rattle.run.proofs.viewing.put_if.Tie as tie
 returns : tie.Need-returns
 returns c = search putting
 
-write-requires : tie.Need-write-requires
-write-requires c κs = search putting
-
-add-result : tie.Need-add-result
-add-result c = search putting
+put-requires : tie.Need-put-requires
+put-requires c κs = search putting
 
 same-length : tie.Need-same-length
 same-length c = search putting
@@ -18,4 +15,4 @@ returns-2 : tie.Need-returns-2
 returns-2 c = search putting
 
 pub put-if-spec : {M : Type 1} → statement M
-put-if-spec = tie.close (tie.spec returns write-requires add-result same-length returns-2)
+put-if-spec = tie.close (tie.spec returns put-requires same-length returns-2)

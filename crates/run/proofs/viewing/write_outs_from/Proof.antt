@@ -17,7 +17,7 @@ out-at-requires : tie.Need-out-at-requires Inv-loop μ-loop
 out-at-requires c κs = search outing
 
 put-out-requires : tie.Need-put-out-requires Inv-loop μ-loop
-put-out-requires c κs = (search outing, (search outing, (search outing, (search outing, search outing))))
+put-out-requires c κs = search outing
 
 add-k : tie.Need-add-k Inv-loop μ-loop
 add-k c = search outing
