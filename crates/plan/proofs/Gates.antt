@@ -1,8 +1,7 @@
 -- What each way through the code says of a gate or an out.
 --     reading     what closes the needs of the functions that read them
 -- Assumes nothing.
-use mathlib.Core.Path.{_≡_, refl, sym, ap, _∙_}
-use mathlib.Core.Bool.{Bool, true, false}
+use mathlib.Core.Path.{_≡_, sym}
 use mathlib.Core.List.{List}
 use Prim.Native.Nat.{ℕ, _+_, _*_, _/_, _<_, _≤_}
 use native.Mathlib.Omega.{arith}
@@ -12,7 +11,6 @@ use lib.ListN.{length, getD, List·getD-eq-default}
 use Rattle.numbers.specs.Bytes.{wordAt}
 use Rattle.plan.specs.declared.Gate.{Gate}
 use Rattle.plan.specs.declared.Gate.the-variants.{Input, Add, Scale, Offset, Multiply}
-use Rattle.plan.specs.declared.Output.{Output}
 use Rattle.plan.specs.File.{gateOf, gateAt, outAt}
 
 -- ---- bytes

@@ -5,33 +5,30 @@
 -- Assumes nothing.
 use mathlib.Core.Path.{_≡_, refl, sym, ap, _∙_}
 use mathlib.Core.Bool.{Bool, true, false, _&&_}
-use mathlib.Core.List.{List, [], _∷_}
+use mathlib.Core.List.{List}
 use Prim.Native.Nat.{ℕ, suc, _+_, _*_, _<_, _≤_}
 use native.Mathlib.Omega.{arith}
 use borrow.Author.Tests.{ltb-true, leb-true, eqb-true}
 use lib.Dec.{eqb, leb, ltb}
-use lib.ListN.{length, getD, take}
+use lib.ListN.{length, getD}
 use Rattle.numbers.specs.Tables.{tab, firstFailing}
 use Rattle.numbers.specs.Bytes.{wordAt}
 use Rattle.numbers.specs.declared.Found.the-variants.{Nothing}
 use Rattle.numbers.proofs.Tables.{length-tab, getD-tab}
 use Rattle.field.specs.Prime.{isPrime}
-use Rattle.plan.specs.declared.Gate.{Gate}
 use Rattle.plan.specs.declared.Gate.the-variants.{Input}
-use Rattle.plan.specs.declared.Output.{Output}
 use Rattle.plan.specs.declared.Header.{Header}
 use Rattle.plan.specs.declared.Reading.{Reading}
 use Rattle.plan.specs.declared.Reading.the-variants as reading
 use Rattle.plan.specs.declared.Refusal.{Refusal}
 use Rattle.plan.specs.declared.Refusal.the-variants as refusal
-use Rattle.plan.specs.declared.Checked.{Checked}
 use Rattle.plan.specs.declared.Checked.the-variants.{Passed, Refused}
-use Rattle.plan.specs.Refusals.{firstOf, need, unlessFound}
-use Rattle.plan.specs.Plans.{Plan, partyCount, dealerCount}
-use Rattle.plan.specs.File.{nAt, tAt, pAt, gateCountAt, outCountAt, between, gateAt, outAt, gateKept, outKept, layoutOk, planChecks, planCheck, planOf, headerOf, readPlan}
+use Rattle.plan.specs.Refusals.{firstOf}
+use Rattle.plan.specs.Plans.{partyCount, dealerCount}
+use Rattle.plan.specs.File.{nAt, tAt, pAt, gateCountAt, outCountAt, between, gateAt, outAt, gateKept, outKept, layoutOk, planChecks, planCheck, planOf, headerOf}
 use Rattle.plan.specs.Planned.{Planned, ReadAs}
 use Rattle.plan.proofs.Refusals.{passed-both, passed-need, passed-found}
-use Rattle.plan.proofs.Ways.{check-of-passed, check-of-refused, header-of-passed}
+use Rattle.plan.proofs.Ways.{check-of-passed, check-of-refused, header-of-passed, read-outcome}
 
 -- ---- the checks of a plan that passes
 pub record Passing (bs : List ℕ) : Type 0 where
@@ -116,6 +113,9 @@ planned-read bs r h a e =
 
 pub refused-read : (bs : List ℕ) (r : Reading) (q : Refusal) → ReadAs bs r → r ≡ reading.Refused q → planCheck bs ≡ Refused q
 refused-read bs r q a e = sym (check-of-refused bs r q (a .eq) e)
+
+-- what a caller of `read` goes on with
+pub ruleset planning = (planned-read, refused-read, read-outcome)
 
 -- ---- the plan by its contents
 module _ (bs : List ℕ) where

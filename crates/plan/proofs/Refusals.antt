@@ -4,7 +4,7 @@
 --     found-at, found-nothing              a check by a search
 --     passed-both, passed-need, passed-found     what a list of checks that passes says
 -- Assumes nothing.
-use mathlib.Core.Path.{_≡_, refl, sym, ap, _∙_}
+use mathlib.Core.Path.{_≡_, refl, sym}
 use mathlib.Core.Bool.{Bool, true, false}
 use mathlib.Core.List.{List, [], _∷_, _++_}
 use Prim.Native.Nat.{ℕ}

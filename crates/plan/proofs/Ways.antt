@@ -1,10 +1,10 @@
 -- What each way through the reader says of its definition.
---     rules, seeking, beginning, laying, contents, body     what closes the needs of the functions that check a plan
+--     rules, seeking, beginning, laying, contents, body, reads     what closes the needs of the functions that read a plan
 -- Assumes nothing.
 use mathlib.Core.Path.{_≡_, refl, sym, ap, _∙_}
 use mathlib.Core.Bool.{Bool, true, false, cond, _&&_}
 use mathlib.Core.List.{List, [], _∷_}
-use Prim.Native.Nat.{ℕ, suc, _+_, _-_, _*_, _<_, _≤_}
+use Prim.Native.Nat.{ℕ, _+_, _-_, _*_, _<_, _≤_}
 use native.Mathlib.Omega.{arith}
 use borrow.Author.Needs.{needs}
 use borrow.Author.Tests.{not-true, not-false, lt-ltb, le-ltb, le-leb, lt-leb, eq-eqb, ne-eqb}
@@ -12,7 +12,7 @@ use mir.Syntax.{w8}
 use mir.Val.{Fits}
 use lib.Dec.{eqb, leb, ltb}
 use lib.ListN.{length, getD, take, drop, take-append-drop}
-use Rattle.numbers.specs.Tables.{firstFrom, firstFailing}
+use Rattle.numbers.specs.Tables.{firstFailing}
 use Rattle.numbers.specs.Bytes.{wordAt}
 use Rattle.numbers.specs.declared.Found.{Found}
 use Rattle.numbers.specs.declared.Found.the-variants.{At, Nothing}
@@ -34,7 +34,8 @@ use Rattle.plan.specs.declared.Refusal.{Refusal}
 use Rattle.plan.specs.declared.Refusal.the-variants as refusal
 use Rattle.plan.specs.Refusals.{firstOf, andThen, need, unlessFound}
 use Rattle.plan.proofs.Refusals.{andThen-passed, andThen-refused, firstOf-append}
-use Rattle.plan.specs.File.{magic, sameBytes, between, gateAt, outAt, gateOk, outOk, gateKept, outKept, layoutOk, planChecks, planCheck, headerOf, readingOf, readPlan}
+use Rattle.plan.specs.File.{magic, sameBytes, between, gateAt, outAt, gateOk, outOk, gateKept, outKept, layoutOk, planChecks, planCheck, headerOf, readingOf, outcomeOf, readPlan}
+use Rattle.plan.specs.Planned.{ReadAs}
 
 -- ---- small tests
 pub between-under : (a b x : ℕ) → x < a → false ≡ between a b x
@@ -332,8 +333,26 @@ pub check-of-refused : (s : List ℕ) (r : Reading) (q : Refusal) → r ≡ read
 unfolding readPlan
 check-of-refused s r q e f = sym (of-refused (planCheck s) (headerOf s) q (sym e ∙ f))
 
+pub outcome-passed : (r : Reading) (h : Header) → r ≡ reading.Passed h → Passed ≡ outcomeOf r
+unfolding outcomeOf
+outcome-passed r h e = rw e
+
+pub outcome-refused : (r : Reading) (q : Refusal) → r ≡ reading.Refused q → Refused q ≡ outcomeOf r
+unfolding outcomeOf
+outcome-refused r q e = rw e
+
+of-outcome : (c : Checked) (h : Header) → outcomeOf (readingOf c h) ≡ c
+unfolding outcomeOf readingOf
+of-outcome Passed h = refl
+of-outcome (Refused r) h = refl
+
+-- a reading's outcome is the plan's check
+pub read-outcome : (s : List ℕ) (r : Reading) (c : Checked) → ReadAs s r → c ≡ outcomeOf r → c ≡ planCheck s
+unfolding readPlan
+read-outcome s r c a e = e ∙ ap outcomeOf (a .eq) ∙ of-outcome (planCheck s) (headerOf s)
+
 pub header-of-passed : (s : List ℕ) (h : Header) → readPlan s ≡ reading.Passed h → h ≡ headerOf s
 unfolding readPlan
 header-of-passed s h e = of-passed (planCheck s) (headerOf s) h e .1
 
-pub ruleset reads = (needs, reading-passed, reading-refused, reading-no-field, reading-low-prime, reading-on, read-contents, read-further, check-of-passed, check-of-refused)
+pub ruleset reads = (needs, reading-passed, reading-refused, reading-no-field, reading-low-prime, reading-on, read-contents, read-further, outcome-passed, outcome-refused, read-outcome)

@@ -1,6 +1,5 @@
 -- The plan file (document 01): its checks, 1 to 8, and the plan that it stands for.
-use Prim.Native.Nat.{ℕ, zero, suc, _+_, _*_}
-use mathlib.Core.Path.{_≡_}
+use Prim.Native.Nat.{ℕ, suc, _+_, _*_}
 use mathlib.Core.Bool.{Bool, true, false, cond, _&&_}
 use mathlib.Core.List.{List, [], _∷_}
 use lib.Dec.{eqb, leb, ltb}
@@ -139,3 +138,8 @@ readingOf (Refused r) h = reading.Refused r
 -- what reading a plan answers
 unfoldable pub readPlan : List ℕ → Reading
 readPlan bs = readingOf (planCheck bs) (headerOf bs)
+
+-- what a reading answers as a check
+unfoldable pub outcomeOf : Reading → Checked
+outcomeOf (reading.Passed h) = Passed
+outcomeOf (reading.Refused r) = Refused r

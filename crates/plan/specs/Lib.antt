@@ -3,3 +3,4 @@ pub mod Plans
 pub mod File
 pub mod Coalitions
 pub mod Planned
+pub mod Counts

@@ -1,0 +1,106 @@
+-- Sums worked by hand in document 01, as far as they concern a plan: P6, P7, and the plans of P8 to P10.
+-- Each table is computed. Of two faults at once the earlier refusal wins.
+-- Assumes nothing.
+use Prim.Native.Nat.{ℕ, _/_, _%_}
+use mathlib.Core.Path.{_≡_, refl}
+use mathlib.Core.Bool.{true, false}
+use mathlib.Core.List.{List, [], _∷_, _++_, map, flatMap}
+use Rattle.numbers.specs.Tables.{tab, firstFrom, firstFailing, countWhere}
+use Rattle.numbers.specs.Bytes.{wordAt}
+use Rattle.field.specs.Prime.{divisorFrom, divisorOf, isPrime}
+use Rattle.plan.specs.declared.Checked.{Checked}
+use Rattle.plan.specs.declared.Checked.the-variants.{Passed, Refused}
+use Rattle.plan.specs.declared.Refusal.the-variants as refusal
+use Rattle.plan.specs.Refusals.{firstOf, andThen, need, unlessFound}
+use Rattle.plan.specs.Plans.{partyCount, dealerCount, isInput, isInputOf, isMultiply, dealersOf, dealings, wiresFrom, wiresWhere, multiplies, multiplyWire, outWiresOf, outWires, inputCount, ownInputCount, coinCount, ownOutCount, mailCount, writtenCount, sentCount}
+use Rattle.plan.specs.File.{magic, sameBytes, between, gateOf, gateAt, outAt, gateOk, outOk, gateKept, outKept, layoutOk, planChecks, planCheck, planOf}
+use Rattle.plan.specs.Coalitions.{inSet, membersFrom, members, setOk}
+
+-- the contents of a plan of four gates and one out, with its version, n, t, byte 7 and p
+contents : ℕ → ℕ → ℕ → ℕ → ℕ → List ℕ
+contents version n t seven p =
+    80 ∷ 79 ∷ 79 ∷ 76 ∷ version ∷ n ∷ t ∷ seven ∷ p % 256 ∷ p / 256 ∷ 18 ∷ 0 ∷ 4 ∷ 0 ∷ 42 ∷ 0 ∷ 1 ∷ 0 ∷ []
+
+input1 : List ℕ
+input1 = 1 ∷ 0 ∷ 1 ∷ 0 ∷ 0 ∷ 0 ∷ []
+
+input2 : List ℕ
+input2 = 1 ∷ 0 ∷ 2 ∷ 0 ∷ 0 ∷ 0 ∷ []
+
+multiply : List ℕ
+multiply = 5 ∷ 0 ∷ 0 ∷ 0 ∷ 1 ∷ 0 ∷ []
+
+add : List ℕ
+add = 2 ∷ 0 ∷ 2 ∷ 0 ∷ 0 ∷ 0 ∷ []
+
+out : List ℕ
+out = 3 ∷ 3 ∷ 0 ∷ []
+
+-- K's gates and out
+body : List ℕ
+body = input1 ++ (input2 ++ (multiply ++ (add ++ out)))
+
+-- plan K with another version, n, t, byte 7 or p
+plan : ℕ → ℕ → ℕ → ℕ → ℕ → List ℕ
+plan version n t seven p = contents version n t seven p ++ body
+
+pub k : List ℕ
+k = plan 1 3 1 0 11
+
+-- P9: n=1, t=0, p=2, one input and its out
+single : List ℕ
+single = 80 ∷ 79 ∷ 79 ∷ 76 ∷ 1 ∷ 1 ∷ 0 ∷ 0 ∷ 2 ∷ 0 ∷ 18 ∷ 0 ∷ 1 ∷ 0 ∷ 24 ∷ 0 ∷ 1 ∷ 0 ∷ 1 ∷ 0 ∷ 1 ∷ 0 ∷ 0 ∷ 0 ∷ 1 ∷ 0 ∷ 0 ∷ []
+
+pub record Row : Type 0 where
+  pub bytes : List ℕ
+  pub answer : Checked
+
+row : List ℕ → Checked → Row
+row bytes answer = record { bytes = bytes; answer = answer }
+
+-- P6 to P10
+pub worked : List Row
+worked =
+    row k Passed
+    ∷ row single Passed
+    ∷ row (plan 1 2 1 0 11) (Refused refusal.Threshold)
+    ∷ row (plan 1 15 7 0 17) Passed
+    ∷ row (plan 1 3 1 0 3) (Refused refusal.Modulus)
+    ∷ row (plan 1 3 1 0 9) (Refused refusal.Modulus)
+    ∷ row (plan 1 3 1 0 65521) Passed
+    ∷ row (plan 1 3 1 0 65535) (Refused refusal.Modulus)
+    ∷ []
+
+-- two faults at once
+pub faults : List Row
+faults =
+    row (1 ∷ 1 ∷ []) (Refused refusal.Magic)
+    ∷ row (80 ∷ plan 2 3 1 0 11) (Refused refusal.Magic)
+    ∷ row (plan 2 16 1 0 11) (Refused refusal.Version)
+    ∷ row (plan 1 0 1 0 11) (Refused refusal.Parties)
+    ∷ row (plan 1 2 1 0 9) (Refused refusal.Threshold)
+    ∷ row (plan 1 3 1 1 9) (Refused refusal.Modulus)
+    ∷ row (contents 1 3 1 1 11 ++ (add ++ (input2 ++ (multiply ++ (add ++ out))))) (Refused refusal.Layout)
+    ∷ row (contents 1 3 1 0 11 ++ (add ++ (add ++ (multiply ++ (add ++ out))))) (Refused (refusal.GateRule 0))
+    ∷ row (contents 1 3 1 0 11 ++ (input1 ++ (multiply ++ (multiply ++ (add ++ (0 ∷ 3 ∷ 0 ∷ [])))))) (Refused (refusal.GateRule 1))
+    ∷ row (contents 1 3 1 0 11 ++ (input1 ++ (input2 ++ (multiply ++ (add ++ (4 ∷ 4 ∷ 0 ∷ [])))))) (Refused (refusal.OutputRule 0))
+    ∷ []
+
+pub plans-worked : map (λ r. planCheck (r .bytes)) (worked ++ faults) ≡ map (λ r. r .answer) (worked ++ faults)
+unfolding contents input1 input2 multiply add out body plan k single row worked faults planCheck firstOf andThen planChecks need unlessFound firstFailing firstFrom magic sameBytes between gateOf gateAt outAt gateOk outOk gateKept outKept layoutOk wordAt isPrime divisorOf divisorFrom
+plans-worked = refl
+
+-- P10: of the sets {}, {1}, {1, 2}, {3}, {1, 2, 3} and {4}, plan K admits those of one of its parties, and none
+pub sets-worked : map (setOk (planOf k)) (0 ∷ 1 ∷ 3 ∷ 4 ∷ 7 ∷ 8 ∷ []) ≡ true ∷ true ∷ false ∷ true ∷ false ∷ false ∷ []
+unfolding contents input1 input2 multiply add out body plan k planOf tab partyCount gateOf gateAt outAt wordAt setOk members membersFrom inSet
+sets-worked = refl
+
+-- K's inputs, multiplies, dealings (by their dealers), coins, multiply wire and elements sent; parties' own inputs, coins and outs
+pub counts-worked : inputCount (planOf k) ∷ multiplies (planOf k) ∷ coinCount (planOf k) ∷ multiplyWire (planOf k) 0 ∷ sentCount (planOf k) ∷ dealings (planOf k) ≡ 2 ∷ 1 ∷ 5 ∷ 2 ∷ 18 ∷ 1 ∷ 2 ∷ 1 ∷ 2 ∷ 3 ∷ []
+unfolding contents input1 input2 multiply add out body plan k planOf tab countWhere partyCount gateOf gateAt outAt wordAt dealerCount isInput isMultiply dealersOf dealings flatMap wiresFrom wiresWhere multiplies multiplyWire inputCount coinCount sentCount
+counts-worked = refl
+
+-- what party 3 of K takes and writes in its calls 0 to 3
+pub rounds-worked : (map (mailCount (planOf k) 3) (0 ∷ 1 ∷ 2 ∷ 3 ∷ []) ≡ 0 ∷ 2 ∷ 3 ∷ 3 ∷ []) × (map (writtenCount (planOf k) 3) (0 ∷ 1 ∷ 2 ∷ 3 ∷ []) ≡ 0 ∷ 3 ∷ 1 ∷ 1 ∷ [])
+unfolding contents input1 input2 multiply add out body plan k planOf tab countWhere partyCount gateOf gateAt outAt wordAt dealerCount isInput isInputOf isMultiply outWiresOf outWires multiplies inputCount ownInputCount ownOutCount mailCount writtenCount
+rounds-worked = (refl, refl)
