@@ -1,3 +1,3 @@
 pub mod PointLaws
-pub mod SendLaws
-pub mod DealLaws
+pub mod LearnLaws
+pub mod CheckLaws

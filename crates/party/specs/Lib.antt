@@ -1,3 +1,4 @@
 pub mod Messages
 pub mod Calls
-pub mod Sending
+pub mod Lent
+pub mod Parts
