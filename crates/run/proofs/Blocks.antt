@@ -3,17 +3,16 @@
 --     own-coins-input, own-coins-product                   a party's coins at a gate where it deals
 --     own-inputs                                           a party's inputs, by their wires
 -- Assumes nothing.
-use mathlib.Core.Path.{_≡_, refl, sym, ap, ap₂, subst, _∙_}
+use mathlib.Core.Path.{_≡_, refl, sym, ap, ap₂, _∙_}
 use mathlib.Core.Bool.{Bool, true, false, cond}
 use mathlib.Core.List.{List, [], _∷_, _++_, map, flatMap, append-assoc, append-nil}
 use Prim.Native.Nat.{ℕ, zero, suc, _+_, _-_, _*_, _<_, _≤_}
 use native.Mathlib.Nat.{mul-zero, mul-suc, mul-add}
-use native.Mathlib.Numerals.{add-one}
 use native.Mathlib.Omega.{arith}
-use borrow.Author.Tests.{eqb-true, eqb-false, eq-eqb, ne-eqb, le-leb, lt-leb, leb-true, leb-false}
+use borrow.Author.Tests.{eq-eqb, ne-eqb, leb-true, leb-false}
 use lib.Dec.{eqb, leb}
-use lib.ListN.{length, getD, take, drop, length-append, length-take, length-drop, length-replicate}
-use lib.Seq.{drop-drop, take-at, drop-at, split-at, getD-drop, take-take, take-append-le, length-take-le}
+use lib.ListN.{length, getD, take, drop, length-append, length-drop}
+use lib.Seq.{drop-drop, take-at, drop-at, split-at, getD-drop, length-take-le}
 use Rattle.numbers.specs.Tables.{tab, countWhere}
 use Rattle.numbers.proofs.Tables.{tab-append, tab-cons, length-tab}
 use Rattle.numbers.proofs.Counts.{countWhere-append}
@@ -57,10 +56,10 @@ module _ (t i : ℕ) where
   ownBlocks-none [] cs a = refl
   ownBlocks-none (d ∷ ds) cs a = rw (ne-eqb i d (a .0)) (ownBlocks-none ds (drop t cs) (a .1))
 
-  pub count-none : (ds : List ℕ) → All (λ d. i ≡ d → ⊥) ds → countWhere (eqb i) ds ≡ 0
-  unfolding countWhere
-  count-none [] a = refl
-  count-none (d ∷ ds) a = rw (ne-eqb i d (a .0)) (count-none ds (a .1))
+pub count-none : (i : ℕ) (ds : List ℕ) → All (λ d. i ≡ d → ⊥) ds → countWhere (eqb i) ds ≡ 0
+unfolding countWhere
+count-none i [] a = refl
+count-none i (d ∷ ds) a = rw (ne-eqb i d (a .0)) (count-none i ds (a .1))
 
 -- ---- the dealers 1 to n: those before suc j, suc j, those after
 dealers-split : (j n : ℕ) → j < n → tab suc n ≡ tab suc j ++ (suc j ∷ tab (λ k. suc (j + suc k)) (n - suc j))
@@ -95,12 +94,12 @@ count-own i ds = rw (eq-eqb i i refl)
 
 count-in : (j n : ℕ) → j < n → countWhere (eqb (suc j)) (tab suc n) ≡ 1
 count-in j n l =
-    rw (dealers-split j n l, countWhere-append (eqb (suc j)) (tab suc j) (suc j ∷ tab (λ k. suc (j + suc k)) (n - suc j)), count-none 0 (suc j) (tab suc j) (before-own j), count-own (suc j) (tab (λ k. suc (j + suc k)) (n - suc j)), count-none 0 (suc j) (tab (λ k. suc (j + suc k)) (n - suc j)) (after-own j (n - suc j)))
+    rw (dealers-split j n l, countWhere-append (eqb (suc j)) (tab suc j) (suc j ∷ tab (λ k. suc (j + suc k)) (n - suc j)), count-none (suc j) (tab suc j) (before-own j), count-own (suc j) (tab (λ k. suc (j + suc k)) (n - suc j)), count-none (suc j) (tab (λ k. suc (j + suc k)) (n - suc j)) (after-own j (n - suc j)))
 
 by-dealer : (i n : ℕ) → 1 ≤ i → (b : Bool) → leb i n ≡ b → countWhere (eqb i) (tab suc n) ≡ cond b 1 0
 by-dealer zero n l b e = absurd (omega arith)
 by-dealer (suc j) n l true e = count-in j n (leb-true (suc j) n e)
-by-dealer (suc j) n l false e = let m : n < suc j = leb-false (suc j) n e in count-none 0 (suc j) (tab suc n) (all-tab (λ d. suc j ≡ d → ⊥) suc n (λ k h. omega arith))
+by-dealer (suc j) n l false e = let m : n < suc j = leb-false (suc j) n e in count-none (suc j) (tab suc n) (all-tab (λ d. suc j ≡ d → ⊥) suc n (λ k h. omega arith))
 
 -- every dealer from 1 to n deals once
 pub count-dealers : (i n : ℕ) → 1 ≤ i → countWhere (eqb i) (tab suc n) ≡ cond (leb i n) 1 0

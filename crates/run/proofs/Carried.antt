@@ -4,20 +4,19 @@
 --     results-table, mails-table, view-table    a party's results, mail and view
 -- Assumes nothing.
 use mathlib.Core.Path.{_≡_, refl, sym, ap, ap₂, subst, _∙_}
-use mathlib.Core.Logic.{_⊎_, inl, inr}
-use mathlib.Core.Bool.{Bool, true, false, cond, _&&_}
+use mathlib.Core.Bool.{true}
 use mathlib.Core.List.{List, [], _∷_, _++_, map, flatMap, append-nil, map-map, List·Memᴰ}
 use Prim.Native.Nat.{ℕ, zero, suc, _+_, _-_, _*_, _<_, _≤_}
 use native.Mathlib.Nat.{mul-zero, mul-suc}
-use native.Mathlib.Numerals.{add-one, add-two}
+use native.Mathlib.Numerals.{add-one}
 use native.Mathlib.Omega.{arith}
 use borrow.Author.Tests.{ltb-true, lt-ltb, le-ltb, leb-true, le-leb, lt-leb, eqb-true, eq-eqb}
 use lib.Dec.{eqb, leb, ltb}
 use lib.ListN.{length, getD, take, drop, set, replicate}
 use lib.Seq.{drop-drop, getD-take, length-take-le}
-use Rattle.numbers.specs.Tables.{tab, countWhere}
+use Rattle.numbers.specs.Tables.{tab}
 use Rattle.numbers.proofs.Tables.{tab-ext, tab-map, tab-append, tab-cons, tab-snoc, length-tab, getD-tab, list-tab}
-use Rattle.field.specs.Mod.{add, mul}
+use Rattle.field.specs.Mod.{mul}
 use Rattle.sharing.specs.Poly.{eval}
 use Rattle.sharing.specs.Interp.{All, weights, dot}
 use Rattle.sharing.specs.Sharing.{opened}
@@ -27,12 +26,12 @@ use Rattle.plan.specs.declared.Output.{Output}
 use Rattle.plan.specs.Plans.{Plan, partyCount, parties, pointOf, dealerCount, dealerPoints, isInput, isInputOf, isMultiply, wiresFrom, wiresWhere, multiplies, multiplyWire, inputWires, outWiresOf, outWires, ownOutCount, coinCount, ownInputs, ownCoins, coinsAt}
 use Rattle.plan.specs.File.{between, gateOk, outOk}
 use Rattle.plan.proofs.Valid.{Valid}
-use Rattle.party.specs.Messages.{Called, callWith, call, setAll, wiresByParty, reduced, workFrom, learn, dealTo, nothing, inputPolys, sendInputs, productAt, sendProduct, sendOuts, send, sharesOfOut, resultsOf}
+use Rattle.party.specs.Messages.{Called, callWith, call, setAll, wiresByParty, reduced, learn, dealTo, nothing, inputPolys, sendInputs, productAt, sendProduct, sendOuts, send, sharesOfOut, resultsOf}
 use Rattle.run.specs.Rounds.{fresh, noCall, callOf, mailTo, round, results, mails, viewOf, view}
 use Rattle.run.specs.Shares.{wireAt, dealtAt, sharings, piecesAt, gateShare, shareTable, coinsBelow, pieces, tableMails, tableResults, tableViewOf}
-use Rattle.run.proofs.Lists.{map-all, flatMap-all, flatMap-tabs, flatMap-nil, flatMap-single, flatMap-append, flatMap-map, map-flatMap, length-map, getD-map-in, getD-rows, all-tab, all-map, all-cond, all-at, in-tab, in-flatMap}
+use Rattle.run.proofs.Lists.{map-all, flatMap-all, flatMap-tabs, flatMap-nil, flatMap-single, flatMap-append, flatMap-map, map-flatMap, length-map, getD-map-in, getD-rows, all-tab, all-map, all-cond, in-tab, in-flatMap}
 use Rattle.run.proofs.Blocks.{inputAt, own-inputs, own-coins-input, own-coins-product}
-use Rattle.run.proofs.States.{both, Reads, wires-all, wires-in, Known, start-known, learn-known, gate-reads, table-gate, work-from-known, horizon, horizon-multiply, horizon-next, horizon-first, horizon-end, length-multiplies, Multiplied, multiplied}
+use Rattle.run.proofs.States.{both, wires-all, wires-in, Known, start-known, learn-known, gate-reads, table-gate, work-from-known, horizon, horizon-multiply, horizon-next, horizon-first, horizon-end, length-multiplies, Multiplied, multiplied}
 
 -- ---- the parties, and what a list has for each
 module _ (plan : Plan) where
@@ -398,7 +397,7 @@ module _ (plan : Plan) (valid : Valid plan) (xs cs : List ℕ) (full : length cs
       party-next s m = let e : suc s - 1 ≡ s = omega arith in ap (λ (k : ℕ). getD (parties plan) k 0) (sym e) ∙ party-at plan (suc s) (omega arith) m
 
   -- the shares of the party's out number r, in its mail
-  shares-of-out : (i r : ℕ) → 1 ≤ i → i ≤ partyCount plan → r < ownOutCount plan i
+  pub shares-of-out : (i r : ℕ) → 1 ≤ i → i ≤ partyCount plan → r < ownOutCount plan i
       → sharesOfOut (partyCount plan) (ownOutCount plan i) r (mailTo i (round plan xs cs (suc (multiplies plan))))
       ≡ map (wireAt (shareTable plan xs cs) (getD (outWires plan i) r 0)) (plan .points)
   unfolding sharesOfOut ownOutCount partyCount

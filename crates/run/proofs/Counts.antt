@@ -1,38 +1,38 @@
--- How many numbers a run carries: the lengths of mail, of what a call writes, and of what all calls send; and that all are below p.
+-- How many numbers a run carries: the lengths of mail, of what a call writes, and of what all calls send.
 --     total, total-counts                       sums over parties
 --     length-wiresByParty, length-outs          every input and every out has one party
 --     mail-count, written-count, sent-all       document 01's counts
---     table-below, state-below, mail-below      all numbers are below p
+--     for-rounds, for-calls                     rounds and calls by their kind
 -- Assumes nothing.
-use mathlib.Core.Path.{_≡_, refl, sym, ap, ap₂, subst, _∙_}
-use mathlib.Core.Logic.{_⊎_, inl, inr}
+use mathlib.Core.Path.{_≡_, refl, sym, ap, ap₂, _∙_}
+use mathlib.Core.Logic.{_≢_}
 use mathlib.Core.Bool.{Bool, true, false, cond, _&&_}
 use mathlib.Core.List.{List, [], _∷_, _++_, map, flatMap}
 use Prim.Native.Nat.{ℕ, zero, suc, _+_, _-_, _*_, _<_, _≤_}
-use native.Mathlib.Nat.{mul-zero, zero-mul, mul-suc, suc-mul, mul-add, mul-comm, mul-assoc, mod-lt}
-use native.Mathlib.Numerals.{add-one}
+use native.Mathlib.Nat.{mul-zero, zero-mul, suc-mul, mul-add, mul-comm, mul-assoc}
 use native.Mathlib.Omega.{arith}
 use borrow.Author.Tests.{ltb-true, ltb-false, lt-ltb, le-ltb, leb-true, le-leb, lt-leb, eqb-true, eqb-false, eq-eqb, ne-eqb}
 use lib.Dec.{eqb, leb, ltb}
-use lib.ListN.{length, getD, take, drop, replicate, length-append}
+use lib.ListN.{length, getD, take, drop, length-append}
 use Rattle.numbers.specs.Tables.{tab, countWhere}
 use Rattle.numbers.proofs.Tables.{tab-append, length-tab}
 use Rattle.sharing.specs.Poly.{eval}
 use Rattle.sharing.specs.Interp.{All}
+use Rattle.sharing.specs.Sharing.{opened}
 use Rattle.plan.specs.declared.Gate.{Gate}
 use Rattle.plan.specs.declared.Gate.the-variants.{Input, Add, Scale, Offset, Multiply}
 use Rattle.plan.specs.declared.Output.{Output}
-use Rattle.plan.specs.Plans.{Plan, partyCount, parties, pointOf, dealerCount, isInput, isInputOf, wiresFrom, wiresWhere, multiplies, multiplyWire, inputWires, outWiresOf, outWires, inputCount, ownInputCount, ownOutCount, coinCount, mailCount, writtenCount, sentCount, ownInputs, ownCoins, coinsAt}
+use Rattle.plan.specs.Plans.{Plan, partyCount, parties, pointOf, dealerCount, isInput, isInputOf, wiresWhere, multiplies, multiplyWire, inputWires, outWiresOf, outWires, inputCount, ownInputCount, ownOutCount, coinCount, mailCount, writtenCount, sentCount, ownInputs, ownCoins, coinsAt}
 use Rattle.plan.specs.File.{between, gateOk, outOk}
 use Rattle.plan.proofs.Valid.{Valid}
 use Rattle.party.specs.Messages.{Called, callWith, wiresByParty, dealTo, nothing, inputPolys, sendInputs, productAt, sendProduct, sendOuts, send}
 use Rattle.party.specs.Calls.{written}
 use Rattle.run.specs.Rounds.{callOf, mailTo, round, results, sentIn, sentBefore, sentAll}
-use Rattle.run.specs.Shares.{shareTable, wireAt, tableResults}
-use Rattle.run.proofs.Lists.{length-map, length-rows, flatMap-map, flatMap-nil, all-tab, all-map, all-every}
+use Rattle.run.specs.Shares.{shareTable, wireAt, coinsBelow, tableResults}
+use Rattle.run.proofs.Lists.{length-map, length-rows, flatMap-map, flatMap-nil, all-tab, all-every}
 use Rattle.run.proofs.Blocks.{count-dealers}
-use Rattle.run.proofs.States.{both, length-wires}
-use Rattle.run.proofs.Carried.{each-party, length-parties, called, round-called, call-at, sentBy, sharesAt, mail-inputs, mail-product, mail-outs, results-table}
+use Rattle.run.proofs.States.{both, length-wires, Multiplied, multiplied}
+use Rattle.run.proofs.Carried.{each-party, length-parties, called, round-called, call-at, sentBy, sharesAt, mail-inputs, product-of, pieces-tab, mail-product, out-mail, results-table}
 
 -- ---- sums over a list
 unfoldable pub total : (ℕ → ℕ) → List ℕ → ℕ
@@ -289,3 +289,92 @@ module _ (plan : Plan) (valid : Valid plan) (xs cs : List ℕ) where
       ap (sentBefore plan xs cs) e
       ∙ ap₂ (λ (u v : ℕ). u + v) (ap₂ (λ (u v : ℕ). u + v) (sent-before m (omega arith)) sent-in-outs) sent-in-last
       ∙ omega arith
+
+-- ---- rounds by their kind
+module _ (plan : Plan) (P : ℕ → Type 0) where
+  by-kind : (k : ℕ) (b : Bool) → ltb k (multiplies plan) ≡ b → (c : Bool) → eqb k (multiplies plan) ≡ c
+      → (k < multiplies plan → P (suc k)) → P (suc (multiplies plan)) → (multiplies plan < k → P (suc k)) → P (suc k)
+  by-kind k true e c q product outs last = product (ltb-true k (multiplies plan) e)
+  by-kind k false e true q product outs last = let r : k ≡ multiplies plan = eqb-true k (multiplies plan) q in rw r outs
+  by-kind k false e false q product outs last =
+      let m : multiplies plan ≤ k = ltb-false k (multiplies plan) e in
+      let n : k ≢ multiplies plan = eqb-false k (multiplies plan) q in
+      last (omega arith)
+
+  -- rounds 0 to M + 1: the inputs', the multiplies', the outs'
+  pub for-rounds : P 0 → ((k : ℕ) → k < multiplies plan → P (suc k)) → P (suc (multiplies plan)) → (k : ℕ) → k ≤ multiplies plan + 1 → P k
+  for-rounds first products outs zero l = first
+  for-rounds first products outs (suc k) l = by-kind k (ltb k (multiplies plan)) refl (eqb k (multiplies plan)) refl (products k) outs (λ m. absurd (omega arith))
+
+  -- calls 0 to M + 2
+  pub for-calls : P 0 → ((k : ℕ) → k < multiplies plan → P (suc k)) → P (suc (multiplies plan)) → P (suc (suc (multiplies plan))) → (k : ℕ) → k ≤ multiplies plan + 2 → P k
+  for-calls first products outs last zero l = first
+  for-calls first products outs last (suc k) l =
+      by-kind k (ltb k (multiplies plan)) refl (eqb k (multiplies plan)) refl (products k) outs (λ m. let r : k ≡ suc (multiplies plan) = omega arith in rw r last)
+
+-- ---- the lengths of mail and of what a call writes
+module _ (plan : Plan) (valid : Valid plan) (xs cs : List ℕ) (full : length cs ≡ coinCount plan) where
+  mail-count-first : (i : ℕ) → 1 ≤ i → i ≤ partyCount plan → length (mailTo i (round plan xs cs 0)) ≡ mailCount plan i 1
+  unfolding mailCount
+  mail-count-first i l h =
+      ap length (mail-inputs plan valid xs cs full i l h) ∙ length-map (λ w. wireAt (shareTable plan xs cs) w (pointOf plan i)) (wiresByParty plan) ∙ length-wiresByParty plan valid
+
+  mail-count-product : (k i : ℕ) → k < multiplies plan → 1 ≤ i → i ≤ partyCount plan → length (mailTo i (round plan xs cs (suc k))) ≡ mailCount plan i (suc (suc k))
+  unfolding mailCount
+  mail-count-product k i q l h =
+      let m : Multiplied plan k = multiplied plan k q in
+      rw (lt-ltb k (multiplies plan) q)
+      (ap length (mail-product plan valid xs cs full k i q l h ∙ pieces-tab plan valid xs cs full (multiplyWire plan k) (m .a) (m .b) (pointOf plan i) (m .gate))
+      ∙ length-tab (λ r. eval (plan .p) (product-of plan valid xs cs full (m .a) (m .b) (pointOf plan (suc r)) ∷ take (plan .t) (drop (plan .t * r) (drop (coinsBelow plan (multiplyWire plan k)) cs))) (pointOf plan i)) (dealerCount plan))
+
+  mail-count-outs : (i : ℕ) → 1 ≤ i → i ≤ partyCount plan → length (mailTo i (round plan xs cs (suc (multiplies plan)))) ≡ mailCount plan i (suc (suc (multiplies plan)))
+  unfolding mailCount ownOutCount
+  mail-count-outs i l h =
+      let row : ℕ → List ℕ = λ j. map (λ w. wireAt (shareTable plan xs cs) w (pointOf plan j)) (outWires plan i) in
+      rw (le-ltb (multiplies plan) (multiplies plan) (omega arith))
+      (ap length (out-mail plan valid xs cs full i l h)
+      ∙ length-rows row (length (outWires plan i)) (parties plan) (all-every (λ j. length (row j) ≡ length (outWires plan i)) (parties plan) (λ j. length-map (λ w. wireAt (shareTable plan xs cs) w (pointOf plan j)) (outWires plan i)))
+      ∙ ap (λ (m : ℕ). m * length (outWires plan i)) (length-parties plan))
+
+  -- the mail of round k is what call k + 1 takes
+  pub mail-count : (k i : ℕ) → k ≤ multiplies plan + 1 → 1 ≤ i → i ≤ partyCount plan → length (mailTo i (round plan xs cs k)) ≡ mailCount plan i (suc k)
+  mail-count k i q l h =
+      for-rounds plan (λ k. length (mailTo i (round plan xs cs k)) ≡ mailCount plan i (suc k)) (mail-count-first i l h) (λ k m. mail-count-product k i m l h) (mail-count-outs i l h) k q
+
+  length-tableResults : (i : ℕ) → length (tableResults plan xs cs i) ≡ ownOutCount plan i
+  unfolding tableResults ownOutCount
+  length-tableResults i = length-map (λ w. opened (plan .p) (plan .t) (plan .points) (map (wireAt (shareTable plan xs cs) w) (plan .points))) (outWires plan i)
+
+  written-sent : (k i : ℕ) → 1 ≤ i → i ≤ partyCount plan → (k ≡ multiplies plan + 2 → ⊥) → written plan k (callOf i (round plan xs cs k)) ≡ flatMap (λ l. l) (sentBy plan xs cs k i)
+  unfolding written called callWith sentBy
+  written-sent k i l h ne = rw (ne-eqb k (multiplies plan + 2) ne) (ap (λ (c : Called). flatMap (λ r. r) (c .sent)) (call-at plan xs cs k i l h))
+
+  written-first : (i : ℕ) → 1 ≤ i → i ≤ partyCount plan → length (written plan 0 (callOf i (round plan xs cs 0))) ≡ writtenCount plan i 0
+  unfolding writtenCount
+  written-first i l h = ap length (written-sent 0 i l h (omega arith)) ∙ length-sent-inputs plan valid xs cs i
+
+  written-product : (k i : ℕ) → k < multiplies plan → 1 ≤ i → i ≤ partyCount plan → length (written plan (suc k) (callOf i (round plan xs cs (suc k)))) ≡ writtenCount plan i (suc k)
+  unfolding writtenCount
+  written-product k i q l h = rw (lt-ltb k (multiplies plan) q) (ap length (written-sent (suc k) i l h (omega arith)) ∙ length-sent-product plan valid xs cs k i q)
+
+  written-outs : (i : ℕ) → 1 ≤ i → i ≤ partyCount plan
+      → length (written plan (suc (multiplies plan)) (callOf i (round plan xs cs (suc (multiplies plan))))) ≡ writtenCount plan i (suc (multiplies plan))
+  unfolding writtenCount
+  written-outs i l h =
+      rw (le-ltb (multiplies plan) (multiplies plan) (omega arith), eq-eqb (multiplies plan) (multiplies plan) refl)
+      (ap length (written-sent (suc (multiplies plan)) i l h (omega arith)) ∙ length-sent-outs plan valid xs cs i)
+
+  written-last : (i : ℕ) → 1 ≤ i → i ≤ partyCount plan
+      → length (written plan (suc (suc (multiplies plan))) (callOf i (round plan xs cs (suc (suc (multiplies plan)))))) ≡ writtenCount plan i (suc (suc (multiplies plan)))
+  unfolding writtenCount written results
+  written-last i l h =
+      let ne : suc (multiplies plan) ≡ multiplies plan → ⊥ = omega arith in
+      let e : suc (suc (multiplies plan)) ≡ multiplies plan + 2 = omega arith in
+      rw (eq-eqb (suc (suc (multiplies plan))) (multiplies plan + 2) e, le-ltb (suc (multiplies plan)) (multiplies plan) (omega arith), ne-eqb (suc (multiplies plan)) (multiplies plan) ne)
+      (ap (λ (k : ℕ). length (callOf i (round plan xs cs k) .results)) e ∙ ap length (results-table plan valid xs cs full i l h) ∙ length-tableResults i)
+
+  -- what call k writes
+  pub written-count : (k i : ℕ) → k ≤ multiplies plan + 2 → 1 ≤ i → i ≤ partyCount plan → length (written plan k (callOf i (round plan xs cs k))) ≡ writtenCount plan i k
+  written-count k i q l h =
+      for-calls plan (λ k. length (written plan k (callOf i (round plan xs cs k))) ≡ writtenCount plan i k)
+      (written-first i l h) (λ k m. written-product k i m l h) (written-outs i l h) (written-last i l h) k q

@@ -1,18 +1,18 @@
 -- Laws of lists: maps and concatenations that agree entry by entry, rows laid end to end, and statements on every entry.
 --     map-all, flatMap-all, flatMap-tabs, flatMap-append, flatMap-map, map-flatMap     maps and concatenations
---     all-tab, all-append, all-flatMap, all-map, all-in                                on every entry
+--     all-tab, all-every, all-append, all-flatMap, all-map, all-take, all-drop, at-all  on every entry
+--     in-tab, in-flatMap                                                               membership
 --     getD-map-in, getD-rows, length-rows                                              entries of maps and of rows
 -- Assumes nothing.
 use mathlib.Core.Path.{_≡_, refl, sym, ap, ap₂, subst, _∙_}
 use mathlib.Core.Bool.{Bool, true, false, cond}
-use mathlib.Core.List.{List, [], _∷_, _++_, map, flatMap, append-assoc, append-nil, List·Memᴰ, List·Memᴰ·head, List·Memᴰ·tail, Memᴰ·append-left, Memᴰ·append-right}
-use Prim.Native.Nat.{ℕ, zero, suc, _+_, _-_, _*_, _<_, _≤_}
+use mathlib.Core.List.{List, [], _∷_, _++_, map, flatMap, append-assoc, List·Memᴰ, List·Memᴰ·head, List·Memᴰ·tail, Memᴰ·append-left, Memᴰ·append-right}
+use Prim.Native.Nat.{ℕ, zero, suc, _+_, _*_, _<_}
 use native.Mathlib.Nat.{mul-zero, zero-mul, suc-mul, mul-suc}
 use native.Mathlib.Omega.{arith}
 use lib.ListN.{length, getD, take, drop, length-append, List·getD-append}
 use lib.Seq.{getD-append-add}
 use Rattle.numbers.specs.Tables.{tab}
-use Rattle.numbers.proofs.Tables.{tab-ext}
 use Rattle.sharing.specs.Interp.{All}
 
 -- ---- maps and concatenations
@@ -97,6 +97,30 @@ all-flatMap P f (x ∷ xs) a = all-append P (f x) (flatMap f xs) (a .0) (all-fla
 pub all-map : (P Q : ℕ → Type 0) (xs : List ℕ) → ((x : ℕ) → P x → Q x) → All P xs → All Q xs
 all-map P Q [] f a = tt
 all-map P Q (x ∷ xs) f a = (f x (a .0), all-map P Q xs f (a .1))
+
+pub all-mapped : {A : Type 0} (P : ℕ → Type 0) (f : A → ℕ) (xs : List A) → ((x : A) → P (f x)) → All P (map f xs)
+all-mapped P f [] h = tt
+all-mapped P f (x ∷ xs) h = (h x, all-mapped P f xs h)
+
+pub all-take : (P : ℕ → Type 0) (n : ℕ) (xs : List ℕ) → All P xs → All P (take n xs)
+all-take P zero xs a = tt
+all-take P (suc n) [] a = tt
+all-take P (suc n) (x ∷ xs) a = (a .0, all-take P n xs (a .1))
+
+pub all-drop : (P : ℕ → Type 0) (n : ℕ) (xs : List ℕ) → All P xs → All P (drop n xs)
+all-drop P zero xs a = a
+all-drop P (suc n) [] a = tt
+all-drop P (suc n) (x ∷ xs) a = all-drop P n xs (a .1)
+
+pub all-getD : (P : ℕ → Type 0) (xs : List ℕ) (i d : ℕ) → P d → All P xs → P (getD xs i d)
+all-getD P [] i d h a = h
+all-getD P (x ∷ xs) zero d h a = a .0
+all-getD P (x ∷ xs) (suc i) d h a = all-getD P xs i d h (a .1)
+
+-- by its entries
+pub at-all : (P : ℕ → Type 0) (xs : List ℕ) → ((i : ℕ) → i < length xs → P (getD xs i 0)) → All P xs
+at-all P [] h = tt
+at-all P (x ∷ xs) h = (h 0 (omega arith), at-all P xs (λ i l. h (suc i) (omega arith)))
 
 pub all-cond : (P : ℕ → Type 0) (b : Bool) (x : ℕ) (xs : List ℕ) → (b ≡ true → P x) → All P xs → All P (cond b (x ∷ xs) xs)
 all-cond P true x xs h a = (h refl, a)

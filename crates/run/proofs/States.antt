@@ -8,20 +8,20 @@ use mathlib.Core.Path.{_≡_, refl, sym, ap, ap₂, subst, _∙_}
 use mathlib.Core.Logic.{_≢_, _⊎_, inl, inr}
 use mathlib.Core.Bool.{Bool, true, false, cond, _&&_}
 use mathlib.Core.List.{List, [], _∷_, _++_, map, flatMap, List·Memᴰ, List·Memᴰ·head, List·Memᴰ·tail}
-use Prim.Native.Nat.{ℕ, zero, suc, _+_, _-_, _*_, _<_, _≤_}
+use Prim.Native.Nat.{ℕ, zero, suc, _+_, _*_, _<_, _≤_}
 use native.Mathlib.Nat.{mul-zero, mul-add}
 use native.Mathlib.Omega.{arith}
-use borrow.Author.Tests.{ltb-true, ltb-false, leb-true, eqb-true, eqb-false}
-use lib.Dec.{eqb, leb, ltb}
-use lib.ListN.{length, getD, take, drop, set, replicate, length-append, length-set, length-drop, length-replicate, getD-replicate, List·getD-append, List·getD-eq-default}
+use borrow.Author.Tests.{ltb-true, ltb-false, eqb-true, eqb-false}
+use lib.Dec.{eqb, ltb}
+use lib.ListN.{length, getD, take, drop, set, replicate, length-append, length-set, length-drop, length-replicate, List·getD-append, List·getD-eq-default}
 use lib.Seq.{drop-cons, drop-drop, getD-drop, getD-append-seam, getD-set-same, getD-set-other, set-out}
-use Rattle.numbers.specs.Tables.{tab, countWhere}
+use Rattle.numbers.specs.Tables.{countWhere}
 use Rattle.field.specs.Mod.{add, mul}
 use Rattle.sharing.specs.Interp.{All, weights, dot}
 use Rattle.plan.specs.declared.Gate.{Gate}
 use Rattle.plan.specs.declared.Gate.the-variants.{Input, Add, Scale, Offset, Multiply}
 use Rattle.plan.specs.Plans.{Plan, partyCount, dealerPoints, isInput, isMultiply, dealersOf, wiresFrom, wiresWhere, multiplies, multiplyWire}
-use Rattle.plan.specs.File.{between, gateOk}
+use Rattle.plan.specs.File.{gateOk}
 use Rattle.plan.proofs.Valid.{Valid}
 use Rattle.party.specs.Messages.{setAll, workGate, workFrom}
 use Rattle.run.specs.Ideal.{inputsTaken}
@@ -336,7 +336,7 @@ module _ {table : List (ℕ → ℕ)} {gates : List Gate} {z g : ℕ} {shares : 
   pub end-known : (b : ℕ) → length gates ≤ g → Known table gates z b shares
   end-known b l = record { size = known .size; inputs = known .inputs; below = λ w h m. known .below w (omega arith) m; others = known .others }
 
-getD-zeros : (n i : ℕ) → _≡_ {A = ℕ} (getD (replicate n 0) i 0) 0
+pub getD-zeros : (n i : ℕ) → _≡_ {A = ℕ} (getD (replicate n 0) i 0) 0
 getD-zeros zero i = refl
 getD-zeros (suc n) zero = refl
 getD-zeros (suc n) (suc i) = getD-zeros n i
