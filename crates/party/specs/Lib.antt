@@ -2,3 +2,4 @@ pub mod Messages
 pub mod Calls
 pub mod Lent
 pub mod Parts
+pub mod Sending

@@ -9,3 +9,5 @@ pub mod Below
 pub mod Tables
 pub mod Wires
 pub mod Accepted
+pub mod WriteLaws
+pub mod ViewLaws
