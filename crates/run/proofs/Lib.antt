@@ -11,3 +11,5 @@ pub mod Wires
 pub mod Accepted
 pub mod WriteLaws
 pub mod ViewLaws
+pub mod FlatLaws
+pub mod JoinLaws

@@ -435,12 +435,12 @@ module _ (plan : Plan) where
   coins-start = mul-zero (plan .t)
 
   module _ (g : ℕ) (l : g < length (plan .gates)) where
-    coins-next : coinsBelow plan (g + 1) ≡ coinsBelow plan g + plan .t * length (dealersOf plan (getD (plan .gates) g (Input 0)))
+    pub coins-next : coinsBelow plan (g + 1) ≡ coinsBelow plan g + plan .t * length (dealersOf plan (getD (plan .gates) g (Input 0)))
     unfolding coinsBelow flatMap
     coins-next =
         rw (add-one, take-suc (plan .gates) g (Input 0) l, flatMap-append (dealersOf plan) (take g (plan .gates)) (getD (plan .gates) g (Input 0) ∷ []), length-append, append-nil, mul-add)
 
-    coins-room : coinsBelow plan (g + 1) ≤ coinCount plan
+    pub coins-room : coinsBelow plan (g + 1) ≤ coinCount plan
     unfolding coinsBelow coinCount dealings
     coins-room =
         let e : length (flatMap (dealersOf plan) (plan .gates)) ≡ length (flatMap (dealersOf plan) (take (g + 1) (plan .gates))) + length (flatMap (dealersOf plan) (drop (g + 1) (plan .gates))) =

@@ -2,7 +2,7 @@
 use Prim.Native.Nat.{ℕ, suc, _+_, _-_, _*_, _<_, _≤_}
 use mathlib.Core.Path.{_≡_}
 use mathlib.Core.Bool.{true, cond}
-use mathlib.Core.List.{List, [], _∷_, map, flatMap}
+use mathlib.Core.List.{List, [], _∷_, _++_, map, flatMap}
 use lib.Dec.{eqb, leb}
 use lib.ListN.{length, take, drop, getD}
 use Rattle.numbers.specs.Tables.{tab}
@@ -14,7 +14,7 @@ use Rattle.sharing.specs.Ready.{Ready}
 use Rattle.plan.specs.declared.Gate.{Gate}
 use Rattle.plan.specs.declared.Gate.the-variants.{Input, Add, Scale, Offset, Multiply}
 use Rattle.plan.specs.declared.Header.{Header}
-use Rattle.plan.specs.Plans.{Plan, parties, isMultiply, wiresWhere, inputWires, outWires}
+use Rattle.plan.specs.Plans.{Plan, parties, isMultiply, wiresWhere, inputWires, outWires, coinCount, ownInputs, ownCoins}
 use Rattle.party.specs.Sending.{coinsFrom}
 use Rattle.run.specs.Shares.{coinsBelow}
 
@@ -86,3 +86,18 @@ pub record Running (h : Header) (table : List ℕ) : Type 0 where
   pub points : h .n < h .field .p
   pub gates : h .gates ≤ 1024
   pub flat : Flat (h .field .p) (h .n) (h .gates) table
+
+-- a run's coins and table
+pub record Ran (plan : Plan) (h : Header) (cs table : List ℕ) : Type 0 where
+  pub full : length cs ≡ coinCount plan
+  pub below : allBelow (h .field .p) cs ≡ true
+  pub running : Running h table
+
+-- all mail to party i, whose point is i
+unfoldable pub mailIn : Plan → Header → List ℕ → List ℕ → ℕ → List ℕ
+mailIn plan h table cs i = firstIn plan (h .n) table i ++ (middleIn plan h table cs i ++ outsIn plan (h .n) table i)
+
+-- party i's view
+unfoldable pub viewIn : Plan → Header → List ℕ → List ℕ → List ℕ → ℕ → List ℕ
+viewIn plan h table xs cs i =
+    ownInputs plan i xs ++ (ownCoins plan i cs ++ (mailIn plan h table cs i ++ map (openedIn h table) (outWires plan i)))

@@ -6,12 +6,12 @@ use plan::Header;
 use plan::Output;
 ghost use mathlib.Core.Path.{_≡_};
 ghost use mathlib.Core.Bool.{true, cond};
-ghost use mathlib.Core.List.{[], _∷_, map};
+ghost use mathlib.Core.List.{[], _∷_, map, flatMap};
 ghost use Prim.Native.Nat.{_+_, _*_, _<_, _≤_};
 ghost use lib.Dec.{eqb};
 ghost use lib.ListN.{getD, length};
 ghost use Rattle.numbers.specs.Tables.{tab};
-ghost use Rattle.numbers.specs.Bytes.{numbers, allBelow};
+ghost use Rattle.numbers.specs.Bytes.{numbers, bytesOf, allBelow};
 ghost use Rattle.field.specs.Mod.{mul};
 ghost use Rattle.field.specs.Field.{Is};
 ghost use Rattle.sharing.specs.Poly.{eval};
@@ -20,8 +20,12 @@ ghost use Rattle.plan.specs.Plans.{isInputOf, inputWires, outWires, coinCount, 
 ghost use Rattle.party.specs.Sending.{coinsFrom};
 ghost use Rattle.plan.specs.File.{planOf};
 ghost use Rattle.plan.specs.Planned.{Planned};
+ghost use Rattle.plan.specs.Coalitions.{inSet, members, setFits};
 ghost use Rattle.run.specs.Ideal.{inputsTaken};
-ghost use Rattle.run.specs.Flat.{shareIn, firstIn, outsIn, openedIn, pieceIn, piecesIn, middleIn, coinsIn, ownAt, Running};
+ghost use Rattle.run.specs.Shares.{shareTable, tableViewOf};
+ghost use Rattle.run.specs.Rows.{rowsOf, Given};
+ghost use Rattle.run.specs.BenchCalls.{viewCount};
+ghost use Rattle.run.specs.Flat.{shareIn, firstIn, outsIn, openedIn, pieceIn, piecesIn, middleIn, coinsIn, ownAt, mailIn, viewIn, Running, Ran};
 ghost use Rattle.run.specs.Writing.{Wrote};
 
 // One number, of which the two low bytes are kept.
@@ -531,4 +535,103 @@ fn write_middle(
         g += 1;
     }
     next
+}
+
+// ---- views
+
+// All mail to party i.
+fn write_mail(
+    plan: &[u8],
+    h: Header,
+    coins: &[u8],
+    table: &[u64],
+    i: usize,
+    at: usize,
+    out: &mut [u8],
+) -> usize
+    requires { ⌜ Planned (now plan) h ⌝ }
+    requires { ⌜ Ran (planOf (now plan)) h (numbers (now coins)) (now table) ⌝ }
+    requires { ⌜ 1 ≤ i ⌝ }
+    requires { ⌜ i ≤ h .n ⌝ }
+    requires { ⌜ at ≤ 900000 ⌝ }
+    ensures { λ r. ⌜ Wrote 31680 (mailIn (planOf (now (plan .entry))) h (now (table .entry)) (numbers (now (coins .entry))) i) at (now (out .entry)) (now (out .exit)) r ⌝ }
+{
+    let a = write_first(plan, h, table, i, at, out);
+    let b = write_middle(plan, h, table, coins, i as u64, a, out);
+    write_outs(plan, h, table, i, b, out)
+}
+
+// Party i's view.
+fn write_view(
+    plan: &[u8],
+    h: Header,
+    inputs: &[u8],
+    coins: &[u8],
+    table: &[u64],
+    i: usize,
+    at: usize,
+    out: &mut [u8],
+) -> usize
+    requires { ⌜ Planned (now plan) h ⌝ }
+    requires { ⌜ Ran (planOf (now plan)) h (numbers (now coins)) (now table) ⌝ }
+    requires { ⌜ 1 ≤ i ⌝ }
+    requires { ⌜ i ≤ h .n ⌝ }
+    requires { ⌜ at ≤ 800000 ⌝ }
+    ensures { λ r. ⌜ Wrote 39936 (viewIn (planOf (now (plan .entry))) h (now (table .entry)) (numbers (now (inputs .entry))) (numbers (now (coins .entry))) i) at (now (out .entry)) (now (out .exit)) r ⌝ }
+{
+    let a = write_inputs(plan, h, i, inputs, at, out);
+    let b = write_coins(plan, h, i, coins, a, out);
+    let c = write_mail(plan, h, coins, table, i, b, out);
+    write_results(plan, h, table, i, c, out)
+}
+
+// Party i's view, where it is a member.
+fn write_member(
+    plan: &[u8],
+    h: Header,
+    set: u16,
+    inputs: &[u8],
+    coins: &[u8],
+    table: &[u64],
+    i: usize,
+    at: usize,
+    out: &mut [u8],
+) -> usize
+    requires { ⌜ Planned (now plan) h ⌝ }
+    requires { ⌜ Ran (planOf (now plan)) h (numbers (now coins)) (now table) ⌝ }
+    requires { ⌜ setFits (h .n) (h .t) set ≡ true ⌝ }
+    requires { ⌜ 1 ≤ i ⌝ }
+    requires { ⌜ i ≤ 16 ⌝ }
+    requires { ⌜ at ≤ 800000 ⌝ }
+    ensures { λ r. ⌜ Wrote 39936 (cond (inSet set i) (viewIn (planOf (now (plan .entry))) h (now (table .entry)) (numbers (now (inputs .entry))) (numbers (now (coins .entry))) i) []) at (now (out .entry)) (now (out .exit)) r ⌝ }
+{
+    if !plan::is_member(set, i) {
+        return at;
+    }
+    write_view(plan, h, inputs, coins, table, i, at, out)
+}
+
+// The view of a coalition, its members ascending, from the table of shares of the run.
+pub fn write_views(
+    plan: &[u8],
+    h: Header,
+    set: u16,
+    inputs: &[u8],
+    coins: &[u8],
+    table: &[u64],
+    out: &mut [u8],
+)
+    requires { ⌜ Planned (now plan) h ⌝ }
+    requires { ⌜ Given (planOf (now plan)) (now inputs) (now coins) ⌝ }
+    requires { ⌜ now table ≡ rowsOf (planOf (now plan) .points) (shareTable (planOf (now plan)) (numbers (now inputs)) (numbers (now coins))) ⌝ }
+    requires { ⌜ setFits (h .n) (h .t) set ≡ true ⌝ }
+    requires { ⌜ length (now out) ≡ 2 * viewCount (planOf (now plan)) (members set) ⌝ }
+    ensures { λ _. ⌜ now (out .exit) ≡ bytesOf (flatMap (tableViewOf (planOf (now (plan .entry))) (numbers (now (inputs .entry))) (numbers (now (coins .entry)))) (members set)) ⌝ }
+{
+    let mut at: usize = 0;
+    let mut i: usize = 1;
+    while i <= 16 {
+        at = write_member(plan, h, set, inputs, coins, table, i, at, out);
+        i += 1;
+    }
 }
