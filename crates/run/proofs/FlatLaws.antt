@@ -255,15 +255,16 @@ module _ (plan : Plan) (valid : Valid plan) (xs cs : List ℕ) (full : length cs
   length-view i l =
       let m : List ℕ = tableMails plan xs cs i in
       let r : List ℕ = tableResults plan xs cs i in
-      omega
-      (arith,
-      length-append (ownInputs plan i xs) (ownCoins plan i cs ++ (m ++ r)),
-      length-append (ownCoins plan i cs) (m ++ r),
-      length-append m r,
-      length-own-inputs i,
-      length-own-coins i l,
-      length-mails i,
-      length-results i)
+      omega (
+        arith,
+        length-append (ownInputs plan i xs) (ownCoins plan i cs ++ (m ++ r)),
+        length-append (ownCoins plan i cs) (m ++ r),
+        length-append m r,
+        length-own-inputs i,
+        length-own-coins i l,
+        length-mails i,
+        length-results i,
+      )
 
   pub length-views : (ms : List ℕ) → All (λ i. 1 ≤ i) ms → length (flatMap (tableViewOf plan xs cs) ms) ≡ viewCount plan ms
   unfolding flatMap viewCount

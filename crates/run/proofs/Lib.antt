@@ -13,3 +13,4 @@ pub mod WriteLaws
 pub mod ViewLaws
 pub mod FlatLaws
 pub mod JoinLaws
+pub mod RunCheckLaws

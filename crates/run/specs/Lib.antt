@@ -5,3 +5,4 @@ pub mod Rows
 pub mod BenchCalls
 pub mod Writing
 pub mod Flat
+pub mod Checks
