@@ -21,3 +21,4 @@ pub mod ViewLaws
 pub mod FlatLaws
 pub mod JoinLaws
 pub mod RunCheckLaws
+pub mod BenchLaws
