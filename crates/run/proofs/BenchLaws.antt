@@ -46,7 +46,7 @@ use Rattle.run.proofs.Carried.{views-table}
 
 -- ---- the table and the views
 module _ {bs : List ℕ} {h : Header} (pl : Planned bs h) where
-  table-room : h .n * h .gates ≤ 15360
+  pub table-room : h .n * h .gates ≤ 15360
   table-room = mul-le-mul (pl .n-high) (pl .gates-high)
 
   pub table-fits : Fits w64 (h .n * h .gates)
@@ -54,6 +54,9 @@ module _ {bs : List ℕ} {h : Header} (pl : Planned bs h) where
 
   pub table-enough : (table : List ℕ) → length table ≡ 15360 → h .n * h .gates ≤ length table
   table-enough table e = omega (arith, table-room)
+
+  pub used-long : (table : List ℕ) → length table ≡ 15360 → h .n * h .gates ≡ length (take (h .n * h .gates) table)
+  used-long table e = sym (length-take-le (h .n * h .gates) table (table-enough table e))
 
   module _ (inputs coins : List ℕ) (given : Given (planOf bs) inputs coins) (set : ℕ) (ok : setFits (h .n) (h .t) set ≡ true) where
     -- the table's views are those of the run of separate calls
@@ -64,7 +67,7 @@ module _ {bs : List ℕ} {h : Header} (pl : Planned bs h) where
         all-members (λ i. (1 ≤ i) × (i ≤ partyCount (planOf bs))) (members set) (λ m w. (member-in set m w .from, rw (plan-n pl) (member-party (h .n) (h .t) set ok m w))) in
         e ∙ ap bytesOf (sym (views-table (planOf bs) (valid bs (pl .passes)) (numbers inputs) (numbers coins) full (members set) only))
 
-pub ruleset writing-run = (needs, table-fits, table-enough, run-written)
+pub ruleset writing-run = (needs, table-room, table-fits, table-enough, used-long, run-written)
 
 -- ---- answers
 pub benched-passed : (c : Checked) (sent : ℕ) → c ≡ Passed → benched.Sent sent ≡ benchedOf c sent
@@ -137,10 +140,10 @@ module _ (bs : List ℕ) (set : ℕ) (inputs coins out : List ℕ) where
       view-sent new en = en ∙ written (benchAnswer bs set inputs coins (length out)) (bytesOf (view (planOf bs) (members set) (numbers inputs) (numbers coins))) out (answer ∙ f)
 
 -- ---- what a run whose checks pass is given
-module _ (bs : List ℕ) (h : Header) (pl : Planned bs h) (set : ℕ) (inputs coins : List ℕ) (room : ℕ) (c : Checked) (ec : c ≡ firstOf (runChecks (planOf bs) set inputs coins room)) (f : c ≡ Passed) where
-  pub passed-set : setFits (h .n) (h .t) set ≡ true
+module _ (bs : List ℕ) (set : ℕ) (inputs coins : List ℕ) (room : ℕ) (c : Checked) (ec : c ≡ firstOf (runChecks (planOf bs) set inputs coins room)) (f : c ≡ Passed) where
+  pub passed-set : (h : Header) → Planned bs h → setFits (h .n) (h .t) set ≡ true
   unfolding runChecks firstOf
-  passed-set = set-ok bs h set pl ∙ passed-need refusal.Coalition (setOk (planOf bs) set) (passed-both _ _ (sym ec ∙ f) .0)
+  passed-set h pl = set-ok bs h set pl ∙ passed-need refusal.Coalition (setOk (planOf bs) set) (passed-both _ _ (sym ec ∙ f) .0)
 
   pub passed-given : Given (planOf bs) inputs coins
   unfolding runChecks firstOf

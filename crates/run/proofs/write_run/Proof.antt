@@ -1,42 +1,30 @@
-use borrow.Author.Needs.{needs}
+use Rattle.run.proofs.BenchLaws.{writing-run}
 use Rattle.run.proofs.write_run.Statement.{statement}
 use Rattle.run.proofs.write_run.Tie as tie
-use Rattle.run.proofs.write_run.Reads as reads
-use Rattle.run.proofs.write_run.Lts as lts
-use Rattle.run.proofs.tables.fill.Reads as fill-reads
-use Rattle.run.proofs.viewing.write_views.Reads as write-views-reads
 
--- src/lib.rt:48:42
 slice-aggregate-fill : tie.Need-slice-aggregate-fill
-slice-aggregate-fill c = search needs
+slice-aggregate-fill c = search writing-run
 
--- src/lib.rt:48:5
 fill-requires : tie.Need-fill-requires
-fill-requires c κs = ?
+fill-requires c κs = (search writing-run, (search writing-run, search writing-run))
 
--- src/lib.rt:49:16
 mul-used : tie.Need-mul-used
-mul-used c = ?
+mul-used c = search writing-run
 
--- src/lib.rt:50:55
 array-share-prefix-table : tie.Need-array-share-prefix-table
-array-share-prefix-table c = ?
+array-share-prefix-table c = search writing-run
 
--- src/lib.rt:50:55
 slice-aggregate-write-views : tie.Need-slice-aggregate-write-views
-slice-aggregate-write-views c = ?
+slice-aggregate-write-views c = search writing-run
 
--- src/lib.rt:50:5
 write-views-requires : tie.Need-write-views-requires
-write-views-requires c κs = ?
+write-views-requires c κs = (search writing-run, (search writing-run, (search writing-run, (search writing-run, search writing-run))))
 
--- src/lib.rt:40:1
 same-length : tie.Need-same-length
-same-length c = search needs
+same-length c = search writing-run
 
--- src/lib.rt:40:1
 returns : tie.Need-returns
-returns c = ?
+returns c = search writing-run
 
 pub write-run-spec : {M : Type 1} → statement M
 write-run-spec =
