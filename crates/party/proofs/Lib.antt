@@ -1,11 +1,7 @@
 pub mod PointLaws
 pub mod LearnLaws
-pub mod SendLaws
+pub mod CheckLaws
 pub mod DealLaws
+pub mod SendLaws
 pub mod InputLaws
 pub mod OutLaws
-pub mod ProductLaws
-pub mod ResultLaws
-pub mod WrittenLaws
-pub mod CheckLaws
-pub mod CallLaws

@@ -8,6 +8,7 @@ pub mod Openings
 pub mod Below
 pub mod Worked
 pub mod Wires
+pub mod Accepted
 pub mod RowLaws
 pub mod PowerLaws
 pub mod DealLaws
@@ -15,3 +16,9 @@ pub mod GridLaws
 pub mod StepLaws
 pub mod GateLaws
 pub mod FillLaws
+pub mod WriteLaws
+pub mod ViewLaws
+pub mod FlatLaws
+pub mod JoinLaws
+pub mod RunCheckLaws
+pub mod BenchLaws

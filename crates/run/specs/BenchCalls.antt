@@ -12,6 +12,8 @@ use Rattle.plan.specs.Plans.{Plan, partyCount, dealerCount, multiplies, inputCo
 use Rattle.plan.specs.File.{planChecks, planOf}
 use Rattle.plan.specs.Coalitions.{members, setOk}
 use Rattle.party.specs.Calls.{unlessRefused}
+use Rattle.run.specs.declared.Benched.{Benched}
+use Rattle.run.specs.declared.Benched.the-variants as benched
 use Rattle.run.specs.Rounds.{view}
 
 -- the numbers of party i's view: inputs, coins, mail, results
@@ -38,6 +40,11 @@ runChecks plan set xs coins room =
 
 unfoldable pub benchAnswer : List ℕ → ℕ → List ℕ → List ℕ → ℕ → Checked
 benchAnswer bs set xs coins room = firstOf (planChecks bs ++ runChecks (planOf bs) set xs coins room)
+
+-- what the bench answers
+unfoldable pub benchedOf : Checked → ℕ → Benched
+benchedOf Passed sent = benched.Sent sent
+benchedOf (Refused r) sent = benched.Refused r
 
 -- elements sent; a refusal counts 0
 unfoldable pub sentUnlessRefused : Checked → ℕ → ℕ
