@@ -11,7 +11,7 @@ use native.Mathlib.Numerals.{add-one}
 use native.Mathlib.Nat.{mod-lt, mul-le-mul}
 use native.Mathlib.Omega.{arith}
 use borrow.Author.Needs.{needs}
-use borrow.Author.Tests.{ltb-true, ltb-false}
+use borrow.Author.Tests.{ltb-true, ltb-false, lt-ltb}
 use lib.Dec.{ltb}
 use lib.ListN.{length, drop, getD, List·getD-eq-default, drop-of-length-le}
 use lib.Seq.{drop-cons, drop-length}
@@ -23,12 +23,13 @@ use Rattle.numbers.proofs.Fills.{Filled, filling, filled}
 use Rattle.field.specs.Mod.{add, mul}
 use Rattle.field.specs.Prime.{Prime}
 use Rattle.field.specs.Field.{Is}
-use Rattle.field.proofs.Solve.{Canon, zero-canon, Same, same, turn, _⨾_, plus, mul-same, add-same, mod-canon, add-canon, canon-same, mod-same}
+use Rattle.field.proofs.Solve.{Canon, zero-canon, Same, same, turn, _⨾_, plus, mul-same, add-same, mod-canon, add-canon, canon-same, canon-lt, mod-same}
 use Rattle.field.proofs.Products.{word}
 use Rattle.sharing.specs.Poly.{eval}
 use Rattle.sharing.specs.Interp.{dot}
 use Rattle.sharing.specs.Sharing.{deal}
 use Rattle.sharing.specs.Ready.{Ready}
+use Rattle.sharing.proofs.Polys.{eval-canon}
 
 -- ---- lists of elements
 -- every entry of a list of elements is one, and so is the 0 past its end
@@ -38,6 +39,14 @@ below-by p xs i pos h false e = rw (List·getD-eq-default xs 0 {n = i} (ltb-fals
 
 pub entry-below : (p : ℕ) (xs : List ℕ) (i : ℕ) → Ready p → allBelow p xs ≡ true → getD xs i 0 < p
 entry-below p xs i r h = below-by p xs i (omega (arith, r .prime .above)) h (ltb i (length xs)) refl
+
+pub map-below : (p : ℕ) (f : ℕ → ℕ) (xs : List ℕ) → ((x : ℕ) → f x < p) → allBelow p (map f xs) ≡ true
+unfolding allBelow
+map-below p f [] h = refl
+map-below p f (x ∷ xs) h = rw (lt-ltb (f x) p (h x)) (map-below p f xs h)
+
+pub values-below : (p : ℕ) → 0 < p → (f xs : List ℕ) → allBelow p (map (eval p f) xs) ≡ true
+values-below p pos f xs = map-below p (eval p f) xs (λ x. canon-lt pos (eval-canon f x))
 
 -- ---- the value of a polynomial
 -- one remainder for a step

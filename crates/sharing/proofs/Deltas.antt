@@ -8,10 +8,10 @@ use lib.ListN.{length}
 use Rattle.field.proofs.Solve.{#, quote, solve, combine}
 use Rattle.field.proofs.Inverse.{inv-law, pos, one-canon}
 use Rattle.sharing.proofs.Polys.{eval-canon, eval-linear, length-linear}
-use Rattle.sharing.specs.Interp.{weights, weight, factor, delta}
+use Rattle.sharing.specs.Interp.{delta}
 use Rattle.field.specs.Mod.{add, mul, sub}
-use Rattle.field.specs.Prime.{Prime, inv, invert}
-use Rattle.sharing.specs.Poly.{eval, linear, sumOf, scale}
+use Rattle.field.specs.Prime.{Prime, inv}
+use Rattle.sharing.specs.Poly.{eval}
 
 pub length-delta : (p : ℕ) (cs : List ℕ) → length (delta p cs) ≡ suc (length cs)
 unfolding delta
@@ -33,11 +33,3 @@ module _ {p : ℕ} (prime : Prime p) where
   delta-at (d ∷ cs) c nz (List·Memᴰ·tail m) =
       rw (eval-linear p 1 (sub p 0 (inv p d)) (delta p cs) c, delta-at cs c nz m)
       (solve p (search (quote, # c, # (sub p 0 (inv p d)))) (omega arith))
-
-p4 : delta 11 (3 ∷ []) ≡ 1 ∷ 7 ∷ []
-unfolding delta linear sumOf scale inv invert sub mul add
-p4 = refl
-
-p2 : weights 11 0 (1 ∷ 2 ∷ 3 ∷ []) ≡ 3 ∷ 8 ∷ 1 ∷ []
-unfolding weights weight factor inv invert sub mul add
-p2 = refl

@@ -8,3 +8,5 @@ pub mod Weighing
 pub mod Factors
 pub mod Rows
 pub mod Openings
+pub mod OnOne
+pub mod Worked

@@ -12,7 +12,7 @@ use native.Mathlib.Numerals.{add-one}
 use native.Mathlib.Nat.{mul-le-mul-left, mul-suc, add-sub-cancel-left, eq-or-lt-of-le}
 use native.Mathlib.Omega.{arith}
 use borrow.Author.Needs.{needs}
-use borrow.Author.Tests.{eq-eqb, ne-eqb, lt-ltb}
+use borrow.Author.Tests.{eq-eqb, ne-eqb}
 use lib.Dec.{eqb}
 use lib.ListN.{length, take, drop, getD, length-append, length-take, length-drop, length-map}
 use lib.Seq.{take-all, take-append-add, take-append-le, drop-append-le, drop-at, take-at, getD-take, length-take-le}
@@ -31,7 +31,7 @@ use Rattle.field.proofs.Inverse.{pos}
 use Rattle.sharing.specs.Interp.{weight, weights, dot, interpolate}
 use Rattle.sharing.specs.Sharing.{opened, firstOff, rowsOf, openingRow, openingRows}
 use Rattle.sharing.specs.Ready.{Ready}
-use Rattle.sharing.proofs.Coding.{entry-below}
+use Rattle.sharing.proofs.Coding.{entry-below, map-below}
 use Rattle.sharing.proofs.Weighing.{weight-canon}
 
 -- ---- lists of elements
@@ -40,11 +40,6 @@ take-below p n xs h = at-allBelow p (take n xs) (λ i l. below-at i l)
   where
     below-at : (i : ℕ) → i < length (take n xs) → getD (take n xs) i 0 < p
     below-at i l = rw (getD-take n xs i 0 (omega (arith, length-take n xs))) (allBelow-at p xs i h (omega (arith, length-take n xs)))
-
-map-below : (p : ℕ) (f : ℕ → ℕ) (xs : List ℕ) → ((x : ℕ) → f x < p) → allBelow p (map f xs) ≡ true
-unfolding allBelow
-map-below p f [] h = refl
-map-below p f (x ∷ xs) h = rw (lt-ltb (f x) p (h x)) (map-below p f xs h)
 
 pub weights-below : {p : ℕ} → Prime p → (z : ℕ) (xs : List ℕ) → allBelow p (weights p z xs) ≡ true
 unfolding weights

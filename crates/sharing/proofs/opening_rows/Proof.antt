@@ -6,10 +6,10 @@ use Rattle.sharing.proofs.opening_rows.Statement.{statement}
 use Rattle.sharing.proofs.opening_rows.Tie as tie
 
 abbrev Inv-loop : tie.InvT-loop
-Inv-loop f t points rows₀ k at₀ party₀ rows at party = Written (openingRow (f .p) t points) (t + 1) (length points) rows₀ rows at party
+Inv-loop f t points rows₀ k at₀ row₀ rows at row = Written (openingRow (f .p) t points) (t + 1) (length points) rows₀ rows at row
 
 abbrev μ-loop : tie.MeasureT-loop
-μ-loop f t points rows₀ k at₀ party₀ rows at party = length points - party
+μ-loop f t points rows₀ k at₀ row₀ rows at row = length points - row
 
 add-k : tie.Need-add-k Inv-loop μ-loop
 add-k c = search writing
@@ -44,8 +44,8 @@ part-weights-end c = search writing
 weights-requires : tie.Need-weights-requires Inv-loop μ-loop
 weights-requires c κs = search writing
 
-add-party : tie.Need-add-party Inv-loop μ-loop
-add-party c = search writing
+add-row : tie.Need-add-row Inv-loop μ-loop
+add-row c = search writing
 
 loop-less : tie.Need-loop-less Inv-loop μ-loop
 loop-less c = search writing
@@ -76,7 +76,7 @@ opening-rows-spec =
     part-weights-start
     part-weights-end
     weights-requires
-    add-party
+    add-row
     loop-less
     loop-again
     same-length
