@@ -3,3 +3,4 @@ pub mod Back
 pub mod Differ
 pub mod Private
 pub mod SetMembers
+pub mod IdealLaws
