@@ -4,4 +4,5 @@ pub mod Ways
 pub mod Codes
 pub mod Planned
 pub mod Counts
+pub mod Sizes
 pub mod Valid
