@@ -5,4 +5,5 @@ pub mod Codes
 pub mod Planned
 pub mod Counts
 pub mod Sizes
+pub mod Coalitions
 pub mod Valid

@@ -19,5 +19,8 @@ unfoldable pub members : ℕ → List ℕ
 members set = membersFrom set 1 16
 
 -- the set names no party above n and has at most t members
+abbrev pub setFits : ℕ → ℕ → ℕ → Bool
+setFits n t set = ltb set (2 ^ n) && leb (length (members set)) t
+
 unfoldable pub setOk : Plan → ℕ → Bool
-setOk plan set = ltb set (2 ^ partyCount plan) && leb (length (members set)) (plan .t)
+setOk plan set = setFits (partyCount plan) (plan .t) set
