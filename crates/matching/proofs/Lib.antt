@@ -4,3 +4,4 @@ pub mod Differ
 pub mod Private
 pub mod SetMembers
 pub mod IdealLaws
+pub mod AgreeLaws
