@@ -5,3 +5,4 @@ pub mod Private
 pub mod SetMembers
 pub mod IdealLaws
 pub mod AgreeLaws
+pub mod MoveLaws

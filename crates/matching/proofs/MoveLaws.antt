@@ -1,0 +1,158 @@
+-- What each way through the code that moves coins says of its definition.
+--     Gathered, gathering        the members of a set
+--     Moving, moving             the coins of one dealing
+-- Assumes nothing.
+use mathlib.Core.Path.{_≡_, refl, sym, ap, ap₂, _∙_}
+use mathlib.Core.Bool.{Bool, true, false, cond}
+use mathlib.Core.List.{List, [], _∷_, _++_, map, tail, append-assoc, append-nil}
+use Prim.Native.Nat.{ℕ, zero, suc, _+_, _-_, _*_, _/_, _%_, _^_, _<_, _≤_}
+use native.Mathlib.Numerals.{add-one}
+use native.Mathlib.Nat.{add-zero, mul-zero, mod-lt}
+use native.Mathlib.Omega.{arith}
+use borrow.Author.Needs.{needs}
+use lib.ListN.{length, getD, take, drop, set, length-set, length-append, length-drop}
+use lib.Seq.{take-suc-set, take-set-le, getD-drop, length-take-le, drop-drop}
+use mir.Syntax.{w64}
+use mir.Val.{Fits}
+use Rattle.numbers.specs.Tables.{tab}
+use Rattle.numbers.specs.Bytes.{numbers, stored, allBelow}
+use Rattle.numbers.proofs.Tables.{tab-zero, tab-next, tab-cons, tab-ext}
+use Rattle.numbers.proofs.Bytes.{numbers-length, numbers-stored, length-stored}
+use Rattle.field.specs.Mod.{add, mul, sub}
+use Rattle.field.specs.Field.{Is}
+use Rattle.field.proofs.Products.{word}
+use Rattle.sharing.specs.Poly.{sumOf, scale, padded}
+use Rattle.sharing.specs.Ready.{Ready}
+use Rattle.sharing.proofs.Coding.{entry-below, step-value}
+use Rattle.plan.specs.Coalitions.{inSet, membersFrom, members}
+use Rattle.matching.specs.MatchSteps.{moved, changeOf, movedBlocks, Lent, Written}
+
+-- ---- the members of a set: those below i stand in front
+pub record Gathered (coalition : ℕ) (d : List ℕ) (k i : ℕ) : Type 0 where
+  pub low : 1 ≤ i
+  pub high : i ≤ 17
+  pub few : k + 1 ≤ i
+  pub long : length d ≡ 16
+  pub rest : take k d ++ membersFrom coalition i (17 - i) ≡ members coalition
+
+pub gather-none : (coalition : ℕ) (d : List ℕ) → length d ≡ 16 → Gathered coalition d 0 1
+unfolding members
+gather-none coalition d e = record { low = omega arith; high = omega arith; few = omega arith; long = e; rest = refl }
+
+-- one more where the test holds
+front-with : (coalition : ℕ) (d : List ℕ) (k i n : ℕ) → k < length d → (t : Bool) → inSet coalition i ≡ t
+    → take (k + cond t 1 0) (set d k i) ++ membersFrom coalition (suc i) n ≡ take k d ++ membersFrom coalition i (suc n)
+unfolding membersFrom
+front-with coalition d k i n l true e = rw (e, add-one, take-suc-set d k i l, append-assoc)
+front-with coalition d k i n l false e = rw (e, add-zero, take-set-le k d k i (omega arith))
+
+module _ (coalition : ℕ) (d : List ℕ) (k i : ℕ) (h : Gathered coalition d k i) where
+  pub gather-place : i ≤ 16 → k < length d
+  gather-place l = omega (arith, h .few, h .long)
+
+  pub gather-next : (t : Bool) (o : ℕ) → i ≤ 16 → t ≡ inSet coalition i → o ≡ cond t 1 0 → o ≤ 1 → Gathered coalition (set d k i) (k + o) (i + 1)
+  gather-next t o l et eo le =
+      let e : 17 - i ≡ suc (17 - suc i) = omega (arith, h .high) in
+      record {
+        low = omega arith;
+        high = omega arith;
+        few = omega (arith, h .few);
+        long = length-set d k i ∙ h .long;
+        rest =
+            rw (eo, et, add-one) (front-with coalition d k i (17 - suc i) (gather-place l) (inSet coalition i) refl
+            ∙ ap (λ (n : ℕ). take k d ++ membersFrom coalition i n) (sym e) ∙ h .rest);
+      }
+
+  pub gathered : 16 < i → take k d ≡ members coalition
+  unfolding membersFrom
+  gathered l =
+      let e : 17 - i ≡ 0 = omega (arith, h .high) in
+      sym (append-nil (take k d)) ∙ ap (λ (n : ℕ). take k d ++ membersFrom coalition i n) (sym e) ∙ h .rest
+
+  pub gathered-few : k ≤ 16
+  gathered-few = omega (arith, h .few, h .high)
+
+pub ruleset gathering = (needs, gather-none, gather-place, gather-next, gathered, gathered-few)
+
+-- ---- a change
+module _ (p : ℕ) (m : Bool) (s z : ℕ) where
+  pub change-member : m ≡ true → 0 ≡ changeOf p m s z
+  unfolding changeOf
+  change-member e = rw e
+
+  pub change-other : (r : ℕ) → m ≡ false → r ≡ sub p z s → r ≡ changeOf p m s z
+  unfolding changeOf
+  change-other r e h = rw e h
+
+pub ruleset changing = (needs, change-member, change-other)
+
+-- ---- the coins of one dealing
+-- coin m, moved
+abbrev pub movedAt : ℕ → ℕ → List ℕ → List ℕ → ℕ → ℕ → ℕ
+movedAt p d es cs at m = add p (getD cs (at + m) 0) (mul p d (getD es m 0))
+
+moved-front : (p d : ℕ) (es cs : List ℕ) → length es ≤ length cs → tab (λ m. add p (getD cs m 0) (mul p d (getD es m 0))) (length es) ≡ moved p d es (take (length es) cs)
+unfolding moved tab sumOf scale
+moved-front p d [] cs l = refl
+moved-front p d (e ∷ es) [] l = absurd (omega arith)
+moved-front p d (e ∷ es) (c ∷ cs) l = ap (λ (r : List ℕ). add p c (mul p d e) ∷ r) (moved-front p d es cs (omega arith))
+
+moved-tab : (p d : ℕ) (es cs : List ℕ) (at : ℕ) → at + length es ≤ length cs → tab (movedAt p d es cs at) (length es) ≡ moved p d es (take (length es) (drop at cs))
+moved-tab p d es cs at l =
+    tab-ext (movedAt p d es cs at) (λ m. add p (getD (drop at cs) m 0) (mul p d (getD es m 0))) (length es)
+    (λ m o. ap (λ (c : ℕ). add p c (mul p d (getD es m 0))) (sym (getD-drop at cs m 0)))
+    ∙ moved-front p d es (drop at cs) (omega (arith, length-drop at cs))
+
+-- the invariant at coin j
+pub record Moving (p d : ℕ) (es cs : List ℕ) (at : ℕ) (old new : List ℕ) (j : ℕ) : Type 0 where
+  pub within : j ≤ length es
+  pub room : at + length es ≤ length new / 2
+  pub long : length new ≡ length old
+  pub front : take (at + j) (numbers new) ≡ take at (numbers old) ++ tab (movedAt p d es cs at) j
+
+module _ (p d : ℕ) (es : List ℕ) (at : ℕ) (coins old : List ℕ) where
+  pub move-none : Lent p at (length es) coins old → Moving p d es (numbers coins) at old old 0
+  move-none l = record {
+    within = omega arith;
+    room = l .there;
+    long = refl;
+    front = rw (add-zero, tab-zero (movedAt p d es (numbers coins) at), append-nil);
+  }
+
+  module _ (new : List ℕ) (j : ℕ) (w : Moving p d es (numbers coins) at old new j) where
+    pub move-place : j < length es → length new / 2 < 2 ^ 64 → Fits w64 (at + j)
+    move-place l f = record { fits = omega (arith, w .room) }
+
+    pub move-next :
+        (c : ℕ) (new′ : List ℕ) → Ready p → j < length es → c ≡ getD (numbers coins) (at + j) 0 → new′ ≡ stored new (at + j) ((c + d * getD es j 0) % p)
+        → Moving p d es (numbers coins) at old new′ (j + 1)
+    move-next c new′ r l ec en =
+        let v : ℕ = (c + d * getD es j 0) % p in
+        let small : v < 65536 = omega (arith, mod-lt (c + d * getD es j 0) {m = p} (omega (arith, r .prime .above)), r .small) in
+        let e : at + (j + 1) ≡ suc (at + j) = omega arith in
+        let is : v ≡ movedAt p d es (numbers coins) at j = step-value p c d (getD es j 0) ∙ ap (λ (x : ℕ). add p x (mul p d (getD es j 0))) ec in
+        record {
+          within = omega arith;
+          room = rw (en, length-stored) (w .room);
+          long = ap length en ∙ length-stored new (at + j) v ∙ w .long;
+          front =
+              rw (en, numbers-stored new (at + j) v small, e, take-suc-set (numbers new) (at + j) v (omega (arith, w .room, numbers-length new)), w .front, append-assoc, tab-next, is);
+        }
+
+    pub move-done : length es ≤ j → at + length es ≤ length coins / 2 → Written at (length es) (moved p d es (take (length es) (drop at (numbers coins)))) old new
+    move-done l m =
+        let e : j ≡ length es = omega (arith, w .within) in
+        record {
+          front =
+              ap (λ (i : ℕ). take (at + i) (numbers new)) (sym e) ∙ w .front
+              ∙ ap (λ (i : ℕ). take at (numbers old) ++ tab (movedAt p d es (numbers coins) at) i) e
+              ∙ ap (λ (b : List ℕ). take at (numbers old) ++ b) (moved-tab p d es (numbers coins) at (omega (arith, numbers-length coins)));
+        }
+
+pub coin-fits : (p d c e : ℕ) → Ready p → d < p → c < 65536 → e < p → c + d * e < 2 ^ 64
+coin-fits p d c e r ld lc le = omega (arith, r .small, word d e (omega (arith, r .small)) (omega (arith, r .small)))
+
+pub product-fits : (p d e : ℕ) → Ready p → d < p → e < p → d * e < 2 ^ 64
+product-fits p d e r ld le = omega (arith, r .small, word d e (omega (arith, r .small)) (omega (arith, r .small)))
+
+pub ruleset moving = (needs, entry-below, move-none, move-place, move-next, move-done, coin-fits, product-fits)

@@ -1,0 +1,41 @@
+-- The matching as the code works it: delta's coefficients once, then the coins of every dealing moved by them.
+use Prim.Native.Nat.{ℕ, _+_, _/_, _≤_}
+use mathlib.Core.Path.{_≡_}
+use mathlib.Core.Bool.{Bool, true, cond}
+use mathlib.Core.List.{List, [], _∷_, _++_, map, tail}
+use lib.ListN.{length, take, drop, getD}
+use Rattle.numbers.specs.Bytes.{numbers, allBelow}
+use Rattle.field.specs.Mod.{sub}
+use Rattle.sharing.specs.Poly.{sumOf, scale, padded}
+use Rattle.sharing.specs.Interp.{delta}
+use Rattle.plan.specs.Plans.{Plan, pointOf}
+use Rattle.plan.specs.Coalitions.{inSet, members}
+
+-- the coefficients of X to X^t of the members' delta
+unfoldable pub deltaTail : Plan → ℕ → List ℕ
+deltaTail plan set = tail (padded (plan .t + 1) (delta (plan .p) (map (pointOf plan) (members set))))
+
+-- coins moved by d times the coefficients es
+unfoldable pub moved : ℕ → ℕ → List ℕ → List ℕ → List ℕ
+moved p d es cs = sumOf p cs (scale p d es)
+
+-- by how much a dealer's coins move: the change of what it deals, from s to z; a member's stay
+unfoldable pub changeOf : ℕ → Bool → ℕ → ℕ → ℕ
+changeOf p member s z = cond member 0 (sub p z s)
+
+-- the coins of the dealings by ds, which deal ss in the first run and zs in the matched run, moved
+unfoldable pub movedBlocks : ℕ → ℕ → ℕ → List ℕ → List ℕ → List ℕ → List ℕ → List ℕ → List ℕ
+movedBlocks p t set es [] ss zs cs = []
+movedBlocks p t set es (d ∷ ds) ss zs cs =
+    moved p (changeOf p (inSet set d) (getD ss 0 0) (getD zs 0 0)) es (take t cs)
+    ++ movedBlocks p t set es ds (drop 1 ss) (drop 1 zs) (drop t cs)
+
+-- the coins lent and the room for the new ones, k from place `at` on
+pub record Lent (p at k : ℕ) (coins out : List ℕ) : Type 0 where
+  pub below : allBelow p (numbers coins) ≡ true
+  pub here : at + k ≤ length coins / 2
+  pub there : at + k ≤ length out / 2
+
+-- k numbers are written from place `at` on, and those before it stay
+pub record Written (at k : ℕ) (block old new : List ℕ) : Type 0 where
+  pub front : take (at + k) (numbers new) ≡ take at (numbers old) ++ block

@@ -1,0 +1,70 @@
+// The coins of the matched run. Both runs' tables of shares are worked side by side, gate by gate.
+use field::Field;
+use plan::Gate;
+use plan::Header;
+ghost use mathlib.Core.Path.{_≡_};
+ghost use mathlib.Core.Bool.{true, cond};
+ghost use Prim.Native.Nat.{suc, _+_, _*_, _/_, _<_, _≤_};
+ghost use lib.ListN.{length, take, drop};
+ghost use Rattle.numbers.specs.Tables.{tab};
+ghost use Rattle.numbers.specs.Bytes.{numbers, allBelow};
+ghost use Rattle.field.specs.Field.{Below2, Is};
+ghost use Rattle.sharing.specs.Ready.{Ready};
+ghost use Rattle.plan.specs.Coalitions.{inSet, members};
+ghost use Rattle.matching.specs.MatchSteps.{moved, changeOf, movedBlocks, Lent, Written};
+
+// ---- the members
+
+fn one_if(t: bool) -> usize
+    ensures { λ r. ⌜ record { eq : r ≡ cond t 1 0; le : r ≤ 1 } ⌝ }
+{
+    if t {
+        return 1;
+    }
+    0
+}
+
+// The members of a set, ascending, in front of the room; how many they are.
+fn members(set: u16, room: &mut [u64]) -> usize
+    requires { ⌜ length (now room) ≡ 16 ⌝ }
+    ensures { λ k. ⌜ record { eq : take k (now (room .exit)) ≡ members set; le : k ≤ 16 } ⌝ }
+{
+    let mut k: usize = 0;
+    let mut i: usize = 1;
+    while i <= 16 {
+        room[k] = i as u64;
+        k += one_if(plan::is_member(set, i));
+        i += 1;
+    }
+    k
+}
+
+// ---- the coins of one dealing
+
+// By how much a dealer's coins move: the change of what it deals; a member's stay.
+fn change(f: Field, member: bool, before: u64, after: u64) -> u64
+    requires { ⌜ Below2 (f .p) after before ⌝ }
+    ensures { λ r. ⌜ Is (f .p) (changeOf (f .p) member before after) r ⌝ }
+{
+    if member {
+        return 0;
+    }
+    f.sub(after, before)
+}
+
+// Writes a dealing's coins, moved by d times delta's coefficients, with one remainder for each.
+fn move_coins(f: Field, d: u64, delta: &[u64], coins: &[u8], at: usize, out: &mut [u8])
+    requires { ⌜ Ready (f .p) ⌝ }
+    requires { ⌜ d < f .p ⌝ }
+    requires { ⌜ allBelow (f .p) (now delta) ≡ true ⌝ }
+    requires { ⌜ Lent (f .p) at (length (now delta)) (now coins) (now out) ⌝ }
+    ensures { λ _. ⌜ Written at (length (now (delta .entry))) (moved (f .p) d (now (delta .entry)) (take (length (now (delta .entry))) (drop at (numbers (now (coins .entry)))))) (now (out .entry)) (now (out .exit)) ⌝ }
+{
+    let mut j: usize = 0;
+    while j < delta.len() {
+        let place = at + j;
+        let coin = numbers::read(coins, place);
+        numbers::write(out, place, (coin + d * delta[j]) % f.p);
+        j += 1;
+    }
+}
