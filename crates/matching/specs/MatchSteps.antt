@@ -1,13 +1,17 @@
 -- The matching as the code works it: delta's coefficients once, then the coins of every dealing moved by them.
-use Prim.Native.Nat.{ℕ, _+_, _/_, _≤_}
+use Prim.Native.Nat.{ℕ, suc, _+_, _*_, _/_, _≤_}
 use mathlib.Core.Path.{_≡_}
 use mathlib.Core.Bool.{Bool, true, cond}
 use mathlib.Core.List.{List, [], _∷_, _++_, map, tail}
 use lib.ListN.{length, take, drop, getD}
+use Rattle.numbers.specs.Tables.{tab}
 use Rattle.numbers.specs.Bytes.{numbers, allBelow}
-use Rattle.field.specs.Mod.{sub}
+use Rattle.field.specs.Mod.{mul, sub}
 use Rattle.sharing.specs.Poly.{sumOf, scale, padded}
 use Rattle.sharing.specs.Interp.{delta}
+use Rattle.plan.specs.declared.Gate.{Gate}
+use Rattle.plan.specs.declared.Gate.the-variants.{Input, Add, Scale, Offset, Multiply}
+use Rattle.plan.specs.declared.Header.{Header}
 use Rattle.plan.specs.Plans.{Plan, pointOf}
 use Rattle.plan.specs.Coalitions.{inSet, members}
 
@@ -39,3 +43,25 @@ pub record Lent (p at k : ℕ) (coins out : List ℕ) : Type 0 where
 -- k numbers are written from place `at` on, and those before it stay
 pub record Written (at k : ℕ) (block old new : List ℕ) : Type 0 where
   pub front : take (at + k) (numbers new) ≡ take at (numbers old) ++ block
+
+-- and `next` is the place after them
+pub record Advanced (at k : ℕ) (block old new : List ℕ) (next : ℕ) : Type 0 where
+  pub front : take (at + k) (numbers new) ≡ take at (numbers old) ++ block
+  pub place : next ≡ at + k
+
+-- who deals at a gate
+unfoldable pub dealersIn : ℕ → Gate → List ℕ
+dealersIn t (Input s) = s ∷ []
+dealersIn t (Add a b) = []
+dealersIn t (Scale a c) = []
+dealersIn t (Offset a c) = []
+dealersIn t (Multiply a b) = tab suc (t + t + 1)
+
+-- what they deal, by a table of shares
+unfoldable pub dealtIn : Header → Gate → List ℕ → ℕ → List ℕ
+dealtIn h (Input s) table v = v ∷ []
+dealtIn h (Add a b) table v = []
+dealtIn h (Scale a c) table v = []
+dealtIn h (Offset a c) table v = []
+dealtIn h (Multiply a b) table v =
+    tab (λ j. mul (h .field .p) (getD table (h .n * a + j) 0) (getD table (h .n * b + j) 0)) (h .t + h .t + 1)

@@ -4,6 +4,7 @@ use plan::Gate;
 use plan::Header;
 ghost use mathlib.Core.Path.{_≡_};
 ghost use mathlib.Core.Bool.{true, cond};
+ghost use mathlib.Core.List.{[], _∷_};
 ghost use Prim.Native.Nat.{suc, _+_, _*_, _/_, _<_, _≤_};
 ghost use lib.ListN.{length, take, drop};
 ghost use Rattle.numbers.specs.Tables.{tab};
@@ -11,7 +12,7 @@ ghost use Rattle.numbers.specs.Bytes.{numbers, allBelow};
 ghost use Rattle.field.specs.Field.{Below2, Is};
 ghost use Rattle.sharing.specs.Ready.{Ready};
 ghost use Rattle.plan.specs.Coalitions.{inSet, members};
-ghost use Rattle.matching.specs.MatchSteps.{moved, changeOf, movedBlocks, Lent, Written};
+ghost use Rattle.matching.specs.MatchSteps.{moved, changeOf, movedBlocks, Lent, Written, Advanced};
 
 // ---- the members
 
@@ -67,4 +68,61 @@ fn move_coins(f: Field, d: u64, delta: &[u64], coins: &[u8], at: usize, out: &mu
         numbers::write(out, place, (coin + d * delta[j]) % f.p);
         j += 1;
     }
+}
+
+// ---- the coins of one gate; each answers the place after them
+
+// Those of an input's dealing.
+fn match_input(
+    f: Field,
+    set: u16,
+    party: usize,
+    before: u64,
+    after: u64,
+    delta: &[u64],
+    coins: &[u8],
+    at: usize,
+    out: &mut [u8],
+) -> usize
+    requires { ⌜ Ready (f .p) ⌝ }
+    requires { ⌜ (before < f .p) × (after < f .p) ⌝ }
+    requires { ⌜ allBelow (f .p) (now delta) ≡ true ⌝ }
+    requires { ⌜ Lent (f .p) at (length (now delta)) (now coins) (now out) ⌝ }
+    ensures { λ r. ⌜ Advanced at (length (now (delta .entry))) (movedBlocks (f .p) (length (now (delta .entry))) set (now (delta .entry)) (party ∷ []) (before ∷ []) (after ∷ []) (drop at (numbers (now (coins .entry))))) (now (out .entry)) (now (out .exit)) r ⌝ }
+{
+    let d = change(f, plan::is_member(set, party), before, after);
+    move_coins(f, d, delta, coins, at, out);
+    at + delta.len()
+}
+
+// Those of the dealings by parties 1 to m, of their products in both runs.
+fn match_products(
+    f: Field,
+    set: u16,
+    m: usize,
+    before: [u64; 15],
+    after: [u64; 15],
+    delta: &[u64],
+    coins: &[u8],
+    at: usize,
+    out: &mut [u8],
+) -> usize
+    requires { ⌜ Ready (f .p) ⌝ }
+    requires { ⌜ m ≤ 15 ⌝ }
+    requires { ⌜ allBelow (f .p) (take m before) ≡ true ⌝ }
+    requires { ⌜ allBelow (f .p) (take m after) ≡ true ⌝ }
+    requires { ⌜ allBelow (f .p) (now delta) ≡ true ⌝ }
+    requires { ⌜ Lent (f .p) at (length (now delta) * m) (now coins) (now out) ⌝ }
+    ensures { λ r. ⌜ Advanced at (length (now (delta .entry)) * m) (movedBlocks (f .p) (length (now (delta .entry))) set (now (delta .entry)) (tab suc m) (take m before) (take m after) (drop at (numbers (now (coins .entry))))) (now (out .entry)) (now (out .exit)) r ⌝ }
+{
+    let t = delta.len();
+    let mut place = at;
+    let mut i: usize = 0;
+    while i < m {
+        let d = change(f, plan::is_member(set, i + 1), before[i], after[i]);
+        move_coins(f, d, delta, coins, place, out);
+        place += t;
+        i += 1;
+    }
+    place
 }
