@@ -6,6 +6,10 @@ pub mod Counts
 pub mod Sound
 pub mod Openings
 pub mod Below
-pub mod Tables
+pub mod Worked
 pub mod Wires
-pub mod Accepted
+pub mod RowLaws
+pub mod PowerLaws
+pub mod DealLaws
+pub mod GridLaws
+pub mod StepLaws

@@ -104,7 +104,7 @@ module _ {g : ℕ → List ℕ} {k n : ℕ} {d₀ d : List ℕ} {at j : ℕ} (h 
     unfolding after rowsOf
     written-next = record { within = omega arith; place = omega (arith, h .place, next-at k j); size = h .size; long = same-long ∙ h .long; front = seam ∙ rw (add-one, h .front, is) }
 
-written-done : (g : ℕ → List ℕ) (k n : ℕ) (d₀ d : List ℕ) (at j : ℕ) → n ≤ j → Written g k n d₀ d at j → d ≡ rowsOf g n
+pub written-done : (g : ℕ → List ℕ) (k n : ℕ) (d₀ d : List ℕ) (at j : ℕ) → n ≤ j → Written g k n d₀ d at j → d ≡ rowsOf g n
 written-done g k n d₀ d at j l h =
     let q : j ≡ n = omega (arith, h .within) in
     let r : k * j ≡ k * n = ap (λ (i : ℕ). k * i) q in
