@@ -3,6 +3,7 @@ pub mod Blocks
 pub mod States
 pub mod Carried
 pub mod Counts
+pub mod Accepted
 pub mod Sound
 pub mod Openings
 pub mod Below
