@@ -12,8 +12,8 @@ use native.Mathlib.Nat.{mul-suc, mul-zero, add-zero, mul-one, mul-le-mul}
 use native.Mathlib.Omega.{arith}
 use borrow.Author.Needs.{needs}
 use borrow.Author.Tests.{lt-ltb}
-use lib.ListN.{length, take, drop, set, getD, length-set, length-take, length-drop, length-map}
-use lib.Seq.{paste, paste-zero, paste-suc, length-paste, take-paste, drop-paste, getD-take, getD-drop, take-at, length-take-le}
+use lib.ListN.{length, take, drop, set, getD, length-set, length-append, length-take, length-drop, length-map}
+use lib.Seq.{paste, paste-zero, paste-suc, length-paste, take-paste, drop-paste, getD-take, getD-drop, take-at, take-take, length-take-le}
 use mir.Syntax.{w64}
 use mir.Val.{Fits}
 use Rattle.numbers.specs.Tables.{tab}
@@ -199,3 +199,68 @@ pub weights-few : (t n : ℕ) (ws : List ℕ) → 2 * t < n → n ≤ 15 → len
 weights-few t n ws l m e = omega arith
 
 pub ruleset multiplying = (needs, dealers-within, products-below, pieces-elements, multiply-row, weights-few)
+
+-- ---- what is worked out once for a plan
+module _ (h : Header) (s : Sized h) where
+  powers-few : (h .t + 1) * h .n ≤ 120
+  powers-few = omega (arith, s .many, s .majority, mul-le-mul {n₁ = h .t + 1} {m₁ = h .n} {n₂ = 8} {m₂ = 15} (omega (arith, s .many, s .majority)) (s .many))
+
+  pub powers-fit : Fits w64 ((h .t + 1) * h .n)
+  powers-fit = record { fits = omega (arith, powers-few) }
+
+  module _ (rows : List ℕ) (room : 120 ≤ length rows) where
+    pub powers-within : (h .t + 1) * h .n ≤ length rows
+    powers-within = omega (arith, powers-few)
+
+    pub powers-count : (h .t + 1) * h .n ≡ length (take ((h .t + 1) * h .n) rows)
+    powers-count = sym (length-take-le ((h .t + 1) * h .n) rows powers-within)
+
+  module _ (ws : List ℕ) (wide : 15 ≤ length ws) where
+    pub weights-within : h .t + h .t + 1 ≤ length ws
+    weights-within = omega (arith, s .many, s .majority)
+
+    pub weights-count : h .t + h .t + 1 ≡ length (take (h .t + h .t + 1) ws)
+    weights-count = sym (length-take-le (h .t + h .t + 1) ws weights-within)
+
+  module _ (ps : List ℕ) (long : length ps ≡ 15) where
+    pub points-count : h .n ≡ length (take (h .n) ps)
+    points-count = sym (length-take-le (h .n) ps (omega (arith, s .many)))
+
+    pub dealers-count : h .t + h .t + 1 ≡ length (take (h .t + h .t + 1) ps)
+    dealers-count = sym (length-take-le (h .t + h .t + 1) ps (omega (arith, s .many, s .majority)))
+
+    module _ (is : take (h .n) ps ≡ tab suc (h .n)) where
+      pub points-below : allBelow (h .field .p) (take (h .n) ps) ≡ true
+      points-below =
+          rw is (at-allBelow (h .field .p) (tab suc (h .n)) (λ i l. let m : i < h .n = rw length-tab at l in rw (getD-tab suc (h .n) i 0 m) (omega (arith, s .small))))
+
+      first : take (h .t + h .t + 1) ps ≡ take (h .t + h .t + 1) (take (h .n) ps)
+      first = sym (take-take (h .t + h .t + 1) (h .n) ps (omega (arith, s .majority)))
+
+      pub dealers-below : allBelow (h .field .p) (take (h .t + h .t + 1) ps) ≡ true
+      dealers-below = rw first (allBelow-take (h .field .p) (h .t + h .t + 1) (take (h .n) ps) points-below)
+
+      module _ (rows ws : List ℕ) (room : 120 ≤ length rows) (wide : 15 ≤ length ws) where
+        pub powers-long : length (take ((h .t + 1) * h .n) rows) ≡ (h .t + 1) * length (take (h .n) ps)
+        powers-long = sym (powers-count rows room) ∙ ap (λ (n : ℕ). (h .t + 1) * n) points-count
+
+        pub weights-long : length (take (h .t + h .t + 1) ws) ≡ length (take (h .t + h .t + 1) ps)
+        weights-long = sym (weights-count ws wide) ∙ dealers-count
+
+        pub prepared : (ys zs : List ℕ) → length ys ≡ length (take ((h .t + 1) * h .n) rows) → ys ≡ powerRows (h .field .p) (h .t + 1) (take (h .n) ps)
+            → length zs ≡ length (take (h .t + h .t + 1) ws) → zs ≡ weights (h .field .p) 0 (take (h .t + h .t + 1) ps)
+            → Prepared h (ys ++ drop ((h .t + 1) * h .n) rows) (zs ++ drop (h .t + h .t + 1) ws)
+        prepared ys zs ly ey lz ez =
+            let a : length ys ≡ (h .t + 1) * h .n = ly ∙ sym (powers-count rows room) in
+            let b : length zs ≡ h .t + h .t + 1 = lz ∙ sym (weights-count ws wide) in
+            record {
+              room = rw (length-append ys (drop ((h .t + 1) * h .n) rows)) (omega arith);
+              powers = take-at ys (drop ((h .t + 1) * h .n) rows) ((h .t + 1) * h .n) a ∙ ey ∙ ap (powerRows (h .field .p) (h .t + 1)) is;
+              wide = rw (length-append zs (drop (h .t + h .t + 1) ws)) (omega arith);
+              weighs = take-at zs (drop (h .t + h .t + 1) ws) (h .t + h .t + 1) b ∙ ez ∙ ap (weights (h .field .p) 0) (first ∙ ap (take (h .t + h .t + 1)) is);
+            }
+
+pub ready-above : (p : ℕ) → Ready p → 0 < p
+ready-above p r = pos (r .prime)
+
+pub ruleset preparing = (needs, ready-above, powers-fit, powers-within, powers-count, weights-within, weights-count, points-count, dealers-count, points-below, dealers-below, powers-long, weights-long, prepared)

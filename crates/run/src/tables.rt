@@ -79,7 +79,7 @@ pub fn prepare(h: Header, rows: &mut [u64], weights: &mut [u64])
     let f = h.field;
     let n = h.n;
     let k = h.t + 1;
-    let m = h.t + k;
+    let m = h.t + h.t + 1;
     let e = k * n;
     let points = points(n);
     power_rows(f, k, &points[..n], &mut rows[..e]);
@@ -298,7 +298,15 @@ fn multiply_row(
 // ---- one gate
 
 // An input gate's row: the input is dealt.
-fn input_row(f: Field, n: usize, t: usize, rows: &[u64], x: u64, coins: &[u8], at: usize) -> [u64; 15]
+fn input_row(
+    f: Field,
+    n: usize,
+    t: usize,
+    rows: &[u64],
+    x: u64,
+    coins: &[u8],
+    at: usize,
+) -> [u64; 15]
     requires { ⌜ Ready (f .p) ⌝ }
     requires { ⌜ (2 * t < n) × (n ≤ 15) ⌝ }
     requires { ⌜ Powered (f .p) (t + 1) (tab suc n) (now rows) ⌝ }
