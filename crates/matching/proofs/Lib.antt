@@ -6,3 +6,5 @@ pub mod SetMembers
 pub mod IdealLaws
 pub mod AgreeLaws
 pub mod MoveLaws
+pub mod GateMoveLaws
+pub mod MemberLaws

@@ -1,12 +1,12 @@
 -- The matching as the code works it: delta's coefficients once, then the coins of every dealing moved by them.
-use Prim.Native.Nat.{ℕ, suc, _+_, _*_, _/_, _≤_}
+use Prim.Native.Nat.{ℕ, suc, _+_, _/_, _≤_}
 use mathlib.Core.Path.{_≡_}
 use mathlib.Core.Bool.{Bool, true, cond}
 use mathlib.Core.List.{List, [], _∷_, _++_, map, tail}
 use lib.ListN.{length, take, drop, getD}
 use Rattle.numbers.specs.Tables.{tab}
 use Rattle.numbers.specs.Bytes.{numbers, allBelow}
-use Rattle.field.specs.Mod.{mul, sub}
+use Rattle.field.specs.Mod.{sub}
 use Rattle.sharing.specs.Poly.{sumOf, scale, padded}
 use Rattle.sharing.specs.Interp.{delta}
 use Rattle.plan.specs.declared.Gate.{Gate}
@@ -14,6 +14,7 @@ use Rattle.plan.specs.declared.Gate.the-variants.{Input, Add, Scale, Offset, Mu
 use Rattle.plan.specs.declared.Header.{Header}
 use Rattle.plan.specs.Plans.{Plan, pointOf}
 use Rattle.plan.specs.Coalitions.{inSet, members}
+use Rattle.run.specs.Rows.{productsOf}
 
 -- the coefficients of X to X^t of the members' delta
 unfoldable pub deltaTail : Plan → ℕ → List ℕ
@@ -64,4 +65,4 @@ dealtIn h (Add a b) table v = []
 dealtIn h (Scale a c) table v = []
 dealtIn h (Offset a c) table v = []
 dealtIn h (Multiply a b) table v =
-    tab (λ j. mul (h .field .p) (getD table (h .n * a + j) 0) (getD table (h .n * b + j) 0)) (h .t + h .t + 1)
+    productsOf (h .field .p) (h .n) (h .t + h .t + 1) a b table

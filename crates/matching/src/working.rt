@@ -11,8 +11,10 @@ ghost use Rattle.numbers.specs.Tables.{tab};
 ghost use Rattle.numbers.specs.Bytes.{numbers, allBelow};
 ghost use Rattle.field.specs.Field.{Below2, Is};
 ghost use Rattle.sharing.specs.Ready.{Ready};
+ghost use Rattle.plan.specs.File.{gateOk};
 ghost use Rattle.plan.specs.Coalitions.{inSet, members};
-ghost use Rattle.matching.specs.MatchSteps.{moved, changeOf, movedBlocks, Lent, Written, Advanced};
+ghost use Rattle.run.specs.Rows.{productsOf, Sized, Rowed, Standing};
+ghost use Rattle.matching.specs.MatchSteps.{moved, changeOf, movedBlocks, dealersIn, dealtIn, Lent, Written, Advanced};
 
 // ---- the members
 
@@ -125,4 +127,75 @@ fn match_products(
         i += 1;
     }
     place
+}
+
+// What a multiply gate's dealers deal in a run: each one's own product of its two shares.
+fn products(h: Header, a: usize, b: usize, table: &[u64]) -> [u64; 15]
+    requires { ⌜ Sized h ⌝ }
+    requires { ⌜ Rowed (h .field .p) (h .n) a (now table) ⌝ }
+    requires { ⌜ Rowed (h .field .p) (h .n) b (now table) ⌝ }
+    ensures { λ r. ⌜ record { eq : take (h .t + h .t + 1) r ≡ productsOf (h .field .p) (h .n) (h .t + h .t + 1) a b (now (table .entry)); below : allBelow (h .field .p) (take (h .t + h .t + 1) r) ≡ true } ⌝ }
+{
+    run::tables::products(h.field, h.n, h.t + h.t + 1, a, b, table)
+}
+
+// Those of a multiply gate's dealings, by both runs' tables.
+fn match_multiply(
+    h: Header,
+    set: u16,
+    a: usize,
+    b: usize,
+    delta: &[u64],
+    before: &[u64],
+    after: &[u64],
+    coins: &[u8],
+    at: usize,
+    out: &mut [u8],
+) -> usize
+    requires { ⌜ Sized h ⌝ }
+    requires { ⌜ (Rowed (h .field .p) (h .n) a (now before)) × (Rowed (h .field .p) (h .n) b (now before)) ⌝ }
+    requires { ⌜ (Rowed (h .field .p) (h .n) a (now after)) × (Rowed (h .field .p) (h .n) b (now after)) ⌝ }
+    requires { ⌜ allBelow (h .field .p) (now delta) ≡ true ⌝ }
+    requires { ⌜ Lent (h .field .p) at (length (now delta) * (h .t + h .t + 1)) (now coins) (now out) ⌝ }
+    ensures { λ r. ⌜ Advanced at (length (now (delta .entry)) * (h .t + h .t + 1)) (movedBlocks (h .field .p) (length (now (delta .entry))) set (now (delta .entry)) (tab suc (h .t + h .t + 1)) (productsOf (h .field .p) (h .n) (h .t + h .t + 1) a b (now (before .entry))) (productsOf (h .field .p) (h .n) (h .t + h .t + 1) a b (now (after .entry))) (drop at (numbers (now (coins .entry))))) (now (out .entry)) (now (out .exit)) r ⌝ }
+{
+    let m = h.t + h.t + 1;
+    let first = products(h, a, b, before);
+    let second = products(h, a, b, after);
+    match_products(h.field, set, m, first, second, delta, coins, at, out)
+}
+
+// Those of gate g, which takes the input x in the first run and y in the second.
+fn match_gate(
+    h: Header,
+    set: u16,
+    g: usize,
+    gate: Gate,
+    x: u64,
+    y: u64,
+    delta: &[u64],
+    before: &[u64],
+    after: &[u64],
+    coins: &[u8],
+    at: usize,
+    out: &mut [u8],
+) -> usize
+    requires { ⌜ Sized h ⌝ }
+    requires { ⌜ gateOk (h .n) (h .field .p) g gate ≡ true ⌝ }
+    requires { ⌜ (x < h .field .p) × (y < h .field .p) ⌝ }
+    requires { ⌜ Standing (h .field .p) (h .n) g (now before) ⌝ }
+    requires { ⌜ Standing (h .field .p) (h .n) g (now after) ⌝ }
+    requires { ⌜ (length (now delta) ≡ h .t) × (allBelow (h .field .p) (now delta) ≡ true) ⌝ }
+    requires { ⌜ Lent (h .field .p) at (h .t * length (dealersIn (h .t) gate)) (now coins) (now out) ⌝ }
+    ensures { λ r. ⌜ Advanced at (h .t * length (dealersIn (h .t) gate)) (movedBlocks (h .field .p) (h .t) set (now (delta .entry)) (dealersIn (h .t) gate) (dealtIn h gate (now (before .entry)) x) (dealtIn h gate (now (after .entry)) y) (drop at (numbers (now (coins .entry))))) (now (out .entry)) (now (out .exit)) r ⌝ }
+{
+    match gate {
+        Gate::Input(party) => match_input(h.field, set, party, x, y, delta, coins, at, out),
+        Gate::Add(_, _) => at,
+        Gate::Scale(_, _) => at,
+        Gate::Offset(_, _) => at,
+        Gate::Multiply(a, b) => {
+            match_multiply(h, set, a, b, delta, before, after, coins, at, out)
+        }
+    }
 }
