@@ -14,3 +14,5 @@ pub mod PowerLaws
 pub mod DealLaws
 pub mod GridLaws
 pub mod StepLaws
+pub mod GateLaws
+pub mod FillLaws

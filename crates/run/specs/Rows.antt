@@ -5,14 +5,14 @@ use mathlib.Core.Bool.{true}
 use mathlib.Core.List.{List, [], _∷_, _++_, map, flatMap}
 use lib.ListN.{length, take, drop, getD}
 use Rattle.numbers.specs.Tables.{tab}
-use Rattle.numbers.specs.Bytes.{allBelow}
+use Rattle.numbers.specs.Bytes.{numbers, allBelow}
 use Rattle.field.specs.Mod.{mul}
 use Rattle.sharing.specs.Poly.{eval}
 use Rattle.sharing.specs.Interp.{weights, dot}
 use Rattle.sharing.specs.Ready.{Ready}
 use Rattle.plan.specs.declared.Gate.{Gate}
 use Rattle.plan.specs.declared.Header.{Header}
-use Rattle.plan.specs.Plans.{Plan}
+use Rattle.plan.specs.Plans.{Plan, inputCount, coinCount}
 use Rattle.run.specs.Shares.{gateShare, coinsTaken}
 
 -- the rows of these wires, one after the other: each wire's shares at the points
@@ -99,3 +99,10 @@ pub record Worked (plan : Plan) (n : ℕ) (gate : Gate) (g x : ℕ) (cs table ro
 pub record Stepped (plan : Plan) (n : ℕ) (gate : Gate) (g x : ℕ) (cs old new : List ℕ) : Type 0 where
   pub next : (env : List (ℕ → ℕ)) → take (n * g) old ≡ rowsOf (plan .points) env → take (n * (g + 1)) new ≡ rowsOf (plan .points) (env ++ (gateShare plan gate env x cs ∷ []))
   pub rest : drop (n * (g + 1)) new ≡ drop (n * (g + 1)) old
+
+-- what a run is given: a full list of inputs and a full setting of coins, lent as bytes
+pub record Given (plan : Plan) (inputs coins : List ℕ) : Type 0 where
+  pub inputs-count : length inputs ≡ 2 * inputCount plan
+  pub inputs-below : allBelow (plan .p) (numbers inputs) ≡ true
+  pub coins-count : length coins ≡ 2 * coinCount plan
+  pub coins-below : allBelow (plan .p) (numbers coins) ≡ true

@@ -19,7 +19,7 @@ ghost use Rattle.plan.specs.Planned.{Planned};
 ghost use Rattle.plan.specs.File.{planOf, gateAt};
 ghost use Rattle.run.specs.Ideal.{inputsTaken};
 ghost use Rattle.run.specs.Shares.{sharings, coinsTaken, shareTable};
-ghost use Rattle.run.specs.Rows.{rowsOf, powers, powerRows, productsOf, mixedAt, column, Sized, Prepared, Powered, Coined, Dealt, Elements, Rowed, Standing, Taking, Worked, Stepped};
+ghost use Rattle.run.specs.Rows.{rowsOf, powers, powerRows, productsOf, mixedAt, column, Sized, Prepared, Powered, Coined, Dealt, Elements, Rowed, Standing, Taking, Worked, Stepped, Given};
 
 // ---- what is worked out once for a plan
 
@@ -318,6 +318,51 @@ fn input_row(
     dealing(f, n, t + 1, rows, polynomial)
 }
 
+// The row of gate g's wire, from the rows of the wires below it.
+fn gate_row(
+    plan: &[u8],
+    h: Header,
+    rows: &[u64],
+    weights: &[u64],
+    g: usize,
+    x: u64,
+    coins: &[u8],
+    at: usize,
+    table: &[u64],
+) -> [u64; 15]
+    requires { ⌜ Planned (now plan) h ⌝ }
+    requires { ⌜ g < h .gates ⌝ }
+    requires { ⌜ Prepared h (now rows) (now weights) ⌝ }
+    requires { ⌜ x < h .field .p ⌝ }
+    requires { ⌜ Taking (planOf (now plan)) (gateAt (now plan) g) at (numbers (now coins)) ⌝ }
+    requires { ⌜ Standing (h .field .p) (h .n) g (now table) ⌝ }
+    ensures { λ r. ⌜ Worked (planOf (now (plan .entry))) (h .n) (gateAt (now (plan .entry)) g) g x (drop at (numbers (now (coins .entry)))) (now (table .entry)) r ⌝ }
+{
+    let f = h.field;
+    let n = h.n;
+    let t = h.t;
+    let dealers = t + t + 1;
+    let gate = plan::gate_at(plan, g);
+    match gate {
+        Gate::Input(_) => input_row(f, n, t, rows, x, coins, at),
+        Gate::Add(a, b) => add_row(f, n, a, b, table),
+        Gate::Scale(a, c) => scale_row(f, n, a, c, table),
+        Gate::Offset(a, c) => offset_row(f, n, a, c, table),
+        Gate::Multiply(a, b) => multiply_row(
+            f,
+            n,
+            t,
+            rows,
+            &weights[..dealers],
+            a,
+            b,
+            coins,
+            at,
+            table,
+        ),
+    }
+}
+
 // Writes a row's first n entries from one place of the table on.
 fn put_row(table: &mut [u64], at: usize, row: [u64; 15], n: usize)
     requires { ⌜ n ≤ 15 ⌝ }
@@ -329,6 +374,33 @@ fn put_row(table: &mut [u64], at: usize, row: [u64; 15], n: usize)
         table[at + j] = row[j];
         j += 1;
     }
+}
+
+// Works gate g for all parties: sets the row of its wire, from the rows of the wires below it. x is the next input; the gate's coins stand from place `at` on.
+pub fn step(
+    plan: &[u8],
+    h: Header,
+    rows: &[u64],
+    weights: &[u64],
+    g: usize,
+    x: u64,
+    coins: &[u8],
+    at: usize,
+    table: &mut [u64],
+)
+    requires { ⌜ Planned (now plan) h ⌝ }
+    requires { ⌜ g < h .gates ⌝ }
+    requires { ⌜ Prepared h (now rows) (now weights) ⌝ }
+    requires { ⌜ x < h .field .p ⌝ }
+    requires { ⌜ Taking (planOf (now plan)) (gateAt (now plan) g) at (numbers (now coins)) ⌝ }
+    requires { ⌜ Standing (h .field .p) (h .n) g (now table) ⌝ }
+    requires { ⌜ h .n * h .gates ≤ length (now table) ⌝ }
+    ensures { λ _. ⌜ Stepped (planOf (now (plan .entry))) (h .n) (gateAt (now (plan .entry)) g) g x (drop at (numbers (now (coins .entry)))) (now (table .entry)) (now (table .exit)) ⌝ }
+{
+    let n = h.n;
+    let start = n * g;
+    let row = gate_row(plan, h, rows, weights, g, x, coins, at, table);
+    put_row(table, start, row, n);
 }
 
 // ---- a run
@@ -367,5 +439,30 @@ pub fn taken_at(plan: &[u8], h: Header, g: usize) -> Taken
             inputs: 0,
             coins: t * (t + t + 1),
         },
+    }
+}
+
+// The table of a run: every party's share of every wire, in front of what the table holds beyond.
+pub fn fill(plan: &[u8], h: Header, inputs: &[u8], coins: &[u8], table: &mut [u64])
+    requires { ⌜ Planned (now plan) h ⌝ }
+    requires { ⌜ Given (planOf (now plan)) (now inputs) (now coins) ⌝ }
+    requires { ⌜ h .n * h .gates ≤ length (now table) ⌝ }
+    ensures { λ _. ⌜ take (h .n * h .gates) (now (table .exit)) ≡ rowsOf (planOf (now (plan .entry)) .points) (shareTable (planOf (now (plan .entry))) (numbers (now (inputs .entry))) (numbers (now (coins .entry)))) ⌝ }
+    ensures { λ _. ⌜ drop (h .n * h .gates) (now (table .exit)) ≡ drop (h .n * h .gates) (now (table .entry)) ⌝ }
+{
+    let mut rows = [0u64; 120];
+    let mut weights = [0u64; 15];
+    prepare(h, &mut rows, &mut weights);
+    let gates = h.gates;
+    let mut i: usize = 0;
+    let mut at: usize = 0;
+    let mut g: usize = 0;
+    while g < gates {
+        let x = numbers::read(inputs, i);
+        step(plan, h, &rows, &weights, g, x, coins, at, table);
+        let taken = taken_at(plan, h, g);
+        i += taken.inputs;
+        at += taken.coins;
+        g += 1;
     }
 }
