@@ -3,7 +3,7 @@
 --     Comparing, comparing     the search for an input that differs
 --     outing                   the search for an out that differs
 --     pairing                  all checks
---     Matchable, matchable     what a pair that passes is
+--     matchable                what a pair that passes is
 -- Assumes nothing.
 use mathlib.Core.Path.{_≡_, refl, sym, ap, ap₂, _∙_}
 use mathlib.Core.Bool.{Bool, true, false, cond, not, _&&_, _||_}
@@ -45,6 +45,7 @@ use Rattle.run.specs.Ideal.{inputsTaken, values}
 use Rattle.run.proofs.Wires.{values-length}
 use Rattle.matching.specs.MatchCalls.{inputOwners, inputsAgree, outsAgree, pairChecks}
 use Rattle.matching.specs.MatchParts.{inputChecks, coinChecks, agreeChecks, inputAgrees, gateAgrees, outAgrees, outAgreesAt}
+use Rattle.matching.specs.MatchSteps.{Matchable}
 use Rattle.matching.proofs.IdealLaws.{next-taken}
 
 -- ---- the set and the inputs
@@ -385,14 +386,6 @@ module _ (bs : List ℕ) (h : Header) (set : ℕ) (xs ys : List ℕ) (k : Planne
   listed-second = rw (← plan-p k) (listed (planOf bs) set xs ys (sym ea ∙ ha) .second-below)
 
 pub ruleset pairing = (needs, refused-inputs, refused-coins, passed-on, listed-first, listed-second)
-
-pub record Matchable (bs : List ℕ) (h : Header) (set : ℕ) (xs ys coins : List ℕ) (room : ℕ) : Type 0 where
-  pub set-ok : setOk (planOf bs) set ≡ true
-  pub first-below : allBelow (h .field .p) (numbers xs) ≡ true
-  pub second-below : allBelow (h .field .p) (numbers ys) ≡ true
-  pub coins-below : allBelow (h .field .p) (numbers coins) ≡ true
-  pub coins-long : length coins ≡ 2 * coinCount (planOf bs)
-  pub room-long : room ≡ 2 * coinCount (planOf bs)
 
 pub matchable :
     (bs : List ℕ) (h : Header) (set : ℕ) (xs ys coins : List ℕ) (room : ℕ) (c : Checked) → Planned bs h → c ≡ firstOf (pairChecks (planOf bs) set xs ys coins room) → c ≡ Passed

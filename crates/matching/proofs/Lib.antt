@@ -8,3 +8,4 @@ pub mod AgreeLaws
 pub mod MoveLaws
 pub mod GateMoveLaws
 pub mod MemberLaws
+pub mod StepMatchLaws

@@ -11,10 +11,12 @@ ghost use Rattle.numbers.specs.Tables.{tab};
 ghost use Rattle.numbers.specs.Bytes.{numbers, allBelow};
 ghost use Rattle.field.specs.Field.{Below2, Is};
 ghost use Rattle.sharing.specs.Ready.{Ready};
-ghost use Rattle.plan.specs.File.{gateOk};
+ghost use Rattle.plan.specs.File.{planOf, gateAt, gateOk};
+ghost use Rattle.plan.specs.Planned.{Planned};
 ghost use Rattle.plan.specs.Coalitions.{inSet, members};
-ghost use Rattle.run.specs.Rows.{productsOf, Sized, Rowed, Standing};
-ghost use Rattle.matching.specs.MatchSteps.{moved, changeOf, movedBlocks, dealersIn, dealtIn, Lent, Written, Advanced};
+ghost use Rattle.run.specs.Shares.{coinsTaken};
+ghost use Rattle.run.specs.Rows.{productsOf, Sized, Prepared, Rowed, Standing, Taking, Stepped};
+ghost use Rattle.matching.specs.MatchSteps.{moved, changeOf, movedBlocks, dealersIn, dealtIn, Lent, Written, Advanced, Equipped, Turn, NewCoins, Matched, Matchable};
 
 // ---- the members
 
@@ -165,7 +167,7 @@ fn match_multiply(
     match_products(h.field, set, m, first, second, delta, coins, at, out)
 }
 
-// Those of gate g, which takes the input x in the first run and y in the second.
+// Those of a gate, which takes the input x in the first run and y in the second.
 fn match_gate(
     h: Header,
     set: u16,
@@ -198,4 +200,99 @@ fn match_gate(
             match_multiply(h, set, a, b, delta, before, after, coins, at, out)
         }
     }
+}
+
+// The new coins of gate g, which takes the input x in the first run and y in the second; the place after them.
+fn match_coins(
+    plan: &[u8],
+    h: Header,
+    set: u16,
+    delta: &[u64],
+    g: usize,
+    x: u64,
+    y: u64,
+    before: &[u64],
+    after: &[u64],
+    coins: &[u8],
+    at: usize,
+    out: &mut [u8],
+) -> usize
+    requires { ⌜ Equipped (now plan) h set (now delta) ⌝ }
+    requires { ⌜ Turn (now plan) h g x y (now before) (now after) at (now coins) (now out) ⌝ }
+    ensures { λ r. ⌜ NewCoins (planOf (now (plan .entry))) (members set) (h .n) (gateAt (now (plan .entry)) g) g x y (numbers (now (coins .entry))) at (now (before .entry)) (now (after .entry)) (now (out .entry)) (now (out .exit)) r ⌝ }
+{
+    let gate = plan::gate_at(plan, g);
+    match_gate(h, set, g, gate, x, y, delta, before, after, coins, at, out)
+}
+
+// ---- both runs
+
+// Gate g's row in both tables: the first run's with the coins, the second run's with the new ones.
+fn step_both(
+    plan: &[u8],
+    h: Header,
+    rows: &[u64],
+    weights: &[u64],
+    g: usize,
+    x: u64,
+    y: u64,
+    coins: &[u8],
+    new: &[u8],
+    at: usize,
+    before: &mut [u64],
+    after: &mut [u64],
+)
+    requires { ⌜ Planned (now plan) h ⌝ }
+    requires { ⌜ g < h .gates ⌝ }
+    requires { ⌜ Prepared h (now rows) (now weights) ⌝ }
+    requires { ⌜ (x < h .field .p) × (y < h .field .p) ⌝ }
+    requires { ⌜ Taking (planOf (now plan)) (gateAt (now plan) g) at (numbers (now coins)) ⌝ }
+    requires { ⌜ Taking (planOf (now plan)) (gateAt (now plan) g) at (numbers (now new)) ⌝ }
+    requires { ⌜ (Standing (h .field .p) (h .n) g (now before)) × (h .n * h .gates ≤ length (now before)) ⌝ }
+    requires { ⌜ (Standing (h .field .p) (h .n) g (now after)) × (h .n * h .gates ≤ length (now after)) ⌝ }
+    ensures { λ _. ⌜ Stepped (planOf (now (plan .entry))) (h .n) (gateAt (now (plan .entry)) g) g x (drop at (numbers (now (coins .entry)))) (now (before .entry)) (now (before .exit)) ⌝ }
+    ensures { λ _. ⌜ Stepped (planOf (now (plan .entry))) (h .n) (gateAt (now (plan .entry)) g) g y (drop at (numbers (now (new .entry)))) (now (after .entry)) (now (after .exit)) ⌝ }
+{
+    run::tables::step(plan, h, rows, weights, g, x, coins, at, before);
+    run::tables::step(plan, h, rows, weights, g, y, new, at, after);
+}
+
+// Gate g of both runs: its new coins, and its row in both tables. Answers the place after the coins.
+fn match_step(
+    plan: &[u8],
+    h: Header,
+    set: u16,
+    delta: &[u64],
+    rows: &[u64],
+    weights: &[u64],
+    g: usize,
+    x: u64,
+    y: u64,
+    coins: &[u8],
+    at: usize,
+    before: &mut [u64],
+    after: &mut [u64],
+    out: &mut [u8],
+) -> usize
+    requires { ⌜ Equipped (now plan) h set (now delta) ⌝ }
+    requires { ⌜ Prepared h (now rows) (now weights) ⌝ }
+    requires { ⌜ Turn (now plan) h g x y (now before) (now after) at (now coins) (now out) ⌝ }
+    ensures { λ r. ⌜ Matched (planOf (now (plan .entry))) (members set) (h .n) (gateAt (now (plan .entry)) g) g x y (numbers (now (coins .entry))) at (now (before .entry)) (now (after .entry)) (now (out .entry)) (now (before .exit)) (now (after .exit)) (now (out .exit)) r ⌝ }
+{
+    let next = match_coins(plan, h, set, delta, g, x, y, before, after, coins, at, out);
+    step_both(
+        plan,
+        h,
+        rows,
+        weights,
+        g,
+        x,
+        y,
+        coins,
+        out,
+        at,
+        before,
+        after,
+    );
+    next
 }
