@@ -9,3 +9,4 @@ pub mod MoveLaws
 pub mod GateMoveLaws
 pub mod MemberLaws
 pub mod StepMatchLaws
+pub mod RunsLaws

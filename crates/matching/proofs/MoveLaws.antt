@@ -12,7 +12,7 @@ use native.Mathlib.Nat.{add-zero, mul-zero, mul-suc, mul-le-mul-left, mod-lt}
 use native.Mathlib.Omega.{arith}
 use borrow.Author.Needs.{needs}
 use lib.ListN.{length, getD, take, drop, set, length-set, length-append, length-drop, drop-of-length-le}
-use lib.Seq.{take-nil, take-suc-set, take-set-le, getD-take, getD-drop, drop-cons, drop-drop}
+use lib.Seq.{take-nil, take-suc-set, take-set-le, length-take-le, getD-take, getD-drop, drop-cons, drop-drop}
 use mir.Syntax.{w64}
 use mir.Val.{Fits}
 use Rattle.numbers.specs.Tables.{tab}
@@ -73,7 +73,10 @@ module _ (coalition : ℕ) (d : List ℕ) (k i : ℕ) (h : Gathered coalition d 
   pub gathered-few : k ≤ 16
   gathered-few = omega (arith, h .few, h .high)
 
-pub ruleset gathering = (needs, gather-none, gather-place, gather-next, gathered, gathered-few)
+  pub gathered-count : 16 < i → k ≡ length (members coalition)
+  gathered-count l = sym (length-take-le k d (omega (arith, h .few, h .high, h .long))) ∙ ap length (gathered l)
+
+pub ruleset gathering = (needs, gather-none, gather-place, gather-next, gathered, gathered-few, gathered-count)
 
 -- ---- a change
 module _ (p : ℕ) (m : Bool) (s z : ℕ) where

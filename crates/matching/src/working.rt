@@ -1,11 +1,12 @@
 // The coins of the matched run. Both runs' tables of shares are worked side by side, gate by gate.
+use crate::ideal;
 use field::Field;
 use plan::Gate;
 use plan::Header;
 ghost use mathlib.Core.Path.{_≡_};
 ghost use mathlib.Core.Bool.{true, cond};
 ghost use mathlib.Core.List.{[], _∷_};
-ghost use Prim.Native.Nat.{suc, _+_, _*_, _/_, _<_, _≤_};
+ghost use Prim.Native.Nat.{suc, _+_, _-_, _*_, _/_, _<_, _≤_};
 ghost use lib.ListN.{length, take, drop};
 ghost use Rattle.numbers.specs.Tables.{tab};
 ghost use Rattle.numbers.specs.Bytes.{numbers, allBelow};
@@ -13,10 +14,11 @@ ghost use Rattle.field.specs.Field.{Below2, Is};
 ghost use Rattle.sharing.specs.Ready.{Ready};
 ghost use Rattle.plan.specs.File.{planOf, gateAt, gateOk};
 ghost use Rattle.plan.specs.Planned.{Planned};
-ghost use Rattle.plan.specs.Coalitions.{inSet, members};
+ghost use Rattle.plan.specs.Coalitions.{inSet, members, setOk};
 ghost use Rattle.run.specs.Shares.{coinsTaken};
 ghost use Rattle.run.specs.Rows.{productsOf, Sized, Prepared, Rowed, Standing, Taking, Stepped};
-ghost use Rattle.matching.specs.MatchSteps.{moved, changeOf, movedBlocks, dealersIn, dealtIn, Lent, Written, Advanced, Equipped, Turn, NewCoins, Matched, Matchable};
+ghost use Rattle.matching.specs.Matching.{matchedCoins};
+ghost use Rattle.matching.specs.MatchSteps.{deltaTail, moved, changeOf, movedBlocks, dealersIn, dealtIn, Lent, Written, Advanced, Equipped, Turn, NewCoins, Matched, Matchable};
 
 // ---- the members
 
@@ -32,7 +34,7 @@ fn one_if(t: bool) -> usize
 // The members of a set, ascending, in front of the room; how many they are.
 fn members(set: u16, room: &mut [u64]) -> usize
     requires { ⌜ length (now room) ≡ 16 ⌝ }
-    ensures { λ k. ⌜ record { eq : take k (now (room .exit)) ≡ members set; le : k ≤ 16 } ⌝ }
+    ensures { λ k. ⌜ record { eq : take k (now (room .exit)) ≡ members set; count : k ≡ length (members set); le : k ≤ 16 } ⌝ }
 {
     let mut k: usize = 0;
     let mut i: usize = 1;
@@ -295,4 +297,121 @@ fn match_step(
         after,
     );
     next
+}
+
+// The coins of the matched run, by the tables of both runs, which are worked gate by gate.
+fn match_runs(
+    plan: &[u8],
+    h: Header,
+    set: u16,
+    delta: &[u64],
+    rows: &[u64],
+    weights: &[u64],
+    first: &[u8],
+    second: &[u8],
+    coins: &[u8],
+    before: &mut [u64],
+    after: &mut [u64],
+    out: &mut [u8],
+)
+    requires { ⌜ Equipped (now plan) h set (now delta) ⌝ }
+    requires { ⌜ Prepared h (now rows) (now weights) ⌝ }
+    requires { ⌜ Matchable (now plan) h set (now first) (now second) (now coins) (length (now out)) ⌝ }
+    requires { ⌜ (length (now before) ≡ 15360) × (length (now after) ≡ 15360) ⌝ }
+    ensures { λ _. ⌜ numbers (now (out .exit)) ≡ matchedCoins (planOf (now (plan .entry))) (members set) (numbers (now (first .entry))) (numbers (now (second .entry))) (numbers (now (coins .entry))) ⌝ }
+{
+    let mut at: usize = 0;
+    let mut next: usize = 0;
+    let mut g: usize = 0;
+    while g < h.gates {
+        let x = numbers::read(first, next);
+        let y = numbers::read(second, next);
+        at = match_step(
+            plan,
+            h,
+            set,
+            delta,
+            rows,
+            weights,
+            g,
+            x,
+            y,
+            coins,
+            at,
+            before,
+            after,
+            out,
+        );
+        next += ideal::inputs_taken(plan::gate_at(plan, g));
+        g += 1;
+    }
+}
+
+// The same from delta's coefficients, with the tables of both runs.
+fn match_with(
+    plan: &[u8],
+    h: Header,
+    set: u16,
+    delta: &[u64],
+    first: &[u8],
+    second: &[u8],
+    coins: &[u8],
+    out: &mut [u8],
+)
+    requires { ⌜ Equipped (now plan) h set (now delta) ⌝ }
+    requires { ⌜ Matchable (now plan) h set (now first) (now second) (now coins) (length (now out)) ⌝ }
+    ensures { λ _. ⌜ numbers (now (out .exit)) ≡ matchedCoins (planOf (now (plan .entry))) (members set) (numbers (now (first .entry))) (numbers (now (second .entry))) (numbers (now (coins .entry))) ⌝ }
+{
+    let mut rows = [0u64; 120];
+    let mut weights = [0u64; 15];
+    let mut before = [0u64; 15360];
+    let mut after = [0u64; 15360];
+    run::tables::prepare(h, &mut rows, &mut weights);
+    match_runs(
+        plan,
+        h,
+        set,
+        delta,
+        &rows,
+        &weights,
+        first,
+        second,
+        coins,
+        &mut before,
+        &mut after,
+        out,
+    );
+}
+
+// Delta's coefficients: from entry 1 on those of X to X^t.
+fn delta(plan: &[u8], h: Header, set: u16) -> [u64; 8]
+    requires { ⌜ Planned (now plan) h ⌝ }
+    requires { ⌜ setOk (planOf (now plan)) set ≡ true ⌝ }
+    ensures { λ r. ⌜ take (h .t + 1 - 1) (drop 1 r) ≡ deltaTail (planOf (now (plan .entry))) set ⌝ }
+{
+    let e = h.t + 1;
+    let mut points = [0u64; 16];
+    let mut delta = [0u64; 8];
+    let k = members(set, &mut points);
+    sharing::vanishing(h.field, &points[..k], &mut delta[..e]);
+    delta
+}
+
+// The coins of the matched run, of a set, two lists of inputs and coins that pass the checks.
+pub fn matched(
+    plan: &[u8],
+    h: Header,
+    set: u16,
+    first: &[u8],
+    second: &[u8],
+    coins: &[u8],
+    out: &mut [u8],
+)
+    requires { ⌜ Planned (now plan) h ⌝ }
+    requires { ⌜ Matchable (now plan) h set (now first) (now second) (now coins) (length (now out)) ⌝ }
+    ensures { λ _. ⌜ numbers (now (out .exit)) ≡ matchedCoins (planOf (now (plan .entry))) (members set) (numbers (now (first .entry))) (numbers (now (second .entry))) (numbers (now (coins .entry))) ⌝ }
+{
+    let e = h.t + 1;
+    let delta = delta(plan, h, set);
+    match_with(plan, h, set, &delta[1..e], first, second, coins, out);
 }
