@@ -10,3 +10,4 @@ pub mod GateMoveLaws
 pub mod MemberLaws
 pub mod StepMatchLaws
 pub mod RunsLaws
+pub mod PairLaws

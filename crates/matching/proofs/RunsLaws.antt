@@ -14,11 +14,11 @@ use native.Mathlib.Omega.{arith}
 use borrow.Author.Needs.{needs}
 use lib.ListN.{length, getD, take, drop, length-append, length-drop, drop-of-length-le}
 use lib.Seq.{length-take-le, take-all, take-at, getD-drop, drop-cons, drop-drop, drop-append-le, take-append-le}
-use mir.Syntax.{w64}
+use mir.Syntax.{w8, w64}
 use mir.Val.{Fits}
 use Rattle.numbers.specs.Tables.{countWhere}
-use Rattle.numbers.specs.Bytes.{numbers, allBelow}
-use Rattle.numbers.proofs.Bytes.{numbers-length}
+use Rattle.numbers.specs.Bytes.{numbers, bytesOf, allBelow}
+use Rattle.numbers.proofs.Bytes.{numbers-length, fits-below, bytes-of-numbers}
 use Rattle.numbers.proofs.Counts.{countWhere-take-zero}
 use Rattle.field.specs.Mod.{add, mul}
 use Rattle.field.proofs.Solve.{canon-lt, add-canon, mul-canon}
@@ -321,4 +321,10 @@ equip-sized bs h set es e = planned-sized bs h (e .planned)
 pub tail-count : (bs : List ℕ) (h : Header) (set : ℕ) (r : List ℕ) → Planned bs h → setOk (planOf bs) set ≡ true → take (h .t + 1 - 1) (drop 1 r) ≡ deltaTail (planOf bs) set → h .t + 1 - 1 ≡ length (take (h .t + 1 - 1) (drop 1 r))
 tail-count bs h set r p ok e = let n : h .t + 1 - 1 ≡ h .t = omega arith in n ∙ sym (ap length e ∙ length-tail (planOf bs) (valid bs (p .passes)) set ok ∙ plan-t p)
 
-pub ruleset working = (needs, equip, equip-sized, tail-count)
+-- the numbers written, as bytes
+pub bytes-matched :
+    (bs : List ℕ) (h : Header) (set : ℕ) (xs ys coins before out vs : List ℕ) → Matchable bs h set xs ys coins (length before) → length out ≡ length before
+    → ((j : ℕ) → Fits w8 (getD out j 0)) → numbers out ≡ vs → out ≡ bytesOf vs
+bytes-matched bs h set xs ys coins before out vs g l b e = sym (bytes-of-numbers (coinCount (planOf bs)) out (l ∙ g .room-long) (fits-below out b)) ∙ ap bytesOf e
+
+pub ruleset working = (needs, equip, equip-sized, tail-count, bytes-matched)

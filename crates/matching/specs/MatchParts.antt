@@ -8,7 +8,10 @@ use Rattle.numbers.specs.Bytes.{numbers, holdsCount, firstOver}
 use Rattle.plan.specs.declared.Gate.{Gate}
 use Rattle.plan.specs.declared.Gate.the-variants.{Input, Add, Scale, Offset, Multiply}
 use Rattle.plan.specs.declared.Output.{Output}
+use Rattle.plan.specs.declared.Reading.{Reading}
+use Rattle.plan.specs.declared.Reading.the-variants as reading
 use Rattle.plan.specs.declared.Checked.{Checked}
+use Rattle.plan.specs.declared.Checked.the-variants.{Passed, Refused}
 use Rattle.plan.specs.declared.Refusal.the-variants as refusal
 use Rattle.plan.specs.Refusals.{need, unlessFound}
 use Rattle.plan.specs.Plans.{Plan, inputCount, coinCount}
@@ -59,3 +62,8 @@ outAgrees set vs ws out = not (inSet set (out .party)) || eqb (getD vs (out .wir
 
 unfoldable pub outAgreesAt : Plan → ℕ → List ℕ → List ℕ → ℕ → Bool
 outAgreesAt plan set vs ws o = outAgrees set vs ws (getD (plan .outs) o (record { party = 0; wire = 0 }))
+
+-- the answer to a plan's reading, where it was refused
+unfoldable pub checkedOf : Reading → Checked
+checkedOf (reading.Passed h) = Passed
+checkedOf (reading.Refused r) = Refused r

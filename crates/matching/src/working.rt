@@ -9,7 +9,7 @@ ghost use mathlib.Core.List.{[], _∷_};
 ghost use Prim.Native.Nat.{suc, _+_, _-_, _*_, _/_, _<_, _≤_};
 ghost use lib.ListN.{length, take, drop};
 ghost use Rattle.numbers.specs.Tables.{tab};
-ghost use Rattle.numbers.specs.Bytes.{numbers, allBelow};
+ghost use Rattle.numbers.specs.Bytes.{numbers, bytesOf, allBelow};
 ghost use Rattle.field.specs.Field.{Below2, Is};
 ghost use Rattle.sharing.specs.Ready.{Ready};
 ghost use Rattle.plan.specs.File.{planOf, gateAt, gateOk};
@@ -397,7 +397,7 @@ fn delta(plan: &[u8], h: Header, set: u16) -> [u64; 8]
     delta
 }
 
-// The coins of the matched run, of a set, two lists of inputs and coins that pass the checks.
+// Writes the coins of the matched run, of a set, two lists of inputs and coins that pass the checks.
 pub fn matched(
     plan: &[u8],
     h: Header,
@@ -409,7 +409,7 @@ pub fn matched(
 )
     requires { ⌜ Planned (now plan) h ⌝ }
     requires { ⌜ Matchable (now plan) h set (now first) (now second) (now coins) (length (now out)) ⌝ }
-    ensures { λ _. ⌜ numbers (now (out .exit)) ≡ matchedCoins (planOf (now (plan .entry))) (members set) (numbers (now (first .entry))) (numbers (now (second .entry))) (numbers (now (coins .entry))) ⌝ }
+    ensures { λ _. ⌜ now (out .exit) ≡ bytesOf (matchedCoins (planOf (now (plan .entry))) (members set) (numbers (now (first .entry))) (numbers (now (second .entry))) (numbers (now (coins .entry)))) ⌝ }
 {
     let e = h.t + 1;
     let delta = delta(plan, h, set);
