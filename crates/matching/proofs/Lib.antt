@@ -3,3 +3,11 @@ pub mod Back
 pub mod Differ
 pub mod Private
 pub mod SetMembers
+pub mod IdealLaws
+pub mod AgreeLaws
+pub mod MoveLaws
+pub mod GateMoveLaws
+pub mod MemberLaws
+pub mod StepMatchLaws
+pub mod RunsLaws
+pub mod PairLaws

@@ -1,2 +1,4 @@
 pub mod Matching
 pub mod MatchCalls
+pub mod MatchParts
+pub mod MatchSteps

@@ -3,12 +3,12 @@ pub mod Blocks
 pub mod States
 pub mod Carried
 pub mod Counts
+pub mod Accepted
 pub mod Sound
 pub mod Openings
 pub mod Below
 pub mod Worked
 pub mod Wires
-pub mod Accepted
 pub mod RowLaws
 pub mod PowerLaws
 pub mod DealLaws
@@ -16,9 +16,3 @@ pub mod GridLaws
 pub mod StepLaws
 pub mod GateLaws
 pub mod FillLaws
-pub mod WriteLaws
-pub mod ViewLaws
-pub mod FlatLaws
-pub mod JoinLaws
-pub mod RunCheckLaws
-pub mod BenchLaws

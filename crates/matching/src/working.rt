@@ -1,0 +1,417 @@
+// The coins of the matched run. Both runs' tables of shares are worked side by side, gate by gate.
+use crate::ideal;
+use field::Field;
+use plan::Gate;
+use plan::Header;
+ghost use mathlib.Core.Path.{_≡_};
+ghost use mathlib.Core.Bool.{true, cond};
+ghost use mathlib.Core.List.{[], _∷_};
+ghost use Prim.Native.Nat.{suc, _+_, _-_, _*_, _/_, _<_, _≤_};
+ghost use lib.ListN.{length, take, drop};
+ghost use Rattle.numbers.specs.Tables.{tab};
+ghost use Rattle.numbers.specs.Bytes.{numbers, bytesOf, allBelow};
+ghost use Rattle.field.specs.Field.{Below2, Is};
+ghost use Rattle.sharing.specs.Ready.{Ready};
+ghost use Rattle.plan.specs.File.{planOf, gateAt, gateOk};
+ghost use Rattle.plan.specs.Planned.{Planned};
+ghost use Rattle.plan.specs.Coalitions.{inSet, members, setOk};
+ghost use Rattle.run.specs.Shares.{coinsTaken};
+ghost use Rattle.run.specs.Rows.{productsOf, Sized, Prepared, Rowed, Standing, Taking, Stepped};
+ghost use Rattle.matching.specs.Matching.{matchedCoins};
+ghost use Rattle.matching.specs.MatchSteps.{deltaTail, moved, changeOf, movedBlocks, dealersIn, dealtIn, Lent, Written, Advanced, Equipped, Turn, NewCoins, Matched, Matchable};
+
+// ---- the members
+
+fn one_if(t: bool) -> usize
+    ensures { λ r. ⌜ record { eq : r ≡ cond t 1 0; le : r ≤ 1 } ⌝ }
+{
+    if t {
+        return 1;
+    }
+    0
+}
+
+// The members of a set, ascending, in front of the room; how many they are.
+fn members(set: u16, room: &mut [u64]) -> usize
+    requires { ⌜ length (now room) ≡ 16 ⌝ }
+    ensures { λ k. ⌜ record { eq : take k (now (room .exit)) ≡ members set; count : k ≡ length (members set); le : k ≤ 16 } ⌝ }
+{
+    let mut k: usize = 0;
+    let mut i: usize = 1;
+    while i <= 16 {
+        room[k] = i as u64;
+        k += one_if(plan::is_member(set, i));
+        i += 1;
+    }
+    k
+}
+
+// ---- the coins of one dealing
+
+// By how much a dealer's coins move: the change of what it deals; a member's stay.
+fn change(f: Field, member: bool, before: u64, after: u64) -> u64
+    requires { ⌜ Below2 (f .p) after before ⌝ }
+    ensures { λ r. ⌜ Is (f .p) (changeOf (f .p) member before after) r ⌝ }
+{
+    if member {
+        return 0;
+    }
+    f.sub(after, before)
+}
+
+// Writes a dealing's coins, moved by d times delta's coefficients, with one remainder for each.
+fn move_coins(f: Field, d: u64, delta: &[u64], coins: &[u8], at: usize, out: &mut [u8])
+    requires { ⌜ Ready (f .p) ⌝ }
+    requires { ⌜ d < f .p ⌝ }
+    requires { ⌜ allBelow (f .p) (now delta) ≡ true ⌝ }
+    requires { ⌜ Lent (f .p) at (length (now delta)) (now coins) (now out) ⌝ }
+    ensures { λ _. ⌜ Written at (length (now (delta .entry))) (moved (f .p) d (now (delta .entry)) (take (length (now (delta .entry))) (drop at (numbers (now (coins .entry)))))) (now (out .entry)) (now (out .exit)) ⌝ }
+{
+    let mut j: usize = 0;
+    while j < delta.len() {
+        let place = at + j;
+        let coin = numbers::read(coins, place);
+        numbers::write(out, place, (coin + d * delta[j]) % f.p);
+        j += 1;
+    }
+}
+
+// ---- the coins of one gate; each answers the place after them
+
+// Those of an input's dealing.
+fn match_input(
+    f: Field,
+    set: u16,
+    party: usize,
+    before: u64,
+    after: u64,
+    delta: &[u64],
+    coins: &[u8],
+    at: usize,
+    out: &mut [u8],
+) -> usize
+    requires { ⌜ Ready (f .p) ⌝ }
+    requires { ⌜ (before < f .p) × (after < f .p) ⌝ }
+    requires { ⌜ allBelow (f .p) (now delta) ≡ true ⌝ }
+    requires { ⌜ Lent (f .p) at (length (now delta)) (now coins) (now out) ⌝ }
+    ensures { λ r. ⌜ Advanced at (length (now (delta .entry))) (movedBlocks (f .p) (length (now (delta .entry))) set (now (delta .entry)) (party ∷ []) (before ∷ []) (after ∷ []) (drop at (numbers (now (coins .entry))))) (now (out .entry)) (now (out .exit)) r ⌝ }
+{
+    let d = change(f, plan::is_member(set, party), before, after);
+    move_coins(f, d, delta, coins, at, out);
+    at + delta.len()
+}
+
+// Those of the dealings by parties 1 to m, of their products in both runs.
+fn match_products(
+    f: Field,
+    set: u16,
+    m: usize,
+    before: [u64; 15],
+    after: [u64; 15],
+    delta: &[u64],
+    coins: &[u8],
+    at: usize,
+    out: &mut [u8],
+) -> usize
+    requires { ⌜ Ready (f .p) ⌝ }
+    requires { ⌜ m ≤ 15 ⌝ }
+    requires { ⌜ allBelow (f .p) (take m before) ≡ true ⌝ }
+    requires { ⌜ allBelow (f .p) (take m after) ≡ true ⌝ }
+    requires { ⌜ allBelow (f .p) (now delta) ≡ true ⌝ }
+    requires { ⌜ Lent (f .p) at (length (now delta) * m) (now coins) (now out) ⌝ }
+    ensures { λ r. ⌜ Advanced at (length (now (delta .entry)) * m) (movedBlocks (f .p) (length (now (delta .entry))) set (now (delta .entry)) (tab suc m) (take m before) (take m after) (drop at (numbers (now (coins .entry))))) (now (out .entry)) (now (out .exit)) r ⌝ }
+{
+    let t = delta.len();
+    let mut place = at;
+    let mut i: usize = 0;
+    while i < m {
+        let d = change(f, plan::is_member(set, i + 1), before[i], after[i]);
+        move_coins(f, d, delta, coins, place, out);
+        place += t;
+        i += 1;
+    }
+    place
+}
+
+// What a multiply gate's dealers deal in a run: each one's own product of its two shares.
+fn products(h: Header, a: usize, b: usize, table: &[u64]) -> [u64; 15]
+    requires { ⌜ Sized h ⌝ }
+    requires { ⌜ Rowed (h .field .p) (h .n) a (now table) ⌝ }
+    requires { ⌜ Rowed (h .field .p) (h .n) b (now table) ⌝ }
+    ensures { λ r. ⌜ record { eq : take (h .t + h .t + 1) r ≡ productsOf (h .field .p) (h .n) (h .t + h .t + 1) a b (now (table .entry)); below : allBelow (h .field .p) (take (h .t + h .t + 1) r) ≡ true } ⌝ }
+{
+    run::tables::products(h.field, h.n, h.t + h.t + 1, a, b, table)
+}
+
+// Those of a multiply gate's dealings, by both runs' tables.
+fn match_multiply(
+    h: Header,
+    set: u16,
+    a: usize,
+    b: usize,
+    delta: &[u64],
+    before: &[u64],
+    after: &[u64],
+    coins: &[u8],
+    at: usize,
+    out: &mut [u8],
+) -> usize
+    requires { ⌜ Sized h ⌝ }
+    requires { ⌜ (Rowed (h .field .p) (h .n) a (now before)) × (Rowed (h .field .p) (h .n) b (now before)) ⌝ }
+    requires { ⌜ (Rowed (h .field .p) (h .n) a (now after)) × (Rowed (h .field .p) (h .n) b (now after)) ⌝ }
+    requires { ⌜ allBelow (h .field .p) (now delta) ≡ true ⌝ }
+    requires { ⌜ Lent (h .field .p) at (length (now delta) * (h .t + h .t + 1)) (now coins) (now out) ⌝ }
+    ensures { λ r. ⌜ Advanced at (length (now (delta .entry)) * (h .t + h .t + 1)) (movedBlocks (h .field .p) (length (now (delta .entry))) set (now (delta .entry)) (tab suc (h .t + h .t + 1)) (productsOf (h .field .p) (h .n) (h .t + h .t + 1) a b (now (before .entry))) (productsOf (h .field .p) (h .n) (h .t + h .t + 1) a b (now (after .entry))) (drop at (numbers (now (coins .entry))))) (now (out .entry)) (now (out .exit)) r ⌝ }
+{
+    let m = h.t + h.t + 1;
+    let first = products(h, a, b, before);
+    let second = products(h, a, b, after);
+    match_products(h.field, set, m, first, second, delta, coins, at, out)
+}
+
+// Those of a gate, which takes the input x in the first run and y in the second.
+fn match_gate(
+    h: Header,
+    set: u16,
+    g: usize,
+    gate: Gate,
+    x: u64,
+    y: u64,
+    delta: &[u64],
+    before: &[u64],
+    after: &[u64],
+    coins: &[u8],
+    at: usize,
+    out: &mut [u8],
+) -> usize
+    requires { ⌜ Sized h ⌝ }
+    requires { ⌜ gateOk (h .n) (h .field .p) g gate ≡ true ⌝ }
+    requires { ⌜ (x < h .field .p) × (y < h .field .p) ⌝ }
+    requires { ⌜ Standing (h .field .p) (h .n) g (now before) ⌝ }
+    requires { ⌜ Standing (h .field .p) (h .n) g (now after) ⌝ }
+    requires { ⌜ (length (now delta) ≡ h .t) × (allBelow (h .field .p) (now delta) ≡ true) ⌝ }
+    requires { ⌜ Lent (h .field .p) at (h .t * length (dealersIn (h .t) gate)) (now coins) (now out) ⌝ }
+    ensures { λ r. ⌜ Advanced at (h .t * length (dealersIn (h .t) gate)) (movedBlocks (h .field .p) (h .t) set (now (delta .entry)) (dealersIn (h .t) gate) (dealtIn h gate (now (before .entry)) x) (dealtIn h gate (now (after .entry)) y) (drop at (numbers (now (coins .entry))))) (now (out .entry)) (now (out .exit)) r ⌝ }
+{
+    match gate {
+        Gate::Input(party) => match_input(h.field, set, party, x, y, delta, coins, at, out),
+        Gate::Add(_, _) => at,
+        Gate::Scale(_, _) => at,
+        Gate::Offset(_, _) => at,
+        Gate::Multiply(a, b) => {
+            match_multiply(h, set, a, b, delta, before, after, coins, at, out)
+        }
+    }
+}
+
+// The new coins of gate g, which takes the input x in the first run and y in the second; the place after them.
+fn match_coins(
+    plan: &[u8],
+    h: Header,
+    set: u16,
+    delta: &[u64],
+    g: usize,
+    x: u64,
+    y: u64,
+    before: &[u64],
+    after: &[u64],
+    coins: &[u8],
+    at: usize,
+    out: &mut [u8],
+) -> usize
+    requires { ⌜ Equipped (now plan) h set (now delta) ⌝ }
+    requires { ⌜ Turn (now plan) h g x y (now before) (now after) at (now coins) (now out) ⌝ }
+    ensures { λ r. ⌜ NewCoins (planOf (now (plan .entry))) (members set) (h .n) (gateAt (now (plan .entry)) g) g x y (numbers (now (coins .entry))) at (now (before .entry)) (now (after .entry)) (now (out .entry)) (now (out .exit)) r ⌝ }
+{
+    let gate = plan::gate_at(plan, g);
+    match_gate(h, set, g, gate, x, y, delta, before, after, coins, at, out)
+}
+
+// ---- both runs
+
+// Gate g's row in both tables: the first run's with the coins, the second run's with the new ones.
+fn step_both(
+    plan: &[u8],
+    h: Header,
+    rows: &[u64],
+    weights: &[u64],
+    g: usize,
+    x: u64,
+    y: u64,
+    coins: &[u8],
+    new: &[u8],
+    at: usize,
+    before: &mut [u64],
+    after: &mut [u64],
+)
+    requires { ⌜ Planned (now plan) h ⌝ }
+    requires { ⌜ g < h .gates ⌝ }
+    requires { ⌜ Prepared h (now rows) (now weights) ⌝ }
+    requires { ⌜ (x < h .field .p) × (y < h .field .p) ⌝ }
+    requires { ⌜ Taking (planOf (now plan)) (gateAt (now plan) g) at (numbers (now coins)) ⌝ }
+    requires { ⌜ Taking (planOf (now plan)) (gateAt (now plan) g) at (numbers (now new)) ⌝ }
+    requires { ⌜ (Standing (h .field .p) (h .n) g (now before)) × (h .n * h .gates ≤ length (now before)) ⌝ }
+    requires { ⌜ (Standing (h .field .p) (h .n) g (now after)) × (h .n * h .gates ≤ length (now after)) ⌝ }
+    ensures { λ _. ⌜ Stepped (planOf (now (plan .entry))) (h .n) (gateAt (now (plan .entry)) g) g x (drop at (numbers (now (coins .entry)))) (now (before .entry)) (now (before .exit)) ⌝ }
+    ensures { λ _. ⌜ Stepped (planOf (now (plan .entry))) (h .n) (gateAt (now (plan .entry)) g) g y (drop at (numbers (now (new .entry)))) (now (after .entry)) (now (after .exit)) ⌝ }
+{
+    run::tables::step(plan, h, rows, weights, g, x, coins, at, before);
+    run::tables::step(plan, h, rows, weights, g, y, new, at, after);
+}
+
+// Gate g of both runs: its new coins, and its row in both tables. Answers the place after the coins.
+fn match_step(
+    plan: &[u8],
+    h: Header,
+    set: u16,
+    delta: &[u64],
+    rows: &[u64],
+    weights: &[u64],
+    g: usize,
+    x: u64,
+    y: u64,
+    coins: &[u8],
+    at: usize,
+    before: &mut [u64],
+    after: &mut [u64],
+    out: &mut [u8],
+) -> usize
+    requires { ⌜ Equipped (now plan) h set (now delta) ⌝ }
+    requires { ⌜ Prepared h (now rows) (now weights) ⌝ }
+    requires { ⌜ Turn (now plan) h g x y (now before) (now after) at (now coins) (now out) ⌝ }
+    ensures { λ r. ⌜ Matched (planOf (now (plan .entry))) (members set) (h .n) (gateAt (now (plan .entry)) g) g x y (numbers (now (coins .entry))) at (now (before .entry)) (now (after .entry)) (now (out .entry)) (now (before .exit)) (now (after .exit)) (now (out .exit)) r ⌝ }
+{
+    let next = match_coins(plan, h, set, delta, g, x, y, before, after, coins, at, out);
+    step_both(
+        plan,
+        h,
+        rows,
+        weights,
+        g,
+        x,
+        y,
+        coins,
+        out,
+        at,
+        before,
+        after,
+    );
+    next
+}
+
+// The coins of the matched run, by the tables of both runs, which are worked gate by gate.
+fn match_runs(
+    plan: &[u8],
+    h: Header,
+    set: u16,
+    delta: &[u64],
+    rows: &[u64],
+    weights: &[u64],
+    first: &[u8],
+    second: &[u8],
+    coins: &[u8],
+    before: &mut [u64],
+    after: &mut [u64],
+    out: &mut [u8],
+)
+    requires { ⌜ Equipped (now plan) h set (now delta) ⌝ }
+    requires { ⌜ Prepared h (now rows) (now weights) ⌝ }
+    requires { ⌜ Matchable (now plan) h set (now first) (now second) (now coins) (length (now out)) ⌝ }
+    requires { ⌜ (length (now before) ≡ 15360) × (length (now after) ≡ 15360) ⌝ }
+    ensures { λ _. ⌜ numbers (now (out .exit)) ≡ matchedCoins (planOf (now (plan .entry))) (members set) (numbers (now (first .entry))) (numbers (now (second .entry))) (numbers (now (coins .entry))) ⌝ }
+{
+    let mut at: usize = 0;
+    let mut next: usize = 0;
+    let mut g: usize = 0;
+    while g < h.gates {
+        let x = numbers::read(first, next);
+        let y = numbers::read(second, next);
+        at = match_step(
+            plan,
+            h,
+            set,
+            delta,
+            rows,
+            weights,
+            g,
+            x,
+            y,
+            coins,
+            at,
+            before,
+            after,
+            out,
+        );
+        next += ideal::inputs_taken(plan::gate_at(plan, g));
+        g += 1;
+    }
+}
+
+// The same from delta's coefficients, with the tables of both runs.
+fn match_with(
+    plan: &[u8],
+    h: Header,
+    set: u16,
+    delta: &[u64],
+    first: &[u8],
+    second: &[u8],
+    coins: &[u8],
+    out: &mut [u8],
+)
+    requires { ⌜ Equipped (now plan) h set (now delta) ⌝ }
+    requires { ⌜ Matchable (now plan) h set (now first) (now second) (now coins) (length (now out)) ⌝ }
+    ensures { λ _. ⌜ numbers (now (out .exit)) ≡ matchedCoins (planOf (now (plan .entry))) (members set) (numbers (now (first .entry))) (numbers (now (second .entry))) (numbers (now (coins .entry))) ⌝ }
+{
+    let mut rows = [0u64; 120];
+    let mut weights = [0u64; 15];
+    let mut before = [0u64; 15360];
+    let mut after = [0u64; 15360];
+    run::tables::prepare(h, &mut rows, &mut weights);
+    match_runs(
+        plan,
+        h,
+        set,
+        delta,
+        &rows,
+        &weights,
+        first,
+        second,
+        coins,
+        &mut before,
+        &mut after,
+        out,
+    );
+}
+
+// Delta's coefficients: from entry 1 on those of X to X^t.
+fn delta(plan: &[u8], h: Header, set: u16) -> [u64; 8]
+    requires { ⌜ Planned (now plan) h ⌝ }
+    requires { ⌜ setOk (planOf (now plan)) set ≡ true ⌝ }
+    ensures { λ r. ⌜ take (h .t + 1 - 1) (drop 1 r) ≡ deltaTail (planOf (now (plan .entry))) set ⌝ }
+{
+    let e = h.t + 1;
+    let mut points = [0u64; 16];
+    let mut delta = [0u64; 8];
+    let k = members(set, &mut points);
+    sharing::vanishing(h.field, &points[..k], &mut delta[..e]);
+    delta
+}
+
+// Writes the coins of the matched run, of a set, two lists of inputs and coins that pass the checks.
+pub fn matched(
+    plan: &[u8],
+    h: Header,
+    set: u16,
+    first: &[u8],
+    second: &[u8],
+    coins: &[u8],
+    out: &mut [u8],
+)
+    requires { ⌜ Planned (now plan) h ⌝ }
+    requires { ⌜ Matchable (now plan) h set (now first) (now second) (now coins) (length (now out)) ⌝ }
+    ensures { λ _. ⌜ now (out .exit) ≡ bytesOf (matchedCoins (planOf (now (plan .entry))) (members set) (numbers (now (first .entry))) (numbers (now (second .entry))) (numbers (now (coins .entry)))) ⌝ }
+{
+    let e = h.t + 1;
+    let delta = delta(plan, h, set);
+    match_with(plan, h, set, &delta[1..e], first, second, coins, out);
+}
