@@ -5,3 +5,7 @@ pub mod DealLaws
 pub mod SendLaws
 pub mod InputLaws
 pub mod OutLaws
+pub mod CallLaws
+pub mod ProductLaws
+pub mod ResultLaws
+pub mod WrittenLaws

@@ -4,3 +4,4 @@ pub mod Lent
 pub mod Sending
 pub mod Parts
 pub mod Sending
+pub mod Admitted

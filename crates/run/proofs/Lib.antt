@@ -16,3 +16,9 @@ pub mod GridLaws
 pub mod StepLaws
 pub mod GateLaws
 pub mod FillLaws
+pub mod BenchLaws
+pub mod FlatLaws
+pub mod JoinLaws
+pub mod RunCheckLaws
+pub mod ViewLaws
+pub mod WriteLaws
