@@ -6,15 +6,14 @@
 --     matchable                what a pair that passes is
 -- Assumes nothing.
 use mathlib.Core.Path.{_≡_, refl, sym, ap, ap₂, _∙_}
-use mathlib.Core.Bool.{Bool, true, false, cond, not, _&&_, _||_}
+use mathlib.Core.Bool.{Bool, true, false, not, _||_}
 use mathlib.Core.List.{List, [], _∷_, _++_}
-use Prim.Native.Nat.{ℕ, zero, suc, _+_, _-_, _*_, _<_, _≤_}
-use native.Mathlib.Numerals.{add-one}
+use Prim.Native.Nat.{ℕ, zero, suc, _+_, _*_, _<_, _≤_}
 use native.Mathlib.Nat.{add-zero, mul-le-mul}
 use native.Mathlib.Omega.{arith}
 use borrow.Author.Needs.{needs}
 use borrow.Author.Tests.{not-true, not-false, eq-eqb, ne-eqb, eqb-true}
-use lib.Dec.{eqb, leb, ltb}
+use lib.Dec.{eqb}
 use lib.ListN.{length, getD, take}
 use mir.Syntax.{w64}
 use mir.Val.{Fits}
@@ -22,9 +21,9 @@ use Rattle.numbers.specs.declared.Found.{Found}
 use Rattle.numbers.specs.declared.Found.the-variants.{At, Nothing}
 use Rattle.numbers.specs.Tables.{countWhere, firstFailing}
 use Rattle.numbers.specs.Bytes.{numbers, holdsCount, firstOver, allBelow}
-use Rattle.numbers.proofs.Bytes.{holds-length, holds-numbers}
+use Rattle.numbers.proofs.Bytes.{holds-length}
 use Rattle.numbers.proofs.Below.{firstOver-nothing}
-use Rattle.numbers.proofs.Counts.{countWhere-take-suc, countWhere-take-zero, countWhere-take-all}
+use Rattle.numbers.proofs.Counts.{countWhere-take-zero, countWhere-take-all}
 use Rattle.numbers.proofs.Searches.{Seeking, begin, found, passed, nothing}
 use Rattle.plan.specs.declared.Gate.{Gate}
 use Rattle.plan.specs.declared.Gate.the-variants.{Input, Add, Scale, Offset, Multiply}
@@ -35,12 +34,12 @@ use Rattle.plan.specs.declared.Checked.the-variants.{Passed, Refused}
 use Rattle.plan.specs.declared.Refusal.{Refusal}
 use Rattle.plan.specs.declared.Refusal.the-variants as refusal
 use Rattle.plan.specs.Refusals.{andThen, firstOf, need, unlessFound}
-use Rattle.plan.specs.Plans.{Plan, partyCount, isInput, inputCount, dealings, coinCount}
+use Rattle.plan.specs.Plans.{Plan, isInput, inputCount, dealings, coinCount}
 use Rattle.plan.specs.File.{gateAt, outAt, planOf}
 use Rattle.plan.specs.Planned.{Planned}
-use Rattle.plan.specs.Coalitions.{setFits, setOk, inSet, members}
+use Rattle.plan.specs.Coalitions.{setFits, setOk, inSet}
 use Rattle.plan.proofs.Planned.{plan-p, plan-n, plan-t, plan-gates, plan-gate, plan-outs, plan-out}
-use Rattle.plan.proofs.Refusals.{andThen-assoc, andThen-passed, andThen-refused, firstOf-append, passed-both, passed-need, passed-found}
+use Rattle.plan.proofs.Refusals.{andThen-passed, andThen-refused, firstOf-append, passed-both, passed-need, passed-found}
 use Rattle.run.specs.Ideal.{inputsTaken, values}
 use Rattle.run.proofs.Wires.{values-length}
 use Rattle.matching.specs.MatchCalls.{inputOwners, inputsAgree, outsAgree, pairChecks}

@@ -2,18 +2,18 @@
 --     moving-products      a multiply gate's
 --     moving-gate          a gate's, by its kind
 -- Assumes nothing.
-use mathlib.Core.Path.{_≡_, refl, sym, ap, ap₂, _∙_}
-use mathlib.Core.Bool.{Bool, true, false, _&&_}
-use mathlib.Core.List.{List, [], _∷_, _++_, append-nil}
-use Prim.Native.Nat.{ℕ, zero, suc, _+_, _*_, _/_, _<_, _≤_}
+use mathlib.Core.Path.{_≡_}
+use mathlib.Core.Bool.{true}
+use mathlib.Core.List.{List, [], _∷_, append-nil}
+use Prim.Native.Nat.{ℕ, suc, _+_, _*_, _<_}
 use native.Mathlib.Nat.{add-zero, mul-zero, mul-one}
 use native.Mathlib.Omega.{arith}
 use borrow.Author.Needs.{needs}
 use borrow.Author.Tests.{ltb-true}
 use lib.Dec.{ltb}
-use lib.ListN.{length, getD, take, drop}
+use lib.ListN.{length, getD, take}
 use Rattle.numbers.specs.Tables.{tab}
-use Rattle.numbers.specs.Bytes.{numbers, allBelow}
+use Rattle.numbers.specs.Bytes.{allBelow}
 use Rattle.numbers.proofs.Tables.{length-tab}
 use Rattle.numbers.proofs.Below.{allBelow-tab, allBelow-take, allBelow-drop}
 use Rattle.field.specs.Mod.{mul}
@@ -24,7 +24,8 @@ use Rattle.plan.specs.declared.Gate.{Gate}
 use Rattle.plan.specs.declared.Gate.the-variants.{Input, Add, Scale, Offset, Multiply}
 use Rattle.plan.specs.declared.Header.{Header}
 use Rattle.plan.specs.File.{gateOk}
-use Rattle.run.specs.Rows.{productsOf, Sized, Rowed, Standing}
+use Rattle.plan.proofs.Planned.{both-true}
+use Rattle.run.specs.Rows.{productsOf, Rowed, Standing}
 use Rattle.run.proofs.RowLaws.{part-front, row-room}
 use Rattle.matching.specs.MatchSteps.{movedBlocks, dealersIn, dealtIn, Lent, Advanced}
 
@@ -44,10 +45,6 @@ products-moved p n t m coalition a b at es before after first second cs old new 
 pub ruleset moving-products = (needs, products-below, products-moved)
 
 -- ---- a gate by its kind
-and-true : (a b : Bool) → (a && b) ≡ true → (a ≡ true) × (b ≡ true)
-and-true true b h = (refl, h)
-and-true false b h = let z : _≡_ {A = ℕ} 0 1 = cc in absurd (omega arith)
-
 pub row-stands : (p n g w : ℕ) (table : List ℕ) → Standing p n g table → w < g → Rowed p n w table
 row-stands p n g w table s l = record {
   room = omega (arith, row-room n w g l, s .room);
@@ -57,11 +54,11 @@ row-stands p n g w table s l = record {
 module _ (n p g : ℕ) (gate : Gate) (table : List ℕ) (ok : gateOk n p g gate ≡ true) (a b : ℕ) (e : gate ≡ Multiply a b) (s : Standing p n g table) where
   pub left-stands : Rowed p n a table
   unfolding gateOk
-  left-stands = row-stands p n g a table s (ltb-true a g (and-true (ltb a g) (ltb b g) (rw e at ok) .0))
+  left-stands = row-stands p n g a table s (ltb-true a g (both-true (ltb a g) (ltb b g) (rw e at ok) .0))
 
   pub right-stands : Rowed p n b table
   unfolding gateOk
-  right-stands = row-stands p n g b table s (ltb-true b g (and-true (ltb a g) (ltb b g) (rw e at ok) .1))
+  right-stands = row-stands p n g b table s (ltb-true b g (both-true (ltb a g) (ltb b g) (rw e at ok) .1))
 
 module _ (p t at : ℕ) (gate : Gate) (es coins out : List ℕ) (long : length es ≡ t) (lent : Lent p at (t * length (dealersIn t gate)) coins out) where
   pub input-lent : (s : ℕ) → gate ≡ Input s → Lent p at (length es) coins out

@@ -1,12 +1,13 @@
 -- What each way through the code of the plan's values says of its definition.
---     Fitting, fitting     the plan's prime and gates, as the code asks them
---     valuing              one gate's value
---     Worked, working      the values of all wires
+--     plan-ready, gate-kept     a plan that passes, as the code asks it
+--     taking, valuing           the inputs that a gate takes, and its value
+--     next-taken                the number of the next input
+--     Worked, working           the values of all wires
 -- Assumes nothing.
 use mathlib.Core.Path.{_≡_, refl, sym, ap, _∙_}
-use mathlib.Core.Bool.{Bool, true, false, cond, _&&_}
-use mathlib.Core.List.{List, [], _∷_, _++_}
-use Prim.Native.Nat.{ℕ, suc, _+_, _-_, _<_, _≤_}
+use mathlib.Core.Bool.{true, cond, _&&_}
+use mathlib.Core.List.{List}
+use Prim.Native.Nat.{ℕ, _+_, _<_, _≤_}
 use native.Mathlib.Numerals.{add-one}
 use native.Mathlib.Omega.{arith}
 use borrow.Author.Needs.{needs}
@@ -15,7 +16,7 @@ use lib.Dec.{ltb}
 use lib.ListN.{length, getD, take, set, length-set, List·getD-eq-default}
 use lib.Seq.{take-suc, take-suc-set, take-all, length-take-le}
 use Rattle.numbers.specs.Tables.{countWhere}
-use Rattle.numbers.specs.Bytes.{numbers, allBelow}
+use Rattle.numbers.specs.Bytes.{allBelow}
 use Rattle.numbers.proofs.Below.{at-allBelow, allBelow-take}
 use Rattle.numbers.proofs.Counts.{countWhere-take-suc, countWhere-take-zero}
 use Rattle.field.specs.Mod.{add, mul}
@@ -25,11 +26,11 @@ use Rattle.sharing.proofs.Coding.{entry-below}
 use Rattle.plan.specs.declared.Gate.{Gate}
 use Rattle.plan.specs.declared.Gate.the-variants.{Input, Add, Scale, Offset, Multiply}
 use Rattle.plan.specs.declared.Header.{Header}
-use Rattle.plan.specs.Plans.{Plan, partyCount, isInput}
+use Rattle.plan.specs.Plans.{isInput}
 use Rattle.plan.specs.File.{gateAt, gateOk, planOf}
 use Rattle.plan.specs.Planned.{Planned}
-use Rattle.plan.proofs.Planned.{plan-p, plan-n, plan-gates, plan-gate}
-use Rattle.plan.proofs.Valid.{Valid, valid}
+use Rattle.plan.proofs.Planned.{both-true, plan-p, plan-n, plan-gates, plan-gate}
+use Rattle.plan.proofs.Valid.{valid}
 use Rattle.run.specs.Ideal.{inputsTaken, gateValue, values}
 use Rattle.run.proofs.Wires.{values-length, values-gate}
 use Rattle.run.proofs.Below.{value-below}
@@ -44,12 +45,8 @@ module _ (bs : List ℕ) (h : Header) (k : Planned bs h) where
       rw (e, ← plan-n k, ← plan-p k, ← plan-gate k g l) (valid bs (k .passes) .gates g (rw (plan-gates k) l))
 
 -- ---- a gate by its kind
-and-true : (a b : Bool) → (a && b) ≡ true → (a ≡ true) × (b ≡ true)
-and-true true b h = (refl, h)
-and-true false b h = let z : _≡_ {A = ℕ} 0 1 = cc in absurd (omega arith)
-
 both-below : (a g b p : ℕ) → (ltb a g && ltb b p) ≡ true → (a < g) × (b < p)
-both-below a g b p h = let t = and-true (ltb a g) (ltb b p) h in (ltb-true a g (t .0), ltb-true b p (t .1))
+both-below a g b p h = let t = both-true (ltb a g) (ltb b p) h in (ltb-true a g (t .0), ltb-true b p (t .1))
 
 module _ (n p g : ℕ) (gate : Gate) (ok : gateOk n p g gate ≡ true) where
   pub scale-constant : (a c : ℕ) → gate ≡ Scale a c → c < p

@@ -8,19 +8,17 @@ use mathlib.Core.Logic.{⊎-elim}
 use mathlib.Core.Bool.{Bool, true, false, cond}
 use mathlib.Core.List.{List, [], _∷_, _++_, map, tail}
 use Prim.Native.Nat.{ℕ, zero, suc, _+_, _-_, _*_, _≤_, _<_}
-use native.Mathlib.Nat.{eq-or-lt-of-le, mul-suc}
+use native.Mathlib.Nat.{eq-or-lt-of-le}
 use native.Mathlib.Omega.{arith}
 use borrow.Author.Tests.{eq-eqb, ne-eqb, eqb-true, lt-ltb}
-use lib.Dec.{eqb, ltb}
+use lib.Dec.{eqb}
 use lib.ListN.{length, getD, take, drop, replicate, length-append, length-replicate, length-drop, length-map}
 use lib.Seq.{length-take-le}
-use Rattle.numbers.specs.Tables.{tab}
 use Rattle.numbers.specs.Bytes.{allBelow}
 use Rattle.numbers.proofs.Tables.{getD-tab}
-use Rattle.numbers.proofs.Below.{allBelow-at, at-allBelow, allBelow-take, allBelow-drop}
+use Rattle.numbers.proofs.Below.{allBelow-at, at-allBelow}
 use Rattle.field.specs.Mod.{add, mul, sub}
-use Rattle.field.specs.Prime.{Prime}
-use Rattle.field.proofs.Solve.{Canon, below, #, quote, solve}
+use Rattle.field.proofs.Solve.{Canon, #, quote, solve}
 use Rattle.field.proofs.Inverse.{pos}
 use Rattle.sharing.specs.Poly.{sumOf, scale, padded}
 use Rattle.sharing.specs.Interp.{All, delta}
@@ -28,7 +26,7 @@ use Rattle.sharing.specs.Sharing.{matched}
 use Rattle.sharing.proofs.Deltas.{length-delta}
 use Rattle.sharing.proofs.Factors.{padded-below, delta-below}
 use Rattle.plan.specs.declared.Header.{Header}
-use Rattle.plan.specs.Plans.{Plan, partyCount, pointOf}
+use Rattle.plan.specs.Plans.{Plan, pointOf}
 use Rattle.plan.specs.File.{planOf}
 use Rattle.plan.specs.Planned.{Planned}
 use Rattle.plan.specs.Coalitions.{inSet, membersFrom, members, setOk}
@@ -36,7 +34,7 @@ use Rattle.plan.proofs.Planned.{plan-n, plan-points}
 use Rattle.plan.proofs.Valid.{Valid}
 use Rattle.matching.specs.Matching.{isMember, matchedBlocks}
 use Rattle.matching.specs.MatchSteps.{deltaTail, moved, changeOf, movedBlocks}
-use Rattle.matching.proofs.Blocks.{below-canon, all-take, all-drop, matchedBlock, blocks-cons, block-member, block-other}
+use Rattle.matching.proofs.Blocks.{all-take, all-drop, matchedBlock, blocks-cons, block-member, block-other}
 use Rattle.matching.proofs.SetMembers.{member-in, set-few, set-parties}
 
 -- ---- members by their bits

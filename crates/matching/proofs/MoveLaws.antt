@@ -5,13 +5,13 @@
 -- Assumes nothing.
 use mathlib.Core.Path.{_≡_, refl, sym, ap, ap₂, _∙_}
 use mathlib.Core.Bool.{Bool, true, false, cond}
-use mathlib.Core.List.{List, [], _∷_, _++_, map, tail, append-assoc, append-nil}
-use Prim.Native.Nat.{ℕ, zero, suc, _+_, _-_, _*_, _/_, _%_, _^_, _<_, _≤_}
+use mathlib.Core.List.{List, [], _∷_, _++_, tail, append-assoc, append-nil}
+use Prim.Native.Nat.{ℕ, suc, _+_, _-_, _*_, _/_, _%_, _^_, _<_, _≤_}
 use native.Mathlib.Numerals.{add-one}
 use native.Mathlib.Nat.{add-zero, mul-zero, mul-suc, mul-le-mul-left, mod-lt}
 use native.Mathlib.Omega.{arith}
 use borrow.Author.Needs.{needs}
-use lib.ListN.{length, getD, take, drop, set, length-set, length-append, length-drop, drop-of-length-le}
+use lib.ListN.{length, getD, take, drop, set, length-set, length-drop, drop-of-length-le}
 use lib.Seq.{take-nil, take-suc-set, take-set-le, length-take-le, getD-take, getD-drop, drop-cons, drop-drop}
 use mir.Syntax.{w64}
 use mir.Val.{Fits}
@@ -22,7 +22,7 @@ use Rattle.numbers.proofs.Bytes.{numbers-length, numbers-stored, length-stored}
 use Rattle.field.specs.Mod.{add, mul, sub}
 use Rattle.field.specs.Field.{Is}
 use Rattle.field.proofs.Products.{word}
-use Rattle.sharing.specs.Poly.{sumOf, scale, padded}
+use Rattle.sharing.specs.Poly.{sumOf, scale}
 use Rattle.sharing.specs.Ready.{Ready}
 use Rattle.sharing.proofs.Coding.{entry-below, step-value}
 use Rattle.plan.specs.Coalitions.{inSet, membersFrom, members}

@@ -1,8 +1,8 @@
 -- The matching as its caller sees it.
 --     pairing-up      what closes the needs of the call
 -- Assumes nothing.
-use mathlib.Core.Path.{_≡_, refl, sym, ap, _∙_}
-use mathlib.Core.List.{List, _++_}
+use mathlib.Core.Path.{_≡_, sym, ap, _∙_}
+use mathlib.Core.List.{List}
 use Prim.Native.Nat.{ℕ}
 use borrow.Author.Needs.{needs}
 use lib.ListN.{length}
@@ -15,7 +15,7 @@ use Rattle.plan.specs.declared.Checked.the-variants.{Passed, Refused}
 use Rattle.plan.specs.declared.Refusal.{Refusal}
 use Rattle.plan.specs.Refusals.{andThen, firstOf}
 use Rattle.plan.specs.File.{planChecks, planCheck, planOf}
-use Rattle.plan.specs.Planned.{Planned, ReadAs}
+use Rattle.plan.specs.Planned.{ReadAs}
 use Rattle.plan.specs.Coalitions.{members}
 use Rattle.plan.proofs.Refusals.{andThen-passed, andThen-refused, firstOf-append}
 use Rattle.plan.proofs.Planned.{planned-read, refused-read}

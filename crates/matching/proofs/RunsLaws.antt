@@ -5,27 +5,26 @@
 --     working                     the whole matching
 -- Assumes nothing.
 use mathlib.Core.Path.{_≡_, refl, sym, ap, ap₂, _∙_}
-use mathlib.Core.Bool.{Bool, true, false}
+use mathlib.Core.Bool.{true}
 use mathlib.Core.List.{List, [], _∷_, _++_, map, flatMap, tail, append-assoc, append-nil}
-use Prim.Native.Nat.{ℕ, zero, suc, _+_, _-_, _*_, _/_, _<_, _≤_}
+use Prim.Native.Nat.{ℕ, _+_, _-_, _*_, _<_, _≤_}
 use native.Mathlib.Numerals.{add-one}
-use native.Mathlib.Nat.{add-zero, mul-zero, mul-le-mul, mul-le-mul-left}
+use native.Mathlib.Nat.{add-zero, mul-zero, mul-le-mul}
 use native.Mathlib.Omega.{arith}
 use borrow.Author.Needs.{needs}
-use lib.ListN.{length, getD, take, drop, length-append, length-drop, drop-of-length-le}
-use lib.Seq.{length-take-le, take-all, take-at, getD-drop, drop-cons, drop-drop, drop-append-le, take-append-le}
+use lib.ListN.{length, getD, take, drop, length-append, drop-of-length-le}
+use lib.Seq.{length-take-le, take-all, take-at, getD-drop, drop-cons, drop-drop}
 use mir.Syntax.{w8, w64}
 use mir.Val.{Fits}
 use Rattle.numbers.specs.Tables.{countWhere}
 use Rattle.numbers.specs.Bytes.{numbers, bytesOf, allBelow}
 use Rattle.numbers.proofs.Bytes.{numbers-length, fits-below, bytes-of-numbers}
 use Rattle.numbers.proofs.Counts.{countWhere-take-zero}
-use Rattle.field.specs.Mod.{add, mul}
+use Rattle.field.specs.Mod.{mul}
 use Rattle.field.proofs.Solve.{canon-lt, add-canon, mul-canon}
 use Rattle.field.proofs.Inverse.{pos}
-use Rattle.sharing.specs.Poly.{eval, padded}
+use Rattle.sharing.specs.Poly.{padded}
 use Rattle.sharing.specs.Interp.{dot, delta}
-use Rattle.sharing.specs.Ready.{Ready}
 use Rattle.sharing.proofs.Polys.{eval-canon}
 use Rattle.sharing.proofs.Deltas.{length-delta}
 use Rattle.plan.specs.declared.Gate.{Gate}
@@ -35,7 +34,7 @@ use Rattle.plan.specs.Plans.{Plan, isInput, coinCount, dealings, pointOf}
 use Rattle.plan.specs.File.{planOf, gateAt}
 use Rattle.plan.specs.Planned.{Planned}
 use Rattle.plan.specs.Coalitions.{members, setOk}
-use Rattle.plan.proofs.Planned.{plan-n, plan-t, plan-p, plan-gates, plan-gate}
+use Rattle.plan.proofs.Planned.{plan-t, plan-p, plan-gates, plan-gate}
 use Rattle.plan.proofs.Valid.{valid}
 use Rattle.run.specs.Ideal.{inputsTaken}
 use Rattle.run.specs.Shares.{gateShare, coinsTaken, coinsBelow}
@@ -45,7 +44,7 @@ use Rattle.run.proofs.FillLaws.{rows-snoc, coins-next, coins-within}
 use Rattle.run.proofs.RowLaws.{row-room}
 use Rattle.run.proofs.StepLaws.{planned-ready, planned-sized}
 use Rattle.matching.specs.Matching.{matchedAt, matchFrom, matchedCoins}
-use Rattle.matching.specs.MatchSteps.{deltaTail, Lent, Equipped, Turn, Matched, Matchable}
+use Rattle.matching.specs.MatchSteps.{deltaTail, Equipped, Turn, Matched, Matchable}
 use Rattle.matching.proofs.Blocks.{match-cons}
 use Rattle.matching.proofs.SetMembers.{set-few}
 use Rattle.matching.proofs.IdealLaws.{next-taken, input-below}

@@ -5,52 +5,46 @@
 --     matching-step              one gate of both runs
 -- Assumes nothing.
 use mathlib.Core.Path.{_≡_, refl, sym, ap, ap₂, _∙_}
-use mathlib.Core.Bool.{Bool, true, false, _&&_}
+use mathlib.Core.Bool.{true}
 use mathlib.Core.List.{List, [], _∷_, _++_, map, append-assoc}
-use Prim.Native.Nat.{ℕ, zero, suc, _+_, _*_, _/_, _<_, _≤_}
+use Prim.Native.Nat.{ℕ, suc, _+_, _*_, _<_, _≤_}
 use native.Mathlib.Omega.{arith}
 use borrow.Author.Needs.{needs}
-use borrow.Author.Tests.{ltb-true, leb-true}
-use lib.Dec.{ltb, leb}
+use borrow.Author.Tests.{ltb-true}
+use lib.Dec.{ltb}
 use lib.ListN.{length, getD, take, drop, length-append, length-drop, take-append-drop}
 use lib.Seq.{length-take-le, getD-take, take-at, drop-at}
 use Rattle.numbers.specs.Tables.{tab}
 use Rattle.numbers.specs.Bytes.{numbers, allBelow}
-use Rattle.numbers.proofs.Tables.{length-tab, tab-ext}
+use Rattle.numbers.proofs.Tables.{tab-ext}
 use Rattle.numbers.proofs.Bytes.{numbers-length}
 use Rattle.numbers.proofs.Below.{allBelow-append, allBelow-take, allBelow-drop}
 use Rattle.field.specs.Mod.{mul}
-use Rattle.field.proofs.Solve.{Canon}
 use Rattle.field.proofs.Inverse.{pos}
 use Rattle.sharing.specs.Interp.{All}
-use Rattle.sharing.specs.Ready.{Ready}
 use Rattle.sharing.proofs.Coding.{map-tab}
 use Rattle.sharing.proofs.Factors.{scale-below, sum-below}
 use Rattle.plan.specs.declared.Gate.{Gate}
 use Rattle.plan.specs.declared.Gate.the-variants.{Input, Add, Scale, Offset, Multiply}
 use Rattle.plan.specs.declared.Header.{Header}
 use Rattle.plan.specs.Plans.{Plan, partyCount, dealerCount, dealerPoints, dealersOf}
-use Rattle.plan.specs.File.{planOf, gateAt, gateOk, between}
+use Rattle.plan.specs.File.{planOf, gateAt, gateOk}
 use Rattle.plan.specs.Planned.{Planned}
-use Rattle.plan.specs.Coalitions.{members, setOk}
-use Rattle.plan.proofs.Planned.{between-true, plan-n, plan-t, plan-p, plan-points, plan-dealers}
+use Rattle.plan.specs.Coalitions.{members}
+use Rattle.plan.proofs.Planned.{both-true, between-true, plan-n, plan-t, plan-p, plan-dealers}
 use Rattle.plan.proofs.Valid.{Valid, valid}
 use Rattle.run.specs.Shares.{wireAt, dealtAt, gateShare, coinsTaken}
-use Rattle.run.specs.Rows.{rowsOf, productsOf, Sized, Prepared, Standing, Taking, Stepped}
+use Rattle.run.specs.Rows.{rowsOf, productsOf, Sized, Standing, Taking, Stepped}
 use Rattle.run.proofs.Lists.{all-tab}
 use Rattle.run.proofs.StepLaws.{planned-sized}
 use Rattle.run.proofs.GateLaws.{entry-of-wire}
 use Rattle.matching.specs.Matching.{matchedBlocks, matchedAt}
-use Rattle.matching.specs.MatchSteps.{deltaTail, moved, changeOf, movedBlocks, dealersIn, dealtIn, Lent, Advanced, Equipped, Turn, NewCoins, Matched}
+use Rattle.matching.specs.MatchSteps.{deltaTail, moved, movedBlocks, dealersIn, dealtIn, Lent, Advanced, Equipped, Turn, NewCoins, Matched}
 use Rattle.matching.proofs.Blocks.{below-canon, share-prefix}
 use Rattle.matching.proofs.IdealLaws.{gate-kept}
 use Rattle.matching.proofs.MemberLaws.{length-tail, tail-below, blocks-are}
 
 -- ---- who deals at a gate, and what
-and-true : (a b : Bool) → (a && b) ≡ true → (a ≡ true) × (b ≡ true)
-and-true true b h = (refl, h)
-and-true false b h = let z : _≡_ {A = ℕ} 0 1 = cc in absurd (omega arith)
-
 dealers-by : (plan : Plan) (t : ℕ) → plan .t ≡ t → (gate : Gate) → dealersIn t gate ≡ dealersOf plan gate
 unfolding dealersIn dealersOf dealerCount
 dealers-by plan t e (Input s) = refl
@@ -94,7 +88,7 @@ module _ (bs : List ℕ) (h : Header) (k : Planned bs h) (g : ℕ) (table : List
   dealt-by : (gate : Gate) → gateOk (h .n) (h .field .p) g gate ≡ true → dealtIn h gate table v ≡ dealtAt (planOf bs) gate env v
   unfolding dealtIn dealtAt gateOk
   dealt-by (Multiply a b) ok =
-      let l = and-true (ltb a g) (ltb b g) ok in
+      let l = both-true (ltb a g) (ltb b g) ok in
       products-are a b (ltb-true a g (l .0)) (ltb-true b g (l .1))
   dealt-by (Input s) ok = refl
   dealt-by (Add a b) ok = refl

@@ -8,7 +8,7 @@ use plan::Output;
 use plan::Refusal;
 ghost use mathlib.Core.Path.{_≡_};
 ghost use mathlib.Core.Bool.{true};
-ghost use Prim.Native.Nat.{_<_, _≤_};
+ghost use Prim.Native.Nat.{_<_};
 ghost use lib.ListN.{length};
 ghost use Rattle.numbers.specs.Tables.{firstFailing};
 ghost use Rattle.numbers.specs.Bytes.{numbers, allBelow};
