@@ -1,12 +1,13 @@
 -- What each way through a call says of its definition.
---     admitted             a call that passes its checks
---     advancing            the number of the next call
---     calling              the call
+--     admitted     what a call that passes its checks was lent
+--     advanced     the bytes of a state with another first number
+--     working      what a call leaves
+--     calling      the call
 -- Assumes nothing.
 use mathlib.Core.Path.{_≡_, refl, sym, ap, ap₂, _∙_}
-use mathlib.Core.Bool.{Bool, true, false, cond, not, _&&_}
+use mathlib.Core.Bool.{Bool, true, not}
 use mathlib.Core.List.{List, [], _∷_, _++_, append-nil}
-use Prim.Native.Nat.{ℕ, zero, suc, _+_, _-_, _*_, _/_, _%_, _<_, _≤_}
+use Prim.Native.Nat.{ℕ, suc, _+_, _-_, _*_, _/_, _%_, _≤_}
 use native.Mathlib.Numerals.{add-one}
 use native.Mathlib.Omega.{arith}
 use borrow.Author.Needs.{needs}
@@ -16,8 +17,8 @@ use lib.ListN.{length, getD, take, drop, length-append, length-drop, drop-of-len
 use lib.Seq.{getD-drop, drop-at, take-all, length-take-le}
 use mir.Syntax.{w8}
 use mir.Val.{Fits}
-use Rattle.numbers.specs.Bytes.{numbers, bytesOf, stored, holdsCount, firstOver, allBelow}
-use Rattle.numbers.proofs.Bytes.{EachBelow, fits-below, numbers-length, numbers-drop, holds-length, take-stored, drop-stored, bytesOf-append, bytes-of-numbers}
+use Rattle.numbers.specs.Bytes.{numbers, bytesOf, stored, allBelow}
+use Rattle.numbers.proofs.Bytes.{EachBelow, fits-below, numbers-drop, holds-length, take-stored, drop-stored, bytes-of-numbers}
 use Rattle.numbers.proofs.Below.{firstOver-nothing}
 use Rattle.plan.specs.declared.Header.{Header}
 use Rattle.plan.specs.declared.Reading.{Reading}
@@ -26,16 +27,16 @@ use Rattle.plan.specs.declared.Checked.{Checked}
 use Rattle.plan.specs.declared.Checked.the-variants.{Passed, Refused}
 use Rattle.plan.specs.declared.Refusal.{Refusal}
 use Rattle.plan.specs.declared.Refusal.the-variants as refusal
-use Rattle.plan.specs.Refusals.{andThen, firstOf, need, unlessFound}
+use Rattle.plan.specs.Refusals.{andThen, firstOf}
 use Rattle.plan.specs.Plans.{Plan, partyCount, multiplies, ownInputCount, ownCoinCount, mailCount, writtenCount}
-use Rattle.plan.specs.File.{between, planChecks, planCheck, planOf, readPlan}
+use Rattle.plan.specs.File.{planChecks, planCheck, planOf}
 use Rattle.plan.specs.Planned.{Planned, ReadAs}
 use Rattle.plan.proofs.Refusals.{andThen-passed, andThen-refused, firstOf-append, passed-both, passed-need, passed-found}
-use Rattle.plan.proofs.Planned.{planned-read, refused-read, both-true, between-true, plan-p, plan-n, plan-gates}
-use Rattle.party.specs.Messages.{Called, learn, callWith, call}
+use Rattle.plan.proofs.Planned.{planned-read, refused-read, both-true, between-true, plan-p}
+use Rattle.party.specs.Messages.{learn, callWith, call}
 use Rattle.party.specs.Calls.{partyChecks, callChecks, callAnswer, written, unlessRefused, calledOn, stateAfter, outAfter}
 use Rattle.party.specs.Lent.{Holds}
-use Rattle.party.specs.Sending.{Coined, Own, Lent}
+use Rattle.party.specs.Sending.{Lent}
 use Rattle.party.specs.Admitted.{Admitted, Whole, Learnt, Sendable, checkedOf, stateLeft, outLeft}
 
 -- ---- a call that passes its checks

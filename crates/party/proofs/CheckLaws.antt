@@ -1,19 +1,20 @@
 -- What each way through the checks of a call says of its definition.
---     listing       a lent list: its count and its numbers
---     stating       the state
---     Gathered, gathering      the shares of an out
+--     listing              a lent list: its count and its numbers
+--     stating              the state
 --     opening, rowing      the search for an out whose shares don't lie on one polynomial
+--     owning, mailing      refusals 9 to 13, and 17 to 20
+--     ordering             refusals 9 to 20
 -- Assumes nothing.
-use mathlib.Core.Path.{_≡_, refl, sym, ap, ap₂, _∙_}
-use mathlib.Core.Bool.{Bool, true, false, cond, not, _&&_}
+use mathlib.Core.Path.{_≡_, sym, ap, ap₂, _∙_}
+use mathlib.Core.Bool.{Bool, true, false, cond}
 use mathlib.Core.List.{List, [], _∷_, _++_}
-use Prim.Native.Nat.{ℕ, suc, _+_, _-_, _*_, _<_, _≤_}
+use Prim.Native.Nat.{ℕ, suc, _+_, _*_, _<_, _≤_}
 use native.Mathlib.Nat.{mul-le-mul}
 use native.Mathlib.Omega.{arith}
 use borrow.Author.Needs.{needs}
 use borrow.Author.Tests.{not-true, not-false, le-leb, lt-leb, eq-eqb, ne-eqb}
-use lib.Dec.{eqb, leb}
-use lib.ListN.{length, getD, take, drop, set, length-set, length-append}
+use lib.Dec.{eqb}
+use lib.ListN.{length, getD, take, drop, length-append}
 use lib.Seq.{take-at, length-take-le}
 use mir.Syntax.{w64}
 use mir.Val.{Fits}
@@ -23,8 +24,7 @@ use Rattle.numbers.specs.Tables.{tab, firstFailing, countWhere}
 use Rattle.numbers.specs.Bytes.{numbers, holdsCount, firstOver, allBelow}
 use Rattle.numbers.proofs.Tables.{length-tab}
 use Rattle.numbers.proofs.Below.{allBelow-tab, firstOver-nothing}
-use Rattle.numbers.proofs.Searches.{Seeking, begin, found, passed, nothing, first-ext}
-use Rattle.numbers.proofs.Fills.{fill-none, fill-next}
+use Rattle.numbers.proofs.Searches.{Seeking, begin, found, passed, nothing}
 use Rattle.sharing.specs.Sharing.{firstOff, openingRow, openingRows}
 use Rattle.sharing.specs.Ready.{Ready}
 use Rattle.sharing.proofs.Coding.{entry-below}
@@ -35,7 +35,7 @@ use Rattle.plan.specs.declared.Checked.the-variants.{Passed, Refused}
 use Rattle.plan.specs.declared.Refusal.{Refusal}
 use Rattle.plan.specs.declared.Refusal.the-variants as refusal
 use Rattle.plan.specs.Refusals.{andThen, firstOf, need, unlessFound}
-use Rattle.plan.specs.Plans.{Plan, partyCount, deals, ownInputCount, ownCoinCount, ownOutCount, mailCount, writtenCount, multiplies}
+use Rattle.plan.specs.Plans.{partyCount, deals, ownInputCount, ownCoinCount, ownOutCount, mailCount, writtenCount, multiplies}
 use Rattle.plan.specs.File.{between, planOf}
 use Rattle.plan.specs.Planned.{Planned}
 use Rattle.plan.proofs.Refusals.{andThen-passed, andThen-refused, andThen-end, firstOf-nil, firstOf-cons, firstOf-append, need-true, need-false, found-at, found-nothing, passed-both, passed-found}
@@ -88,36 +88,6 @@ module _ (p gates mults : ℕ) (bs : List ℕ) (t : Bool) (et : t ≡ holdsCount
       state-passed h e = rw (← et, ht, ← ek, le-leb k (mults + 3) hk, ← eb, h, ne-eqb k (mults + 3) e)
 
 pub ruleset stating = (needs, not-true, not-false, state-few, state-past, state-over, state-finished, state-passed)
-
--- ---- the shares of an out
--- the invariant of the loop that gathers them, at party i, counted from 0
-pub record Gathered (n own j : ℕ) (mail shares : List ℕ) (i : ℕ) : Type 0 where
-  pub within : i ≤ n
-  pub long : length shares ≡ 15
-  pub front : take i shares ≡ tab (λ m. getD mail (own * m + j) 0) i
-
-pub gather-none : (n own j : ℕ) (mail shares : List ℕ) → length shares ≡ 15 → Gathered n own j mail shares 0
-gather-none n own j mail shares e = record { within = omega arith; long = e; front = fill-none (λ m. getD mail (own * m + j) 0) shares }
-
-module _ (n own j : ℕ) (mail shares : List ℕ) (i : ℕ) (h : Gathered n own j mail shares i) where
-  pub gather-next : (x : ℕ) → i < n → n ≤ 15 → x ≡ getD mail (own * i + j) 0 → Gathered n own j mail (set shares i x) (i + 1)
-  gather-next x l m e = record {
-    within = omega arith;
-    long = rw length-set (h .long);
-    front = fill-next (λ k. getD mail (own * k + j) 0) i shares x (omega (arith, h .long)) e (h .front);
-  }
-
-  pub gathered : n ≤ i → take n shares ≡ sharesOfOut n own j mail
-  unfolding sharesOfOut
-  gathered l = let e : i ≡ n = omega (arith, h .within) in rw e at (h .front)
-
-pub place-fits : (n own i : ℕ) → own ≤ 64 → i < n → n ≤ 15 → Fits w64 (own * i)
-place-fits n own i a b c = record { fits = omega (arith, mul-le-mul {n₁ = own} {m₁ = i} {n₂ = 64} {m₂ = 15} a (omega arith)) }
-
-pub share-fits : (n own i j : ℕ) → own ≤ 64 → i < n → n ≤ 15 → j < own → Fits w64 (own * i + j)
-share-fits n own i j a b c d = record { fits = omega (arith, mul-le-mul {n₁ = own} {m₁ = i} {n₂ = 64} {m₂ = 15} a (omega arith)) }
-
-pub ruleset gathering = (needs, place-fits, share-fits, gather-none, gather-next, gathered)
 
 -- ---- the search for an out whose shares don't lie on one polynomial
 shares-long : (n own j : ℕ) (mail : List ℕ) → length (sharesOfOut n own j mail) ≡ n

@@ -1,11 +1,11 @@
 pub mod PointLaws
 pub mod LearnLaws
-pub mod CheckLaws
-pub mod DealLaws
 pub mod SendLaws
+pub mod DealLaws
 pub mod InputLaws
 pub mod OutLaws
-pub mod CallLaws
 pub mod ProductLaws
 pub mod ResultLaws
 pub mod WrittenLaws
+pub mod CheckLaws
+pub mod CallLaws

@@ -3,5 +3,4 @@ pub mod Calls
 pub mod Lent
 pub mod Sending
 pub mod Parts
-pub mod Sending
 pub mod Admitted

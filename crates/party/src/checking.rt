@@ -6,7 +6,7 @@ use plan::Refusal;
 ghost use mathlib.Core.Path.{_≡_};
 ghost use mathlib.Core.Bool.{true};
 ghost use Prim.Native.Nat.{suc, _<_, _≤_, _+_, _*_};
-ghost use lib.ListN.{length, take};
+ghost use lib.ListN.{length};
 ghost use Rattle.numbers.specs.Tables.{tab, firstFailing};
 ghost use Rattle.numbers.specs.Bytes.{numbers, allBelow};
 ghost use Rattle.sharing.specs.Sharing.{openingRows};
@@ -14,12 +14,11 @@ ghost use Rattle.plan.specs.declared.Refusal.the-variants as refusal;
 ghost use Rattle.plan.specs.Refusals.{firstOf};
 ghost use Rattle.plan.specs.File.{planOf};
 ghost use Rattle.plan.specs.Planned.{Planned};
-ghost use Rattle.party.specs.Messages.{sharesOfOut};
 ghost use Rattle.party.specs.Calls.{partyChecks};
 ghost use Rattle.party.specs.Parts.{listChecks, ownChecks, stateChecks, mailChecks, outsCheck, outLies, OwnOuts};
 
 // Refusals 10 and 11.
-pub fn check_inputs(inputs: &[u8], count: usize, p: u64) -> Checked
+fn check_inputs(inputs: &[u8], count: usize, p: u64) -> Checked
     ensures { λ r. ⌜ r ≡ firstOf (listChecks refusal.InputCount refusal.InputValue p count (now (inputs .entry))) ⌝ }
 {
     if !numbers::count_is(inputs, count) {
@@ -32,7 +31,7 @@ pub fn check_inputs(inputs: &[u8], count: usize, p: u64) -> Checked
 }
 
 // Refusals 12 and 13.
-pub fn check_coins(coins: &[u8], count: usize, p: u64) -> Checked
+fn check_coins(coins: &[u8], count: usize, p: u64) -> Checked
     ensures { λ r. ⌜ r ≡ firstOf (listChecks refusal.CoinCount refusal.CoinValue p count (now (coins .entry))) ⌝ }
 {
     if !numbers::count_is(coins, count) {
@@ -82,22 +81,6 @@ fn check_mail_list(mail: &[u8], count: usize, p: u64) -> Checked
 
 // ---- refusal 20
 
-// The n shares of a party's own out j, when it has `own` outs.
-fn shares_of_out(n: usize, own: usize, j: usize, mail: &[u8]) -> [u64; 15]
-    requires { ⌜ n ≤ 15 ⌝ }
-    requires { ⌜ own ≤ 64 ⌝ }
-    requires { ⌜ j < own ⌝ }
-    ensures { λ r. ⌜ take n r ≡ sharesOfOut n own j (numbers (now (mail .entry))) ⌝ }
-{
-    let mut shares: [u64; 15] = [0; 15];
-    let mut i: usize = 0;
-    while i < n {
-        shares[i] = numbers::read(mail, own * i + j);
-        i += 1;
-    }
-    shares
-}
-
 // The first of a party's own outs whose shares don't lie on one polynomial, by the opening rows.
 fn first_off_out(h: Header, points: &[u64], rows: &[u64], own: usize, mail: &[u8]) -> Found
     requires { ⌜ OwnOuts h own ⌝ }
@@ -109,7 +92,7 @@ fn first_off_out(h: Header, points: &[u64], rows: &[u64], own: usize, mail: &[u8
     let n = h.n;
     let mut j: usize = 0;
     while j < own {
-        let shares = shares_of_out(n, own, j, mail);
+        let shares = crate::sending::shares_of_out(n, own, j, mail);
         let off = sharing::first_off_by(h.field, h.t, points, rows, &shares[..n]);
         if let Found::At(_) = off {
             return Found::At(j);

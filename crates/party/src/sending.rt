@@ -272,7 +272,7 @@ fn send_outs(plan: &[u8], h: Header, shares: &[u8], out: &mut [u8])
 // ---- call M + 2: the results
 
 // The n shares of own out j, when there are `own` of them and each party sent so many.
-fn shares_of_out(n: usize, own: usize, j: usize, mail: &[u8]) -> [u64; 15]
+pub fn shares_of_out(n: usize, own: usize, j: usize, mail: &[u8]) -> [u64; 15]
     requires { ⌜ n ≤ 15 ⌝ }
     requires { ⌜ own ≤ 65536 ⌝ }
     requires { ⌜ j < own ⌝ }

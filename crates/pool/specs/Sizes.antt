@@ -12,6 +12,8 @@ use Rattle.plan.specs.Plans.{Plan, partyCount, multiplies, inputCount, coinCoun
 use Rattle.plan.specs.File.{between, planChecks, planCheck, planOf}
 use Rattle.plan.specs.Coalitions.{members, setOk}
 use Rattle.run.specs.BenchCalls.{viewCount}
+use Rattle.run.specs.declared.Benched.{Benched}
+use Rattle.run.specs.declared.Benched.the-variants as benched
 
 -- an answer with a value: 0 in the low byte and the value above it, or the refusal's code
 unfoldable pub valueOf : Checked → ℕ → ℕ
@@ -53,3 +55,12 @@ runSize bs set what =
 -- how many calls each party makes: 0 to M + 2
 unfoldable pub callCount : List ℕ → ℕ
 callCount bs = valueOf (planCheck bs) (multiplies (planOf bs) + 3)
+
+-- what the bench answers: the elements sent as its value, or the refusal's code
+unfoldable pub answerOf : Benched → ℕ
+answerOf (benched.Sent n) = 256 * n
+answerOf (benched.Refused r) = codeOf (Refused r)
+
+unfoldable pub sentOf : Benched → ℕ
+sentOf (benched.Sent n) = n
+sentOf (benched.Refused r) = 0

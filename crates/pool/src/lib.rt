@@ -3,15 +3,19 @@ use plan::Checked;
 use plan::Header;
 use plan::Reading;
 use plan::Refusal;
+use run::Benched;
 ghost use mathlib.Core.Path.{_≡_};
 ghost use Prim.Native.Nat.{_*_, _<_, _≤_};
 ghost use lib.ListN.{length};
 ghost use Rattle.plan.specs.Refusals.{codeOf};
 ghost use Rattle.plan.specs.File.{planCheck, planOf};
 ghost use Rattle.plan.specs.Planned.{Planned};
-ghost use Rattle.plan.specs.Plans.{ownCoinCount};
+ghost use Rattle.plan.specs.Plans.{ownCoinCount, coinCount, sentCount};
 ghost use Rattle.party.specs.Calls.{callAnswer, stateAfter, outAfter};
-ghost use Rattle.pool.specs.Sizes.{mailOfCall, writtenByCall, seatCount, seatSize, callCount};
+ghost use Rattle.run.specs.BenchCalls.{benchAnswer, benchedOf, viewAfter};
+ghost use Rattle.run.specs.declared.Benched.{Benched};
+ghost use Rattle.matching.specs.MatchCalls.{matchAnswer, matchedAfter};
+ghost use Rattle.pool.specs.Sizes.{mailOfCall, writtenByCall, seatCount, seatSize, callCount, runCount, runSize, valueOf, sentOf, answerOf};
 
 // Checks a plan: refusals 1 to 8.
 #[no_mangle]
@@ -118,4 +122,75 @@ pub extern "C" fn pool_seat_call(
     ensures out { λ _. ⌜ now (out .exit) ≡ outAfter (now (plan .entry)) seat (now (figures .entry)) (now (coins .entry)) (now (state .entry)) (now (mail .entry)) (now (out .entry)) ⌝ }
 {
     plan::code(party::call(plan, seat as usize, figures, coins, state, mail, out))
+}
+
+fn coin_count(plan: &[u8], h: Header) -> usize
+    requires { ⌜ Planned (now plan) h ⌝ }
+    ensures { λ r. ⌜ record { eq : r ≡ coinCount (planOf (now (plan .entry))); le : r ≤ 409600 } ⌝ }
+{
+    h.t * plan::dealing_count(plan, h)
+}
+
+// The numbers of one of a run's lists.
+fn run_count(plan: &[u8], h: Header, set: u16, what: u16) -> usize
+    requires { ⌜ Planned (now plan) h ⌝ }
+    ensures { λ r. ⌜ record { eq : r ≡ runCount (planOf (now (plan .entry))) set what; le : r ≤ 409600 } ⌝ }
+{
+    match what {
+        0 => plan::input_count(plan, h),
+        1 => coin_count(plan, h),
+        2 => run::checking::view_count(plan, h, set),
+        _ => 0,
+    }
+}
+
+// The bytes of one of a run's lists: 0 all figures, 1 all coins, 2 the view of a set.
+#[no_mangle]
+pub extern "C" fn pool_run_size(plan: &[u8], set: u16, what: u16) -> u64
+    ensures { λ r. ⌜ r ≡ runSize (now (plan .entry)) set what ⌝ }
+{
+    let r = plan::read(plan);
+    let Reading::Passed(h) = r else {
+        return plan::code(plan::outcome(r));
+    };
+    if !plan::set_ok(h, set) {
+        return plan::code(Checked::Refused(Refusal::Coalition));
+    }
+    value(2 * run_count(plan, h, set, what))
+}
+
+// The bench's answer: the elements sent as its value, or the refusal.
+fn sent(b: Benched) -> u64
+    requires { ⌜ sentOf b < 4294967296 ⌝ }
+    ensures { λ r. ⌜ r ≡ answerOf b ⌝ }
+{
+    match b {
+        Benched::Sent(n) => value(n),
+        Benched::Refused(r) => plan::code(Checked::Refused(r)),
+    }
+}
+
+// All parties in one machine: refusals 1 to 13 and 19.
+#[no_mangle]
+pub extern "C" fn pool_bench(plan: &[u8], set: u16, figures: &[u8], coins: &[u8], view: &mut [u8]) -> u64
+    ensures answer { λ r. ⌜ r ≡ valueOf (benchAnswer (now (plan .entry)) set (now (figures .entry)) (now (coins .entry)) (length (now (view .entry)))) (sentCount (planOf (now (plan .entry)))) ⌝ }
+    ensures view { λ _. ⌜ now (view .exit) ≡ viewAfter (now (plan .entry)) set (now (figures .entry)) (now (coins .entry)) (now (view .entry)) ⌝ }
+{
+    sent(run::bench(plan, set, figures, coins, view))
+}
+
+// The matching of coins: refusals 1 to 13, 19, 21 and 22.
+#[no_mangle]
+pub extern "C" fn pool_match(
+    plan: &[u8],
+    set: u16,
+    first: &[u8],
+    second: &[u8],
+    coins: &[u8],
+    matched: &mut [u8],
+) -> u64
+    ensures answer { λ r. ⌜ r ≡ codeOf (matchAnswer (now (plan .entry)) set (now (first .entry)) (now (second .entry)) (now (coins .entry)) (length (now (matched .entry)))) ⌝ }
+    ensures matched { λ _. ⌜ now (matched .exit) ≡ matchedAfter (now (plan .entry)) set (now (first .entry)) (now (second .entry)) (now (coins .entry)) (now (matched .entry)) ⌝ }
+{
+    plan::code(matching::pair(plan, set, first, second, coins, matched))
 }
