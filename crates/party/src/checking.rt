@@ -18,7 +18,7 @@ ghost use Rattle.party.specs.Calls.{partyChecks};
 ghost use Rattle.party.specs.Parts.{listChecks, ownChecks, stateChecks, mailChecks, outsCheck, outLies, OwnOuts};
 
 // Refusals 10 and 11.
-fn check_inputs(inputs: &[u8], count: usize, p: u64) -> Checked
+pub fn check_inputs(inputs: &[u8], count: usize, p: u64) -> Checked
     ensures { λ r. ⌜ r ≡ firstOf (listChecks refusal.InputCount refusal.InputValue p count (now (inputs .entry))) ⌝ }
 {
     if !numbers::count_is(inputs, count) {
@@ -31,7 +31,7 @@ fn check_inputs(inputs: &[u8], count: usize, p: u64) -> Checked
 }
 
 // Refusals 12 and 13.
-fn check_coins(coins: &[u8], count: usize, p: u64) -> Checked
+pub fn check_coins(coins: &[u8], count: usize, p: u64) -> Checked
     ensures { λ r. ⌜ r ≡ firstOf (listChecks refusal.CoinCount refusal.CoinValue p count (now (coins .entry))) ⌝ }
 {
     if !numbers::count_is(coins, count) {
