@@ -161,6 +161,63 @@ uint64_t pool_seat_call(const uint8_t *plan, size_t plan_len, uint16_t seat,
     const uint8_t *mail, size_t mail_len,
     uint8_t *out, size_t out_len);
 
+/* The lists of a whole run, for pool_run_size. */
+enum {
+    POOL_RUN_FIGURES = 0, /* all inputs */
+    POOL_RUN_COINS = 1,   /* all coins */
+    POOL_RUN_VIEW = 2     /* the view of a coalition */
+};
+
+/*
+ * The size in bytes of one of a run's lists.
+ *
+ * set:  a coalition, for POOL_RUN_VIEW: bit i - 1 stands for party i.
+ * what: one of the lists above.
+ *
+ * Answers the size as its value, 0 where there is no such list; or the first
+ * of refusals 1 to 9.
+ */
+uint64_t pool_run_size(const uint8_t *plan, size_t plan_len, uint16_t set,
+    uint16_t what);
+
+/*
+ * A run of all parties in one machine.
+ *
+ * set:                  a coalition of at most t parties: bit i - 1 stands for
+ *                       party i.
+ * figures, figures_len: all inputs, in the plan's order.
+ * coins, coins_len:     all coins, in the plan's order.
+ * view, view_len:       written: what the coalition held and received in the
+ *                       run, for each member ascending: its inputs, its coins,
+ *                       each round's mail, its results.
+ *
+ * Answers the elements sent as its value and has written view, or answers the
+ * first of refusals 1 to 13 and 19 and has written nothing.
+ */
+uint64_t pool_bench(const uint8_t *plan, size_t plan_len, uint16_t set,
+    const uint8_t *figures, size_t figures_len,
+    const uint8_t *coins, size_t coins_len,
+    uint8_t *view, size_t view_len);
+
+/*
+ * The matching of coins: why a coalition learns no more than its results.
+ *
+ * set:                    a coalition of at most t parties.
+ * first, second:          two lists of all inputs that agree at the members'
+ *                         inputs and give the members the same results.
+ * coins, coins_len:       all coins of a run on the first list.
+ * matched, matched_len:   written: all coins with which a run on the second
+ *                         list gives the coalition the same view.
+ *
+ * Answers 0 and has written matched, or answers the first of refusals 1 to 13,
+ * 19, 21 and 22 and has written nothing.
+ */
+uint64_t pool_match(const uint8_t *plan, size_t plan_len, uint16_t set,
+    const uint8_t *first, size_t first_len,
+    const uint8_t *second, size_t second_len,
+    const uint8_t *coins, size_t coins_len,
+    uint8_t *matched, size_t matched_len);
+
 #ifdef __cplusplus
 }
 #endif

@@ -1,5 +1,5 @@
 -- The sizes that a host needs before it lends a buffer, as the C interface answers them.
-use Prim.Native.Nat.{ℕ, zero, suc, _+_, _*_}
+use Prim.Native.Nat.{ℕ, zero, suc, _+_, _*_, _%_}
 use mathlib.Core.Bool.{Bool, cond}
 use mathlib.Core.List.{List, [], _∷_, _++_}
 use lib.Dec.{eqb, leb}
@@ -56,11 +56,7 @@ runSize bs set what =
 unfoldable pub callCount : List ℕ → ℕ
 callCount bs = valueOf (planCheck bs) (multiplies (planOf bs) + 3)
 
--- what the bench answers: the elements sent as its value, or the refusal's code
+-- what the bench answers: the elements sent as its value, in bits 8 to 39 (they are at most 231,360), or the refusal's code
 unfoldable pub answerOf : Benched → ℕ
-answerOf (benched.Sent n) = 256 * n
+answerOf (benched.Sent n) = 256 * (n % 4294967296)
 answerOf (benched.Refused r) = codeOf (Refused r)
-
-unfoldable pub sentOf : Benched → ℕ
-sentOf (benched.Sent n) = n
-sentOf (benched.Refused r) = 0

@@ -13,9 +13,8 @@ ghost use Rattle.plan.specs.Planned.{Planned};
 ghost use Rattle.plan.specs.Plans.{ownCoinCount, coinCount, sentCount};
 ghost use Rattle.party.specs.Calls.{callAnswer, stateAfter, outAfter};
 ghost use Rattle.run.specs.BenchCalls.{benchAnswer, benchedOf, viewAfter};
-ghost use Rattle.run.specs.declared.Benched.{Benched};
 ghost use Rattle.matching.specs.MatchCalls.{matchAnswer, matchedAfter};
-ghost use Rattle.pool.specs.Sizes.{mailOfCall, writtenByCall, seatCount, seatSize, callCount, runCount, runSize, valueOf, sentOf, answerOf};
+ghost use Rattle.pool.specs.Sizes.{mailOfCall, writtenByCall, seatCount, seatSize, callCount, runCount, runSize, answerOf};
 
 // Checks a plan: refusals 1 to 8.
 #[no_mangle]
@@ -161,19 +160,24 @@ pub extern "C" fn pool_run_size(plan: &[u8], set: u16, what: u16) -> u64
 
 // The bench's answer: the elements sent as its value, or the refusal.
 fn sent(b: Benched) -> u64
-    requires { ⌜ sentOf b < 4294967296 ⌝ }
     ensures { λ r. ⌜ r ≡ answerOf b ⌝ }
 {
     match b {
-        Benched::Sent(n) => value(n),
+        Benched::Sent(n) => value(n % 4294967296),
         Benched::Refused(r) => plan::code(Checked::Refused(r)),
     }
 }
 
 // All parties in one machine: refusals 1 to 13 and 19.
 #[no_mangle]
-pub extern "C" fn pool_bench(plan: &[u8], set: u16, figures: &[u8], coins: &[u8], view: &mut [u8]) -> u64
-    ensures answer { λ r. ⌜ r ≡ valueOf (benchAnswer (now (plan .entry)) set (now (figures .entry)) (now (coins .entry)) (length (now (view .entry)))) (sentCount (planOf (now (plan .entry)))) ⌝ }
+pub extern "C" fn pool_bench(
+    plan: &[u8],
+    set: u16,
+    figures: &[u8],
+    coins: &[u8],
+    view: &mut [u8],
+) -> u64
+    ensures answer { λ r. ⌜ r ≡ answerOf (benchedOf (benchAnswer (now (plan .entry)) set (now (figures .entry)) (now (coins .entry)) (length (now (view .entry)))) (sentCount (planOf (now (plan .entry))))) ⌝ }
     ensures view { λ _. ⌜ now (view .exit) ≡ viewAfter (now (plan .entry)) set (now (figures .entry)) (now (coins .entry)) (now (view .entry)) ⌝ }
 {
     sent(run::bench(plan, set, figures, coins, view))
