@@ -1,2 +1,5 @@
 pub mod Decimals
 pub mod Report
+pub mod Texts
+pub mod Placed
+pub mod Answers

@@ -13,7 +13,7 @@ ghost use Rattle.run.specs.Checks.{givenChecks};
 ghost use Rattle.run.specs.BenchCalls.{viewCountOf, viewCount, runChecks};
 
 // The numbers of party i's view.
-fn view_count_of(plan: &[u8], h: Header, i: usize) -> usize
+pub fn view_count_of(plan: &[u8], h: Header, i: usize) -> usize
     requires { ⌜ Planned (now plan) h ⌝ }
     ensures { λ r. ⌜ record { eq : r ≡ viewCountOf (planOf (now (plan .entry))) i; le : r ≤ 25600 } ⌝ }
 {
@@ -25,7 +25,7 @@ fn view_count_of(plan: &[u8], h: Header, i: usize) -> usize
 }
 
 // The same, where it is a member.
-fn member_view_count(plan: &[u8], h: Header, set: u16, i: usize) -> usize
+pub fn member_view_count(plan: &[u8], h: Header, set: u16, i: usize) -> usize
     requires { ⌜ Planned (now plan) h ⌝ }
     ensures { λ r. ⌜ record { eq : r ≡ cond (inSet set i) (viewCountOf (planOf (now (plan .entry))) i) 0; le : r ≤ 25600 } ⌝ }
 {

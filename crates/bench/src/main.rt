@@ -1,0 +1,20 @@
+// The bench program (document 01): reads a plan, a set, figures and coins from standard input, and prints the set's view of the run.
+use libc::STDIN_FILENO;
+use libc::STDOUT_FILENO;
+
+fn print(input: &mut [u8], text: &mut [u8]) {
+    let n = io::read_full(STDIN_FILENO, input);
+    let m = report::report(&input[..n], text);
+    io::write_all(STDOUT_FILENO, &text[..m]);
+}
+
+// One byte more than an input may have, and room for the longest text.
+fn bench(input: &mut [u8; 32769], text: &mut [u8; 1300000]) {
+    print(input, text);
+}
+
+fn main() {
+    let mut input = [0u8; 32769];
+    let mut text = [0u8; 1300000];
+    bench(&mut input, &mut text);
+}

@@ -1,0 +1,12 @@
+-- The text of a bench run whose buffer for the view has the right length.
+use Prim.Native.Nat.{ℕ, _*_}
+use mathlib.Core.List.{List}
+use Rattle.numbers.specs.Bytes.{numbers}
+use Rattle.plan.specs.File.{planOf}
+use Rattle.plan.specs.Coalitions.{members}
+use Rattle.run.specs.BenchCalls.{viewCount, benchAnswer}
+use Rattle.report.specs.Report.{answerLines}
+
+unfoldable pub answered : List ℕ → ℕ → List ℕ → List ℕ → List ℕ
+answered bs set figures coins =
+    answerLines (benchAnswer bs set figures coins (2 * viewCount (planOf bs) (members set))) (planOf bs) set (numbers figures) (numbers coins)
