@@ -10,7 +10,7 @@
 static int passed, failed;
 
 /* An answer without a value: a refusal and its place, or 0 and 0. */
-static void expect(const char *what, uint64_t answer, unsigned number, uint32_t place)
+static inline void expect(const char *what, uint64_t answer, unsigned number, uint32_t place)
 {
     if (answer >> 40 == 0 && POOL_REFUSAL(answer) == number && POOL_PLACE(answer) == place) {
         passed++;
@@ -30,14 +30,14 @@ static inline void expect_bytes(const char *what, const uint8_t *got, const uint
     }
 }
 
-static void put(uint8_t *at, unsigned v)
+static inline void put(uint8_t *at, unsigned v)
 {
     at[0] = v & 0xff;
     at[1] = v >> 8;
 }
 
 /* The contents of a plan with G gates and O outs. */
-static void contents(uint8_t *plan, unsigned n, unsigned t, unsigned p, unsigned gates, unsigned outs)
+static inline void contents(uint8_t *plan, unsigned n, unsigned t, unsigned p, unsigned gates, unsigned outs)
 {
     memcpy(plan, "POOL", 4);
     plan[4] = 1;
@@ -51,7 +51,7 @@ static void contents(uint8_t *plan, unsigned n, unsigned t, unsigned p, unsigned
     put(plan + 16, outs);
 }
 
-static void gate(uint8_t *plan, unsigned g, unsigned kind, unsigned a, unsigned b)
+static inline void gate(uint8_t *plan, unsigned g, unsigned kind, unsigned a, unsigned b)
 {
     uint8_t *at = plan + 18 + 6 * g;
     at[0] = kind;
@@ -60,7 +60,7 @@ static void gate(uint8_t *plan, unsigned g, unsigned kind, unsigned a, unsigned 
     put(at + 4, b);
 }
 
-static void out(uint8_t *plan, unsigned gates, unsigned o, unsigned party, unsigned wire)
+static inline void out(uint8_t *plan, unsigned gates, unsigned o, unsigned party, unsigned wire)
 {
     uint8_t *at = plan + 18 + 6 * gates + 3 * o;
     at[0] = party;
@@ -68,7 +68,7 @@ static void out(uint8_t *plan, unsigned gates, unsigned o, unsigned party, unsig
 }
 
 /* Plan K: n=3, t=1, p=11; input 1, input 2, multiply 0 1, add 2 0; out to party 3 of wire 3. */
-static size_t plan_k(uint8_t *plan)
+static inline size_t plan_k(uint8_t *plan)
 {
     contents(plan, 3, 1, 11, 4, 1);
     gate(plan, 0, 1, 1, 0);
