@@ -1,0 +1,71 @@
+/* Every call on buffers of random lengths at random alignments, each in a block of its own that ends where the buffer ends: a read or write past
+ * an end is an error under valgrind (tests/c/run runs it so). Counts a call whose answer is a refusal of the table, or none. */
+#include <stdlib.h>
+
+#include "plans.h"
+
+enum { CASES = 3000 };
+
+static uint64_t state = 88172645463325252u;
+
+static unsigned below(unsigned bound)
+{
+    state ^= state << 13;
+    state ^= state >> 7;
+    state ^= state << 17;
+    return (unsigned)(state % bound);
+}
+
+struct slice {
+    uint8_t *block, *at;
+    size_t len;
+};
+
+/* A block that ends where the slice ends, which starts at a random alignment. */
+static struct slice lend(const uint8_t *from, size_t len)
+{
+    unsigned shift = below(8);
+    struct slice s = {malloc(shift + len + (len == 0)), NULL, len};
+    s.at = s.block + shift;
+    for (size_t i = 0; i < len; i++)
+        s.at[i] = from ? from[i] : below(3) ? 0 : (uint8_t)below(256);
+    return s;
+}
+
+static void check(uint64_t answer)
+{
+    if (POOL_REFUSAL(answer) <= 22)
+        passed++;
+    else
+        failed++;
+}
+
+int main(void)
+{
+    uint8_t k[64];
+    size_t k_len = plan_k(k);
+    for (unsigned i = 0; i < CASES; i++) {
+        static const size_t sizes[] = {0, 2, 4, 6, 10, 20, 40};
+        struct slice s[6];
+        size_t cut = below(4) ? k_len : below((unsigned)k_len + 1);
+        s[0] = lend(k, cut);
+        if (cut && !below(3))
+            s[0].at[below((unsigned)cut)] = (uint8_t)below(256);
+        for (unsigned j = 1; j < 6; j++)
+            s[j] = lend(NULL, below(3) ? sizes[below(7)] : below(50));
+        if (!below(3))
+            s[3].len = s[3].len > 10 ? 10 : s[3].len;
+        uint16_t seat = (uint16_t)(below(4) ? below(5) : below(65536));
+        check(pool_plan_check(s[0].at, s[0].len));
+        check(pool_calls(s[0].at, s[0].len));
+        check(pool_seat_size(s[0].at, s[0].len, seat, (uint16_t)below(6), (uint16_t)below(6)));
+        check(pool_run_size(s[0].at, s[0].len, seat, (uint16_t)below(4)));
+        check(pool_seat_call(s[0].at, s[0].len, seat, s[1].at, s[1].len, s[2].at, s[2].len, s[3].at, s[3].len, s[4].at, s[4].len, s[5].at, s[5].len));
+        check(pool_bench(s[0].at, s[0].len, seat, s[1].at, s[1].len, s[2].at, s[2].len, s[3].at, s[3].len));
+        check(pool_match(s[0].at, s[0].len, seat, s[1].at, s[1].len, s[2].at, s[2].len, s[4].at, s[4].len, s[5].at, s[5].len));
+        for (unsigned j = 0; j < 6; j++)
+            free(s[j].block);
+    }
+    printf("%d passed, %d failed\n", passed, failed);
+    return failed != 0;
+}
