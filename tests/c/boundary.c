@@ -1,5 +1,5 @@
 /* Every call on buffers of random lengths at random alignments, each in a block of its own that ends where the buffer ends: a read or write past
- * an end is an error under valgrind (tests/c/run runs it so). Counts a call whose answer is a refusal of the table, or none. */
+ * an end is an error under valgrind (tests/c/run runs it so). All calls together count as one fact: each answer is a refusal of the table, or none. */
 #include <stdlib.h>
 
 #include "plans.h"
@@ -34,9 +34,7 @@ static struct slice lend(const uint8_t *from, size_t len)
 
 static void check(uint64_t answer)
 {
-    if (POOL_REFUSAL(answer) <= 22)
-        passed++;
-    else
+    if (POOL_REFUSAL(answer) > 22)
         failed++;
 }
 
@@ -66,6 +64,7 @@ int main(void)
         for (unsigned j = 0; j < 6; j++)
             free(s[j].block);
     }
+    passed = failed == 0;
     printf("%d passed, %d failed\n", passed, failed);
     return failed != 0;
 }
