@@ -37,15 +37,15 @@ use Rattle.plan.specs.Refusals.{andThen, firstOf, need, unlessFound}
 use Rattle.plan.specs.Plans.{Plan, isInput, inputCount, dealings, coinCount}
 use Rattle.plan.specs.File.{gateAt, outAt, planOf}
 use Rattle.plan.specs.Planned.{Planned}
-use Rattle.plan.specs.Coalitions.{setFits, setOk, inSet}
+use Rattle.coalition.specs.Coalitions.{setFits, setOk, inSet}
 use Rattle.plan.proofs.Planned.{plan-p, plan-n, plan-t, plan-gates, plan-gate, plan-outs, plan-out}
 use Rattle.plan.proofs.Refusals.{andThen-passed, andThen-refused, firstOf-append, passed-both, passed-need, passed-found}
-use Rattle.run.specs.Ideal.{inputsTaken, values}
-use Rattle.run.proofs.Wires.{values-length}
+use Rattle.protocol.specs.Ideal.{inputsTaken, values}
+use Rattle.protocol.proofs.Wires.{values-length}
 use Rattle.matching.specs.MatchCalls.{inputOwners, inputsAgree, outsAgree, pairChecks}
 use Rattle.matching.specs.MatchParts.{inputChecks, coinChecks, agreeChecks, inputAgrees, gateAgrees, outAgrees, outAgreesAt}
 use Rattle.matching.specs.MatchSteps.{Matchable}
-use Rattle.matching.proofs.IdealLaws.{next-taken}
+use Rattle.ideal.proofs.IdealLaws.{next-taken}
 
 -- ---- the set and the inputs
 module _ (bs : List ℕ) (h : Header) (set : ℕ) (xs ys : List ℕ) (k : Planned bs h) (s : Bool) (es : s ≡ setFits (h .n) (h .t) set) where

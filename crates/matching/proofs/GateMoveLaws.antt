@@ -25,8 +25,8 @@ use Rattle.plan.specs.declared.Gate.the-variants.{Input, Add, Scale, Offset, Mu
 use Rattle.plan.specs.declared.Header.{Header}
 use Rattle.plan.specs.File.{gateOk}
 use Rattle.plan.proofs.Planned.{both-true}
-use Rattle.run.specs.Rows.{productsOf, Rowed, Standing}
-use Rattle.run.proofs.RowLaws.{part-front, row-room}
+use Rattle.tables.specs.Rows.{productsOf, Rowed, Standing}
+use Rattle.tables.proofs.RowLaws.{part-front, row-room}
 use Rattle.matching.specs.MatchSteps.{movedBlocks, dealersIn, dealtIn, Lent, Advanced}
 
 -- ---- a multiply gate

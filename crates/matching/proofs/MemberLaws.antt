@@ -20,22 +20,22 @@ use Rattle.numbers.proofs.Below.{allBelow-at, at-allBelow}
 use Rattle.field.specs.Mod.{add, mul, sub}
 use Rattle.field.proofs.Solve.{Canon, #, quote, solve}
 use Rattle.field.proofs.Inverse.{pos}
-use Rattle.sharing.specs.Poly.{sumOf, scale, padded}
-use Rattle.sharing.specs.Interp.{All, delta}
-use Rattle.sharing.specs.Sharing.{matched}
-use Rattle.sharing.proofs.Deltas.{length-delta}
+use Rattle.polynomials.specs.Poly.{sumOf, scale, padded}
+use Rattle.polynomials.specs.Interp.{All, delta}
+use Rattle.polynomials.specs.Sharing.{matched}
+use Rattle.polynomials.proofs.Deltas.{length-delta}
 use Rattle.sharing.proofs.Factors.{padded-below, delta-below}
 use Rattle.plan.specs.declared.Header.{Header}
 use Rattle.plan.specs.Plans.{Plan, pointOf}
 use Rattle.plan.specs.File.{planOf}
 use Rattle.plan.specs.Planned.{Planned}
-use Rattle.plan.specs.Coalitions.{inSet, membersFrom, members, setOk}
+use Rattle.coalition.specs.Coalitions.{inSet, membersFrom, members, setOk}
 use Rattle.plan.proofs.Planned.{plan-n, plan-points}
 use Rattle.plan.proofs.Valid.{Valid}
-use Rattle.matching.specs.Matching.{isMember, matchedBlocks}
+use Rattle.privacy.specs.Matching.{isMember, matchedBlocks}
 use Rattle.matching.specs.MatchSteps.{deltaTail, moved, changeOf, movedBlocks}
-use Rattle.matching.proofs.Blocks.{all-take, all-drop, matchedBlock, blocks-cons, block-member, block-other}
-use Rattle.matching.proofs.SetMembers.{member-in, set-few, set-parties}
+use Rattle.privacy.proofs.Blocks.{all-take, all-drop, matchedBlock, blocks-cons, block-member, block-other}
+use Rattle.privacy.proofs.SetMembers.{member-in, set-few, set-parties}
 
 -- ---- members by their bits
 in-member : (set k d j : ℕ) → inSet set d ≡ true → j ≤ d → d < j + k → isMember d (membersFrom set j k) ≡ true

@@ -22,10 +22,10 @@ use Rattle.numbers.proofs.Bytes.{numbers-length, numbers-stored, length-stored}
 use Rattle.field.specs.Mod.{add, mul, sub}
 use Rattle.field.specs.Field.{Is}
 use Rattle.field.proofs.Products.{word}
-use Rattle.sharing.specs.Poly.{sumOf, scale}
+use Rattle.polynomials.specs.Poly.{sumOf, scale}
 use Rattle.sharing.specs.Ready.{Ready}
 use Rattle.sharing.proofs.Coding.{entry-below, step-value}
-use Rattle.plan.specs.Coalitions.{inSet, membersFrom, members}
+use Rattle.coalition.specs.Coalitions.{inSet, membersFrom, members}
 use Rattle.matching.specs.MatchSteps.{moved, changeOf, movedBlocks, Lent, Written, Advanced}
 
 -- ---- the members of a set: those below i stand in front

@@ -16,11 +16,11 @@ use Rattle.plan.specs.declared.Refusal.{Refusal}
 use Rattle.plan.specs.Refusals.{andThen, firstOf}
 use Rattle.plan.specs.File.{planChecks, planCheck, planOf}
 use Rattle.plan.specs.Planned.{ReadAs}
-use Rattle.plan.specs.Coalitions.{members}
+use Rattle.coalition.specs.Coalitions.{members}
 use Rattle.plan.proofs.Refusals.{andThen-passed, andThen-refused, firstOf-append}
 use Rattle.plan.proofs.Planned.{planned-read, refused-read}
-use Rattle.party.specs.Calls.{unlessRefused}
-use Rattle.matching.specs.Matching.{matchedCoins}
+use Rattle.messages.specs.Calls.{unlessRefused}
+use Rattle.privacy.specs.Matching.{matchedCoins}
 use Rattle.matching.specs.MatchCalls.{pairChecks, matchAnswer, matchedAfter}
 use Rattle.matching.specs.MatchParts.{checkedOf}
 use Rattle.matching.proofs.AgreeLaws.{matchable}

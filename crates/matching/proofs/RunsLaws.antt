@@ -23,31 +23,31 @@ use Rattle.numbers.proofs.Counts.{countWhere-take-zero}
 use Rattle.field.specs.Mod.{mul}
 use Rattle.field.proofs.Solve.{canon-lt, add-canon, mul-canon}
 use Rattle.field.proofs.Inverse.{pos}
-use Rattle.sharing.specs.Poly.{padded}
-use Rattle.sharing.specs.Interp.{dot, delta}
-use Rattle.sharing.proofs.Polys.{eval-canon}
-use Rattle.sharing.proofs.Deltas.{length-delta}
+use Rattle.polynomials.specs.Poly.{padded}
+use Rattle.polynomials.specs.Interp.{dot, delta}
+use Rattle.polynomials.proofs.Polys.{eval-canon}
+use Rattle.polynomials.proofs.Deltas.{length-delta}
 use Rattle.plan.specs.declared.Gate.{Gate}
 use Rattle.plan.specs.declared.Gate.the-variants.{Input, Add, Scale, Offset, Multiply}
 use Rattle.plan.specs.declared.Header.{Header}
 use Rattle.plan.specs.Plans.{Plan, isInput, coinCount, dealings, pointOf}
 use Rattle.plan.specs.File.{planOf, gateAt}
 use Rattle.plan.specs.Planned.{Planned}
-use Rattle.plan.specs.Coalitions.{members, setOk}
+use Rattle.coalition.specs.Coalitions.{members, setOk}
 use Rattle.plan.proofs.Planned.{plan-t, plan-p, plan-gates, plan-gate}
 use Rattle.plan.proofs.Valid.{valid}
-use Rattle.run.specs.Ideal.{inputsTaken}
-use Rattle.run.specs.Shares.{gateShare, coinsTaken, coinsBelow}
-use Rattle.run.specs.Rows.{rowsOf, Sized, Prepared, Standing}
-use Rattle.run.proofs.Below.{append-below, map-below}
-use Rattle.run.proofs.FillLaws.{rows-snoc, coins-next, coins-within}
-use Rattle.run.proofs.RowLaws.{row-room}
-use Rattle.run.proofs.StepLaws.{planned-ready, planned-sized}
-use Rattle.matching.specs.Matching.{matchedAt, matchFrom, matchedCoins}
+use Rattle.protocol.specs.Ideal.{inputsTaken}
+use Rattle.protocol.specs.Shares.{gateShare, coinsTaken, coinsBelow}
+use Rattle.tables.specs.Rows.{rowsOf, Sized, Prepared, Standing}
+use Rattle.protocol.proofs.Below.{append-below, map-below}
+use Rattle.tables.proofs.FillLaws.{rows-snoc, coins-next, coins-within}
+use Rattle.tables.proofs.RowLaws.{row-room}
+use Rattle.tables.proofs.StepLaws.{planned-ready, planned-sized}
+use Rattle.privacy.specs.Matching.{matchedAt, matchFrom, matchedCoins}
 use Rattle.matching.specs.MatchSteps.{deltaTail, Equipped, Turn, Matched, Matchable}
-use Rattle.matching.proofs.Blocks.{match-cons}
-use Rattle.matching.proofs.SetMembers.{set-few}
-use Rattle.matching.proofs.IdealLaws.{next-taken, input-below}
+use Rattle.privacy.proofs.Blocks.{match-cons}
+use Rattle.privacy.proofs.SetMembers.{set-few}
+use Rattle.ideal.proofs.IdealLaws.{next-taken, input-below}
 use Rattle.matching.proofs.MemberLaws.{points-of-members, members-below, length-tail}
 
 -- ---- a gate's shares are below p

@@ -21,7 +21,7 @@ use Rattle.numbers.proofs.Bytes.{numbers-length}
 use Rattle.numbers.proofs.Below.{allBelow-append, allBelow-take, allBelow-drop}
 use Rattle.field.specs.Mod.{mul}
 use Rattle.field.proofs.Inverse.{pos}
-use Rattle.sharing.specs.Interp.{All}
+use Rattle.polynomials.specs.Interp.{All}
 use Rattle.sharing.proofs.Coding.{map-tab}
 use Rattle.sharing.proofs.Factors.{scale-below, sum-below}
 use Rattle.plan.specs.declared.Gate.{Gate}
@@ -30,18 +30,18 @@ use Rattle.plan.specs.declared.Header.{Header}
 use Rattle.plan.specs.Plans.{Plan, partyCount, dealerCount, dealerPoints, dealersOf}
 use Rattle.plan.specs.File.{planOf, gateAt, gateOk}
 use Rattle.plan.specs.Planned.{Planned}
-use Rattle.plan.specs.Coalitions.{members}
+use Rattle.coalition.specs.Coalitions.{members}
 use Rattle.plan.proofs.Planned.{both-true, between-true, plan-n, plan-t, plan-p, plan-dealers}
 use Rattle.plan.proofs.Valid.{Valid, valid}
-use Rattle.run.specs.Shares.{wireAt, dealtAt, gateShare, coinsTaken}
-use Rattle.run.specs.Rows.{rowsOf, productsOf, Sized, Standing, Taking, Stepped}
-use Rattle.run.proofs.Lists.{all-tab}
-use Rattle.run.proofs.StepLaws.{planned-sized}
-use Rattle.run.proofs.GateLaws.{entry-of-wire}
-use Rattle.matching.specs.Matching.{matchedBlocks, matchedAt}
+use Rattle.protocol.specs.Shares.{wireAt, dealtAt, gateShare, coinsTaken}
+use Rattle.tables.specs.Rows.{rowsOf, productsOf, Sized, Standing, Taking, Stepped}
+use Rattle.protocol.proofs.Lists.{all-tab}
+use Rattle.tables.proofs.StepLaws.{planned-sized}
+use Rattle.tables.proofs.GateLaws.{entry-of-wire}
+use Rattle.privacy.specs.Matching.{matchedBlocks, matchedAt}
 use Rattle.matching.specs.MatchSteps.{deltaTail, moved, movedBlocks, dealersIn, dealtIn, Lent, Advanced, Equipped, Turn, NewCoins, Matched}
-use Rattle.matching.proofs.Blocks.{below-canon, share-prefix}
-use Rattle.matching.proofs.IdealLaws.{gate-kept}
+use Rattle.privacy.proofs.Blocks.{below-canon, share-prefix}
+use Rattle.ideal.proofs.IdealLaws.{gate-kept}
 use Rattle.matching.proofs.MemberLaws.{length-tail, tail-below, blocks-are}
 
 -- ---- who deals at a gate, and what

@@ -1,4 +1,3 @@
-pub mod Matching
 pub mod MatchCalls
 pub mod MatchParts
 pub mod MatchSteps

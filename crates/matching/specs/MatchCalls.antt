@@ -14,10 +14,10 @@ use Rattle.plan.specs.declared.Refusal.the-variants as refusal
 use Rattle.plan.specs.Refusals.{firstOf, need, unlessFound}
 use Rattle.plan.specs.Plans.{Plan, inputCount, coinCount}
 use Rattle.plan.specs.File.{planChecks, planOf}
-use Rattle.plan.specs.Coalitions.{members, setOk, inSet}
-use Rattle.party.specs.Calls.{unlessRefused}
-use Rattle.run.specs.Ideal.{values}
-use Rattle.matching.specs.Matching.{matchedCoins}
+use Rattle.coalition.specs.Coalitions.{members, setOk, inSet}
+use Rattle.messages.specs.Calls.{unlessRefused}
+use Rattle.protocol.specs.Ideal.{values}
+use Rattle.privacy.specs.Matching.{matchedCoins}
 
 -- the party of each input, in gate order
 unfoldable pub inputOwners : List Gate → List ℕ

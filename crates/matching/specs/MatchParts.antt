@@ -15,8 +15,8 @@ use Rattle.plan.specs.declared.Checked.the-variants.{Passed, Refused}
 use Rattle.plan.specs.declared.Refusal.the-variants as refusal
 use Rattle.plan.specs.Refusals.{need, unlessFound}
 use Rattle.plan.specs.Plans.{Plan, inputCount, coinCount}
-use Rattle.plan.specs.Coalitions.{setOk, inSet}
-use Rattle.run.specs.Ideal.{values}
+use Rattle.coalition.specs.Coalitions.{setOk, inSet}
+use Rattle.protocol.specs.Ideal.{values}
 use Rattle.matching.specs.MatchCalls.{inputOwners, inputsAgree, outsAgree}
 
 -- refusals 9 to 11

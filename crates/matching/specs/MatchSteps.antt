@@ -7,18 +7,18 @@ use lib.ListN.{length, take, drop, getD}
 use Rattle.numbers.specs.Tables.{tab}
 use Rattle.numbers.specs.Bytes.{numbers, allBelow}
 use Rattle.field.specs.Mod.{sub}
-use Rattle.sharing.specs.Poly.{sumOf, scale, padded}
-use Rattle.sharing.specs.Interp.{delta}
+use Rattle.polynomials.specs.Poly.{sumOf, scale, padded}
+use Rattle.polynomials.specs.Interp.{delta}
 use Rattle.plan.specs.declared.Gate.{Gate}
 use Rattle.plan.specs.declared.Gate.the-variants.{Input, Add, Scale, Offset, Multiply}
 use Rattle.plan.specs.declared.Header.{Header}
 use Rattle.plan.specs.Plans.{Plan, pointOf, coinCount}
 use Rattle.plan.specs.File.{planOf, gateAt}
 use Rattle.plan.specs.Planned.{Planned}
-use Rattle.plan.specs.Coalitions.{inSet, members, setOk}
-use Rattle.run.specs.Shares.{gateShare, coinsTaken}
-use Rattle.run.specs.Rows.{rowsOf, productsOf, Standing, Taking}
-use Rattle.matching.specs.Matching.{matchedAt}
+use Rattle.coalition.specs.Coalitions.{inSet, members, setOk}
+use Rattle.protocol.specs.Shares.{gateShare, coinsTaken}
+use Rattle.tables.specs.Rows.{rowsOf, productsOf, Standing, Taking}
+use Rattle.privacy.specs.Matching.{matchedAt}
 
 -- the coefficients of X to X^t of the members' delta
 unfoldable pub deltaTail : Plan → ℕ → List ℕ

@@ -1,5 +1,4 @@
 // Refusals 9 to 13, 19, 21 and 22 of a matching, in their order.
-use crate::ideal;
 use numbers::Found;
 use plan::Checked;
 use plan::Gate;
@@ -17,7 +16,7 @@ ghost use Rattle.plan.specs.Refusals.{firstOf};
 ghost use Rattle.plan.specs.Plans.{inputCount};
 ghost use Rattle.plan.specs.File.{planOf};
 ghost use Rattle.plan.specs.Planned.{Planned};
-ghost use Rattle.run.specs.Ideal.{values};
+ghost use Rattle.protocol.specs.Ideal.{values};
 ghost use Rattle.matching.specs.MatchCalls.{pairChecks};
 ghost use Rattle.matching.specs.MatchParts.{inputChecks, coinChecks, agreeChecks, inputAgrees, gateAgrees, outAgrees, outAgreesAt};
 
@@ -28,10 +27,10 @@ fn check_inputs(plan: &[u8], h: Header, set: u16, first: &[u8], second: &[u8]) -
     requires { ⌜ Planned (now plan) h ⌝ }
     ensures { λ r. ⌜ r ≡ firstOf (inputChecks (planOf (now (plan .entry))) set (now (first .entry)) (now (second .entry))) ⌝ }
 {
-    if !plan::set_ok(h, set) {
+    if !coalition::set_ok(h, set) {
         return Checked::Refused(Refusal::Coalition);
     }
-    let count = plan::input_count(plan, h);
+    let count = counts::input_count(plan, h);
     if !numbers::count_is(first, count) {
         return Checked::Refused(Refusal::InputCount);
     }
@@ -52,7 +51,7 @@ fn check_coins(plan: &[u8], h: Header, coins: &[u8], room: usize) -> Checked
     requires { ⌜ Planned (now plan) h ⌝ }
     ensures { λ r. ⌜ r ≡ firstOf (coinChecks (planOf (now (plan .entry))) (now (coins .entry)) room) ⌝ }
 {
-    let count = h.t * plan::dealing_count(plan, h);
+    let count = h.t * counts::dealing_count(plan, h);
     if !numbers::count_is(coins, count) {
         return Checked::Refused(Refusal::CoinCount);
     }
@@ -71,7 +70,7 @@ fn check_coins(plan: &[u8], h: Header, coins: &[u8], room: usize) -> Checked
 fn input_agrees(set: u16, party: usize, x: u64, y: u64) -> bool
     ensures { λ r. ⌜ r ≡ gateAgrees set (gate.Input party) x y ⌝ }
 {
-    if plan::is_member(set, party) {
+    if coalition::is_member(set, party) {
         return x == y;
     }
     true
@@ -117,7 +116,7 @@ fn first_input_off(plan: &[u8], h: Header, set: u16, first: &[u8], second: &[u8]
 fn out_agrees(set: u16, out: Output, before: &[u64], after: &[u64]) -> bool
     ensures { λ r. ⌜ r ≡ outAgrees set (now (before .entry)) (now (after .entry)) out ⌝ }
 {
-    if plan::is_member(set, out.party) {
+    if coalition::is_member(set, out.party) {
         return ideal::wire(before, out.wire) == ideal::wire(after, out.wire);
     }
     true

@@ -1,5 +1,4 @@
 // The coins of the matched run. Both runs' tables of shares are worked side by side, gate by gate.
-use crate::ideal;
 use field::Field;
 use plan::Gate;
 use plan::Header;
@@ -14,9 +13,9 @@ ghost use Rattle.field.specs.Field.{Below2, Is};
 ghost use Rattle.sharing.specs.Ready.{Ready};
 ghost use Rattle.plan.specs.File.{planOf, gateAt, gateOk};
 ghost use Rattle.plan.specs.Planned.{Planned};
-ghost use Rattle.plan.specs.Coalitions.{members, setOk};
-ghost use Rattle.run.specs.Rows.{productsOf, Sized, Prepared, Rowed, Standing, Taking, Stepped};
-ghost use Rattle.matching.specs.Matching.{matchedCoins};
+ghost use Rattle.coalition.specs.Coalitions.{members, setOk};
+ghost use Rattle.tables.specs.Rows.{productsOf, Sized, Prepared, Rowed, Standing, Taking, Stepped};
+ghost use Rattle.privacy.specs.Matching.{matchedCoins};
 ghost use Rattle.matching.specs.MatchSteps.{deltaTail, moved, changeOf, movedBlocks, dealersIn, dealtIn, Lent, Written, Advanced, Equipped, Turn, NewCoins, Matched, Matchable};
 
 // ---- the members
@@ -39,7 +38,7 @@ fn members(set: u16, room: &mut [u64]) -> usize
     let mut i: usize = 1;
     while i <= 16 {
         room[k] = i as u64;
-        k += one_if(plan::is_member(set, i));
+        k += one_if(coalition::is_member(set, i));
         i += 1;
     }
     k
@@ -95,7 +94,7 @@ fn match_input(
     requires { ⌜ Lent (f .p) at (length (now delta)) (now coins) (now out) ⌝ }
     ensures { λ r. ⌜ Advanced at (length (now (delta .entry))) (movedBlocks (f .p) (length (now (delta .entry))) set (now (delta .entry)) (party ∷ []) (before ∷ []) (after ∷ []) (drop at (numbers (now (coins .entry))))) (now (out .entry)) (now (out .exit)) r ⌝ }
 {
-    let d = change(f, plan::is_member(set, party), before, after);
+    let d = change(f, coalition::is_member(set, party), before, after);
     move_coins(f, d, delta, coins, at, out);
     at + delta.len()
 }
@@ -124,7 +123,7 @@ fn match_products(
     let mut place = at;
     let mut i: usize = 0;
     while i < m {
-        let d = change(f, plan::is_member(set, i + 1), before[i], after[i]);
+        let d = change(f, coalition::is_member(set, i + 1), before[i], after[i]);
         move_coins(f, d, delta, coins, place, out);
         place += t;
         i += 1;
@@ -139,7 +138,7 @@ fn products(h: Header, a: usize, b: usize, table: &[u64]) -> [u64; 15]
     requires { ⌜ Rowed (h .field .p) (h .n) b (now table) ⌝ }
     ensures { λ r. ⌜ record { eq : take (h .t + h .t + 1) r ≡ productsOf (h .field .p) (h .n) (h .t + h .t + 1) a b (now (table .entry)); below : allBelow (h .field .p) (take (h .t + h .t + 1) r) ≡ true } ⌝ }
 {
-    run::tables::products(h.field, h.n, h.t + h.t + 1, a, b, table)
+    tables::products(h.field, h.n, h.t + h.t + 1, a, b, table)
 }
 
 // Those of a multiply gate's dealings, by both runs' tables.
@@ -254,8 +253,8 @@ fn step_both(
     ensures { λ _. ⌜ Stepped (planOf (now (plan .entry))) (h .n) (gateAt (now (plan .entry)) g) g x (drop at (numbers (now (coins .entry)))) (now (before .entry)) (now (before .exit)) ⌝ }
     ensures { λ _. ⌜ Stepped (planOf (now (plan .entry))) (h .n) (gateAt (now (plan .entry)) g) g y (drop at (numbers (now (new .entry)))) (now (after .entry)) (now (after .exit)) ⌝ }
 {
-    run::tables::step(plan, h, rows, weights, g, x, coins, at, before);
-    run::tables::step(plan, h, rows, weights, g, y, new, at, after);
+    tables::step(plan, h, rows, weights, g, x, coins, at, before);
+    tables::step(plan, h, rows, weights, g, y, new, at, after);
 }
 
 // Gate g of both runs: its new coins, and its row in both tables. Answers the place after the coins.
@@ -365,7 +364,7 @@ fn match_with(
     let mut weights = [0u64; 15];
     let mut before = [0u64; 15360];
     let mut after = [0u64; 15360];
-    run::tables::prepare(h, &mut rows, &mut weights);
+    tables::prepare(h, &mut rows, &mut weights);
     match_runs(
         plan,
         h,

@@ -1,7 +1,8 @@
 // Lists of numbers that are lent as bytes: two bytes a number, the low byte first. A read past the end is 0, and a write
 // there changes nothing.
 ghost use mathlib.Core.Path.{_≡_};
-ghost use Prim.Native.Nat.{_<_};
+ghost use mathlib.Core.Bool.{cond};
+ghost use Prim.Native.Nat.{_<_, _≤_};
 ghost use lib.ListN.{getD, drop};
 ghost use Rattle.numbers.specs.Bytes.{wordAt, limit, numbers, holdsCount, stored, firstOver, allBelow};
 
@@ -100,4 +101,14 @@ pub fn all_below(s: &[u8], from: usize, p: u64) -> bool
         i += 1;
     }
     true
+}
+
+// 1 where something holds, else 0: what it adds to a count.
+pub fn one_if(t: bool) -> usize
+    ensures { λ r. ⌜ record { eq : r ≡ cond t 1 0; le : r ≤ 1 } ⌝ }
+{
+    if t {
+        return 1;
+    }
+    0
 }

@@ -33,10 +33,10 @@ use Rattle.plan.specs.File.{planChecks, planCheck, planOf}
 use Rattle.plan.specs.Planned.{Planned, ReadAs}
 use Rattle.plan.proofs.Refusals.{andThen-passed, andThen-refused, firstOf-append, passed-both, passed-need, passed-found}
 use Rattle.plan.proofs.Planned.{planned-read, refused-read, both-true, between-true, plan-p}
-use Rattle.party.specs.Messages.{learn, callWith, call}
-use Rattle.party.specs.Calls.{partyChecks, callChecks, callAnswer, written, unlessRefused, calledOn, stateAfter, outAfter}
-use Rattle.party.specs.Lent.{Holds}
-use Rattle.party.specs.Sending.{Lent}
+use Rattle.messages.specs.Messages.{learn, callWith, call}
+use Rattle.messages.specs.Calls.{partyChecks, callChecks, callAnswer, written, unlessRefused, calledOn, stateAfter, outAfter}
+use Rattle.learning.specs.Lent.{Holds}
+use Rattle.sending.specs.Sending.{Lent}
 use Rattle.party.specs.Admitted.{Admitted, Whole, Learnt, Sendable, checkedOf, stateLeft, outLeft}
 
 -- ---- a call that passes its checks

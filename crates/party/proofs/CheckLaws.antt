@@ -25,7 +25,7 @@ use Rattle.numbers.specs.Bytes.{numbers, holdsCount, firstOver, allBelow}
 use Rattle.numbers.proofs.Tables.{length-tab}
 use Rattle.numbers.proofs.Below.{allBelow-tab, firstOver-nothing}
 use Rattle.numbers.proofs.Searches.{Seeking, begin, found, passed, nothing}
-use Rattle.sharing.specs.Sharing.{firstOff, openingRow, openingRows}
+use Rattle.polynomials.specs.Sharing.{firstOff, openingRow, openingRows}
 use Rattle.sharing.specs.Ready.{Ready}
 use Rattle.sharing.proofs.Coding.{entry-below}
 use Rattle.sharing.proofs.Rows.{length-row, length-rows}
@@ -41,9 +41,9 @@ use Rattle.plan.specs.Planned.{Planned}
 use Rattle.plan.proofs.Refusals.{andThen-passed, andThen-refused, andThen-end, firstOf-nil, firstOf-cons, firstOf-append, need-true, need-false, found-at, found-nothing, passed-both, passed-found}
 use Rattle.plan.proofs.Planned.{plan-t, plan-p, plan-n, plan-points, plan-gates}
 use Rattle.plan.proofs.Valid.{valid}
-use Rattle.party.specs.Messages.{sharesOfOut}
-use Rattle.party.specs.Calls.{nothingFound, openingCheck, partyChecks}
-use Rattle.party.proofs.PointLaws.{first-points, points-below}
+use Rattle.messages.specs.Messages.{sharesOfOut}
+use Rattle.messages.specs.Calls.{nothingFound, openingCheck, partyChecks}
+use Rattle.messages.proofs.PointLaws.{first-points, points-below}
 use Rattle.party.specs.Parts.{listChecks, ownChecks, stateChecks, mailChecks, outsCheck, outLies, OwnOuts}
 
 -- ---- a lent list

@@ -1,11 +1,2 @@
-pub mod PointLaws
-pub mod LearnLaws
-pub mod SendLaws
-pub mod DealLaws
-pub mod InputLaws
-pub mod OutLaws
-pub mod ProductLaws
-pub mod ResultLaws
-pub mod WrittenLaws
 pub mod CheckLaws
 pub mod CallLaws

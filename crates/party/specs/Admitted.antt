@@ -10,8 +10,8 @@ use Rattle.plan.specs.declared.Reading.the-variants as reading
 use Rattle.plan.specs.declared.Checked.{Checked}
 use Rattle.plan.specs.declared.Checked.the-variants.{Passed, Refused}
 use Rattle.plan.specs.Plans.{Plan, partyCount, multiplies, ownInputCount, ownCoinCount, mailCount, writtenCount}
-use Rattle.party.specs.Messages.{learn, call}
-use Rattle.party.specs.Calls.{written}
+use Rattle.messages.specs.Messages.{learn, call}
+use Rattle.messages.specs.Calls.{written}
 
 -- the lent lists have their counts, and their numbers are below p; `room` is the length of the buffer to be written
 pub record Admitted (plan : Plan) (i : ℕ) (inputs coins state mail : List ℕ) (room : ℕ) : Type 0 where

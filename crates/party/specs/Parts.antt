@@ -6,7 +6,7 @@ use lib.Dec.{eqb, leb}
 use lib.ListN.{drop, getD}
 use Rattle.numbers.specs.Tables.{tab, firstFailing}
 use Rattle.numbers.specs.Bytes.{numbers, holdsCount, firstOver, allBelow}
-use Rattle.sharing.specs.Sharing.{firstOff}
+use Rattle.polynomials.specs.Sharing.{firstOff}
 use Rattle.sharing.specs.Ready.{Ready}
 use Rattle.plan.specs.declared.Header.{Header}
 use Rattle.plan.specs.declared.Checked.{Checked}
@@ -15,8 +15,8 @@ use Rattle.plan.specs.declared.Refusal.the-variants as refusal
 use Rattle.plan.specs.Refusals.{need, unlessFound}
 use Rattle.plan.specs.Plans.{Plan, partyCount, multiplies, ownInputCount, ownCoinCount, ownOutCount, mailCount, writtenCount}
 use Rattle.plan.specs.File.{between}
-use Rattle.party.specs.Messages.{sharesOfOut}
-use Rattle.party.specs.Calls.{nothingFound, openingCheck}
+use Rattle.messages.specs.Messages.{sharesOfOut}
+use Rattle.messages.specs.Calls.{nothingFound, openingCheck}
 
 -- the checks of a lent list: its count, then the first of its numbers that isn't below p
 unfoldable pub listChecks : Refusal → (ℕ → Refusal) → ℕ → ℕ → List ℕ → List Checked

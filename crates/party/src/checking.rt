@@ -9,12 +9,12 @@ ghost use Prim.Native.Nat.{suc, _<_, _≤_, _+_, _*_};
 ghost use lib.ListN.{length};
 ghost use Rattle.numbers.specs.Tables.{tab, firstFailing};
 ghost use Rattle.numbers.specs.Bytes.{numbers, allBelow};
-ghost use Rattle.sharing.specs.Sharing.{openingRows};
+ghost use Rattle.polynomials.specs.Sharing.{openingRows};
 ghost use Rattle.plan.specs.declared.Refusal.the-variants as refusal;
 ghost use Rattle.plan.specs.Refusals.{firstOf};
 ghost use Rattle.plan.specs.File.{planOf};
 ghost use Rattle.plan.specs.Planned.{Planned};
-ghost use Rattle.party.specs.Calls.{partyChecks};
+ghost use Rattle.messages.specs.Calls.{partyChecks};
 ghost use Rattle.party.specs.Parts.{listChecks, ownChecks, stateChecks, mailChecks, outsCheck, outLies, OwnOuts};
 
 // Refusals 10 and 11.
@@ -92,7 +92,7 @@ fn first_off_out(h: Header, points: &[u64], rows: &[u64], own: usize, mail: &[u8
     let n = h.n;
     let mut j: usize = 0;
     while j < own {
-        let shares = crate::sending::shares_of_out(n, own, j, mail);
+        let shares = sending::shares_of_out(n, own, j, mail);
         let off = sharing::first_off_by(h.field, h.t, points, rows, &shares[..n]);
         if let Found::At(_) = off {
             return Found::At(j);
@@ -122,7 +122,7 @@ fn first_off_of(h: Header, own: usize, mail: &[u8]) -> Found
     ensures { λ r. ⌜ r ≡ firstFailing (outLies h own (numbers (now (mail .entry)))) own ⌝ }
 {
     let n = h.n;
-    let points = crate::points::points();
+    let points = messages::points();
     let mut room: [u64; 120] = [0; 120];
     first_off_in(h, &points[..n], &mut room, own, mail)
 }
@@ -133,7 +133,7 @@ fn check_outs(plan: &[u8], h: Header, i: usize, mail: &[u8]) -> Checked
     requires { ⌜ allBelow (h .field .p) (numbers (now mail)) ≡ true ⌝ }
     ensures { λ r. ⌜ r ≡ outsCheck (planOf (now (plan .entry))) i (numbers (now (mail .entry))) ⌝ }
 {
-    let own = plan::own_out_count(plan, h, i);
+    let own = counts::own_out_count(plan, h, i);
     if let Found::At(j) = first_off_of(h, own, mail) {
         return Checked::Refused(Refusal::OffPolynomial(j));
     }
@@ -153,11 +153,11 @@ fn check_own(plan: &[u8], h: Header, i: usize, inputs: &[u8], coins: &[u8]) -> C
     if h.n < i {
         return Checked::Refused(Refusal::Coalition);
     }
-    let c = check_inputs(inputs, plan::own_input_count(plan, h, i), h.field.p);
+    let c = check_inputs(inputs, counts::own_input_count(plan, h, i), h.field.p);
     let Checked::Passed = c else {
         return c;
     };
-    let count = h.t * plan::own_dealing_count(plan, h, i);
+    let count = h.t * counts::own_dealing_count(plan, h, i);
     check_coins(coins, count, h.field.p)
 }
 
@@ -166,14 +166,14 @@ fn check_mail(plan: &[u8], h: Header, i: usize, k: usize, mail: &[u8], room: usi
     requires { ⌜ Planned (now plan) h ⌝ }
     ensures { λ r. ⌜ r ≡ firstOf (mailChecks (planOf (now (plan .entry))) i k (now (mail .entry)) room) ⌝ }
 {
-    let c = check_mail_list(mail, plan::mail_count(plan, h, i, k), h.field.p);
+    let c = check_mail_list(mail, counts::mail_count(plan, h, i, k), h.field.p);
     let Checked::Passed = c else {
         return c;
     };
-    if room != 2 * plan::written_count(plan, h, i, k) {
+    if room != 2 * counts::written_count(plan, h, i, k) {
         return Checked::Refused(Refusal::BufferLength);
     }
-    if k != plan::multiply_count(plan, h) + 2 {
+    if k != counts::multiply_count(plan, h) + 2 {
         return Checked::Passed;
     }
     check_outs(plan, h, i, mail)
@@ -197,7 +197,7 @@ pub fn check(
     let Checked::Passed = own else {
         return own;
     };
-    let kept = check_state(state, h.gates, plan::multiply_count(plan, h), h.field.p);
+    let kept = check_state(state, h.gates, counts::multiply_count(plan, h), h.field.p);
     let Checked::Passed = kept else {
         return kept;
     };

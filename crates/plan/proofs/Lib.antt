@@ -3,8 +3,5 @@ pub mod Gates
 pub mod Ways
 pub mod Codes
 pub mod Planned
-pub mod Counts
-pub mod Sizes
-pub mod Coalitions
 pub mod Valid
 pub mod Worked

@@ -14,8 +14,8 @@ use Rattle.numbers.proofs.Tables.{length-tab, getD-tab}
 use Rattle.numbers.proofs.Searches.{nothing-passes}
 use Rattle.field.specs.Prime.{isPrime, Prime}
 use Rattle.field.proofs.Primes.{prime-sound}
-use Rattle.sharing.specs.Interp.{All, Distinct}
-use Rattle.sharing.proofs.Shares.{points-distinct}
+use Rattle.polynomials.specs.Interp.{All, Distinct}
+use Rattle.polynomials.proofs.Shares.{points-distinct}
 use Rattle.plan.specs.declared.Checked.the-variants.{Passed}
 use Rattle.plan.specs.declared.Gate.the-variants.{Input}
 use Rattle.plan.specs.Plans.{Plan, partyCount}

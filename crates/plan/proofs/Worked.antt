@@ -3,7 +3,6 @@
 -- Assumes nothing.
 use Prim.Native.Nat.{ℕ, _/_, _%_}
 use mathlib.Core.Path.{_≡_, refl}
-use mathlib.Core.Bool.{true, false}
 use mathlib.Core.List.{List, [], _∷_, _++_, map, flatMap}
 use Rattle.numbers.specs.Tables.{tab, firstFrom, firstFailing, countWhere}
 use Rattle.numbers.specs.Bytes.{wordAt}
@@ -14,7 +13,6 @@ use Rattle.plan.specs.declared.Refusal.the-variants as refusal
 use Rattle.plan.specs.Refusals.{firstOf, andThen, need, unlessFound}
 use Rattle.plan.specs.Plans.{partyCount, dealerCount, isInput, isInputOf, isMultiply, dealersOf, dealings, wiresFrom, wiresWhere, multiplies, multiplyWire, outWiresOf, outWires, inputCount, ownInputCount, coinCount, ownOutCount, mailCount, writtenCount, sentCount}
 use Rattle.plan.specs.File.{magic, sameBytes, between, gateOf, gateAt, outAt, gateOk, outOk, gateKept, outKept, layoutOk, planChecks, planCheck, planOf}
-use Rattle.plan.specs.Coalitions.{inSet, membersFrom, members, setOk}
 
 -- the contents of a plan of four gates and one out, with its version, n, t, byte 7 and p
 contents : ℕ → ℕ → ℕ → ℕ → ℕ → List ℕ
@@ -89,11 +87,6 @@ faults =
 pub plans-worked : map (λ r. planCheck (r .bytes)) (worked ++ faults) ≡ map (λ r. r .answer) (worked ++ faults)
 unfolding contents input1 input2 multiply add out body plan k single row worked faults planCheck firstOf andThen planChecks need unlessFound firstFailing firstFrom magic sameBytes between gateOf gateAt outAt gateOk outOk gateKept outKept layoutOk wordAt isPrime divisorOf divisorFrom
 plans-worked = refl
-
--- P10: of the sets {}, {1}, {1, 2}, {3}, {1, 2, 3} and {4}, plan K admits those of one of its parties, and none
-pub sets-worked : map (setOk (planOf k)) (0 ∷ 1 ∷ 3 ∷ 4 ∷ 7 ∷ 8 ∷ []) ≡ true ∷ true ∷ false ∷ true ∷ false ∷ false ∷ []
-unfolding contents input1 input2 multiply add out body plan k planOf tab partyCount gateOf gateAt outAt wordAt setOk members membersFrom inSet
-sets-worked = refl
 
 -- K's inputs, multiplies, dealings (by their dealers), coins, multiply wire and elements sent; parties' own inputs, coins and outs
 pub counts-worked : inputCount (planOf k) ∷ multiplies (planOf k) ∷ coinCount (planOf k) ∷ multiplyWire (planOf k) 0 ∷ sentCount (planOf k) ∷ dealings (planOf k) ≡ 2 ∷ 1 ∷ 5 ∷ 2 ∷ 18 ∷ 1 ∷ 2 ∷ 1 ∷ 2 ∷ 3 ∷ []

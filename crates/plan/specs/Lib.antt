@@ -1,6 +1,4 @@
 pub mod Refusals
 pub mod Plans
 pub mod File
-pub mod Coalitions
 pub mod Planned
-pub mod Counts

@@ -22,15 +22,15 @@ use Rattle.plan.specs.declared.Checked.the-variants.{Passed, Refused}
 use Rattle.plan.specs.Refusals.{codeOf, andThen, firstOf, need}
 use Rattle.plan.specs.Plans.{Plan, partyCount, multiplies, inputCount, coinCount, dealings, ownInputCount, ownCoinCount, deals, mailCount, writtenCount}
 use Rattle.plan.specs.File.{between, planChecks, planCheck, planOf, outcomeOf}
-use Rattle.plan.specs.Coalitions.{members, setFits, setOk}
+use Rattle.coalition.specs.Coalitions.{members, setFits, setOk}
 use Rattle.plan.specs.Planned.{Planned, ReadAs}
 use Rattle.plan.proofs.Refusals.{firstOf-append, andThen-passed, andThen-refused}
 use Rattle.plan.proofs.Planned.{planned-read, refused-read, plan-t, plan-n, plan-gates}
 use Rattle.plan.proofs.Ways.{read-outcome}
-use Rattle.plan.proofs.Coalitions.{set-ok}
+use Rattle.coalition.proofs.Coalitions.{set-ok}
 use Rattle.run.specs.declared.Benched.{Benched}
 use Rattle.run.specs.declared.Benched.the-variants as benched
-use Rattle.run.specs.BenchCalls.{viewCount}
+use Rattle.views.specs.ViewCounts.{viewCount}
 use Rattle.pool.specs.Sizes.{valueOf, mailOfCall, writtenByCall, seatCount, seatSize, callCount, runCount, runSize, answerOf}
 
 pub code-answered : (a c : Checked) (r : ℕ) → c ≡ a → r ≡ codeOf c → r ≡ codeOf a

@@ -10,8 +10,8 @@ use Rattle.plan.specs.declared.Refusal.the-variants as refusal
 use Rattle.plan.specs.Refusals.{codeOf, firstOf, need}
 use Rattle.plan.specs.Plans.{Plan, partyCount, multiplies, inputCount, coinCount, ownInputCount, ownCoinCount, mailCount, writtenCount}
 use Rattle.plan.specs.File.{between, planChecks, planCheck, planOf}
-use Rattle.plan.specs.Coalitions.{members, setOk}
-use Rattle.run.specs.BenchCalls.{viewCount}
+use Rattle.coalition.specs.Coalitions.{members, setOk}
+use Rattle.views.specs.ViewCounts.{viewCount}
 use Rattle.run.specs.declared.Benched.{Benched}
 use Rattle.run.specs.declared.Benched.the-variants as benched
 

@@ -11,7 +11,7 @@ ghost use Rattle.plan.specs.Refusals.{codeOf};
 ghost use Rattle.plan.specs.File.{planCheck, planOf};
 ghost use Rattle.plan.specs.Planned.{Planned};
 ghost use Rattle.plan.specs.Plans.{ownCoinCount, coinCount, sentCount};
-ghost use Rattle.party.specs.Calls.{callAnswer, stateAfter, outAfter};
+ghost use Rattle.messages.specs.Calls.{callAnswer, stateAfter, outAfter};
 ghost use Rattle.run.specs.BenchCalls.{benchAnswer, benchedOf, viewAfter};
 ghost use Rattle.matching.specs.MatchCalls.{matchAnswer, matchedAfter};
 ghost use Rattle.pool.specs.Sizes.{mailOfCall, writtenByCall, seatCount, seatSize, callCount, runCount, runSize, answerOf};
@@ -36,8 +36,8 @@ fn mail_of_call(plan: &[u8], h: Header, i: usize, call: usize) -> usize
     requires { ⌜ Planned (now plan) h ⌝ }
     ensures { λ r. ⌜ record { eq : r ≡ mailOfCall (planOf (now (plan .entry))) i call; le : r ≤ 15360 } ⌝ }
 {
-    if call <= plan::multiply_count(plan, h) + 2 {
-        return plan::mail_count(plan, h, i, call);
+    if call <= counts::multiply_count(plan, h) + 2 {
+        return counts::mail_count(plan, h, i, call);
     }
     0
 }
@@ -46,8 +46,8 @@ fn written_by_call(plan: &[u8], h: Header, i: usize, call: usize) -> usize
     requires { ⌜ Planned (now plan) h ⌝ }
     ensures { λ r. ⌜ record { eq : r ≡ writtenByCall (planOf (now (plan .entry))) i call; le : r ≤ 15360 } ⌝ }
 {
-    if call <= plan::multiply_count(plan, h) + 2 {
-        return plan::written_count(plan, h, i, call);
+    if call <= counts::multiply_count(plan, h) + 2 {
+        return counts::written_count(plan, h, i, call);
     }
     0
 }
@@ -56,7 +56,7 @@ fn own_coin_count(plan: &[u8], h: Header, i: usize) -> usize
     requires { ⌜ Planned (now plan) h ⌝ }
     ensures { λ r. ⌜ record { eq : r ≡ ownCoinCount (planOf (now (plan .entry))) i; le : r ≤ 15360 } ⌝ }
 {
-    h.t * plan::own_dealing_count(plan, h, i)
+    h.t * counts::own_dealing_count(plan, h, i)
 }
 
 // The numbers of one of a party's lists.
@@ -65,7 +65,7 @@ fn seat_count(plan: &[u8], h: Header, i: usize, call: usize, what: u16) -> usize
     ensures { λ r. ⌜ record { eq : r ≡ seatCount (planOf (now (plan .entry))) i call what; le : r ≤ 15360 } ⌝ }
 {
     match what {
-        0 => plan::own_input_count(plan, h, i),
+        0 => counts::own_input_count(plan, h, i),
         1 => own_coin_count(plan, h, i),
         2 => 1 + h.gates,
         3 => mail_of_call(plan, h, i, call),
@@ -102,7 +102,7 @@ pub extern "C" fn pool_calls(plan: &[u8]) -> u64
     let Reading::Passed(h) = r else {
         return plan::code(plan::outcome(r));
     };
-    value(plan::multiply_count(plan, h) + 3)
+    value(counts::multiply_count(plan, h) + 3)
 }
 
 // One call of a party: refusals 1 to 20.
@@ -127,7 +127,7 @@ fn coin_count(plan: &[u8], h: Header) -> usize
     requires { ⌜ Planned (now plan) h ⌝ }
     ensures { λ r. ⌜ record { eq : r ≡ coinCount (planOf (now (plan .entry))); le : r ≤ 409600 } ⌝ }
 {
-    h.t * plan::dealing_count(plan, h)
+    h.t * counts::dealing_count(plan, h)
 }
 
 // The numbers of one of a run's lists.
@@ -136,7 +136,7 @@ fn run_count(plan: &[u8], h: Header, set: u16, what: u16) -> usize
     ensures { λ r. ⌜ record { eq : r ≡ runCount (planOf (now (plan .entry))) set what; le : r ≤ 409600 } ⌝ }
 {
     match what {
-        0 => plan::input_count(plan, h),
+        0 => counts::input_count(plan, h),
         1 => coin_count(plan, h),
         2 => run::checking::view_count(plan, h, set),
         _ => 0,
@@ -152,7 +152,7 @@ pub extern "C" fn pool_run_size(plan: &[u8], set: u16, what: u16) -> u64
     let Reading::Passed(h) = r else {
         return plan::code(plan::outcome(r));
     };
-    if !plan::set_ok(h, set) {
+    if !coalition::set_ok(h, set) {
         return plan::code(Checked::Refused(Refusal::Coalition));
     }
     value(2 * run_count(plan, h, set, what))

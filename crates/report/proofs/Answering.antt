@@ -28,17 +28,18 @@ use Rattle.plan.specs.Refusals.{firstOf, numberOf, placeOf}
 use Rattle.plan.specs.Plans.{Plan, partyCount, inputCount, coinCount, sentCount}
 use Rattle.plan.specs.File.{planOf, planCheck, planChecks}
 use Rattle.plan.specs.Planned.{Planned, ReadAs}
-use Rattle.plan.specs.Coalitions.{members, setFits}
+use Rattle.coalition.specs.Coalitions.{members, setFits}
 use Rattle.plan.proofs.Refusals.{andThen-passed, andThen-refused, firstOf-append}
 use Rattle.plan.proofs.Planned.{planned-read, refused-read, plan-p, plan-n}
 use Rattle.plan.proofs.Valid.{valid}
-use Rattle.plan.proofs.Coalitions.{member-party}
-use Rattle.party.specs.Calls.{unlessRefused}
+use Rattle.coalition.proofs.Coalitions.{member-party}
+use Rattle.messages.specs.Calls.{unlessRefused}
 use Rattle.run.specs.declared.Benched.{Benched}
 use Rattle.run.specs.declared.Benched.the-variants as benched
-use Rattle.run.specs.Rounds.{view}
-use Rattle.run.specs.Rows.{Given}
-use Rattle.run.specs.BenchCalls.{viewCount, runChecks, benchAnswer, benchedOf, viewAfter}
+use Rattle.protocol.specs.Rounds.{view}
+use Rattle.tables.specs.Rows.{Given}
+use Rattle.views.specs.ViewCounts.{viewCount}
+use Rattle.run.specs.BenchCalls.{runChecks, benchAnswer, benchedOf, viewAfter}
 use Rattle.run.proofs.BenchLaws.{passed-set, passed-given}
 use Rattle.report.specs.Decimals.{line}
 use Rattle.report.specs.Report.{refusedWord, answerLines, runLines, planPart, setPart, listPart, figuresPart, coinsPart, unreadable, benchOf, report}

@@ -9,7 +9,7 @@ use native.Mathlib.Omega.{arith}
 use lib.Dec.{eqb}
 use Rattle.plan.specs.declared.Output.{Output}
 use Rattle.plan.specs.Plans.{outWiresOf}
-use Rattle.plan.specs.Coalitions.{inSet, membersFrom}
+use Rattle.coalition.specs.Coalitions.{inSet, membersFrom}
 
 pub members-split : (set : ℕ) (a i b : ℕ) → membersFrom set i (a + b) ≡ membersFrom set i a ++ membersFrom set (i + a) b
 unfolding membersFrom

@@ -30,10 +30,10 @@ use Rattle.plan.specs.Refusals.{numberOf, placeOf}
 use Rattle.plan.specs.Plans.{Plan, multiplies, mailCount, sentCount, ownInputCount, ownCoinCount, ownOutCount, outWiresOf, deals}
 use Rattle.plan.specs.File.{planOf, outAt}
 use Rattle.plan.specs.Planned.{Planned}
-use Rattle.plan.specs.Coalitions.{inSet, membersFrom, members}
+use Rattle.coalition.specs.Coalitions.{inSet, membersFrom, members}
 use Rattle.plan.proofs.Planned.{plan-t, plan-p, plan-n, plan-gates, plan-outs, plan-out}
-use Rattle.plan.proofs.Coalitions.{bit-past}
-use Rattle.run.specs.BenchCalls.{viewCountOf, viewCount}
+use Rattle.coalition.proofs.Coalitions.{bit-past}
+use Rattle.views.specs.ViewCounts.{viewCountOf, viewCount}
 use Rattle.report.specs.Decimals.{line}
 use Rattle.report.specs.Report.{planWord, viewWord, roundWord, outWord, sentWord, refusedWord, planLine}
 use Rattle.report.specs.Texts.{Put}

@@ -16,22 +16,22 @@ use lib.Seq.{take-at, drop-at, getD-drop, getD-append-add, getD-append-seam}
 use Rattle.numbers.specs.Tables.{tab}
 use Rattle.numbers.specs.Bytes.{numbers, bytesOf, allBelow}
 use Rattle.numbers.proofs.Tables.{tab-ext}
-use Rattle.sharing.specs.Interp.{All}
+use Rattle.polynomials.specs.Interp.{All}
 use Rattle.plan.specs.declared.Output.{Output}
 use Rattle.plan.specs.Plans.{Plan, partyCount, multiplies, ownOutCount, coinCount, mailCount, ownInputs, ownCoins, outWires, outWiresOf}
 use Rattle.plan.specs.File.{outOk, between}
-use Rattle.plan.specs.Coalitions.{inSet, membersFrom, members}
+use Rattle.coalition.specs.Coalitions.{inSet, membersFrom, members}
 use Rattle.plan.proofs.Valid.{Valid}
-use Rattle.plan.proofs.Coalitions.{Among, member-in, in-member, all-members}
-use Rattle.run.specs.Rounds.{mailTo, round, results, mails, viewOf, view}
-use Rattle.run.specs.Shares.{tableResults, tableViewOf}
-use Rattle.run.specs.BenchCalls.{viewCountOf, viewCount}
-use Rattle.run.proofs.Lists.{flatMap-append, flatMap-all, all-map, length-map}
-use Rattle.run.proofs.Carried.{view-table, views-table, results-table}
-use Rattle.run.proofs.Counts.{mail-count}
-use Rattle.run.proofs.Accepted.{own-inputs-count, own-coins-count, own-inputs-below, own-coins-below, back}
-use Rattle.run.proofs.Below.{append-below, flatMap-below, mails-below, results-below}
-use Rattle.run.proofs.FlatLaws.{length-view, length-views}
+use Rattle.coalition.proofs.Coalitions.{Among, member-in, in-member, all-members}
+use Rattle.protocol.specs.Rounds.{mailTo, round, results, mails, viewOf, view}
+use Rattle.protocol.specs.Shares.{tableResults, tableViewOf}
+use Rattle.views.specs.ViewCounts.{viewCountOf, viewCount}
+use Rattle.protocol.proofs.Lists.{flatMap-append, flatMap-all, all-map, length-map}
+use Rattle.protocol.proofs.Carried.{view-table, views-table, results-table}
+use Rattle.protocol.proofs.Counts.{mail-count}
+use Rattle.protocol.proofs.Accepted.{own-inputs-count, own-coins-count, own-inputs-below, own-coins-below, back}
+use Rattle.protocol.proofs.Below.{append-below, flatMap-below, mails-below, results-below}
+use Rattle.views.proofs.FlatLaws.{length-view, length-views}
 use Rattle.report.specs.Decimals.{line}
 use Rattle.report.specs.Report.{outWord, viewLine, roundLine, memberLines, outLinesFrom, runLines}
 use Rattle.report.proofs.Parts.{members-split, wires-append}

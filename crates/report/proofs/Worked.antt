@@ -6,16 +6,17 @@ use Rattle.numbers.specs.Tables.{tab, firstFrom, firstFailing, countWhere}
 use Rattle.numbers.specs.Bytes.{wordAt, numbers, bytesOf, holdsCount, firstOver, allBelow}
 use Rattle.field.specs.Mod.{add, mul, sub}
 use Rattle.field.specs.Prime.{isPrime, divisorFrom, divisorOf, inv, invert}
-use Rattle.sharing.specs.Poly.{eval}
-use Rattle.sharing.specs.Interp.{factor, weight, weights, dot, interpolate}
-use Rattle.sharing.specs.Sharing.{opened}
+use Rattle.polynomials.specs.Poly.{eval}
+use Rattle.polynomials.specs.Interp.{factor, weight, weights, dot, interpolate}
+use Rattle.polynomials.specs.Sharing.{opened}
 use Rattle.plan.specs.Refusals.{numberOf, placeOf, andThen, firstOf, need, unlessFound}
 use Rattle.plan.specs.Plans.{partyCount, parties, pointOf, dealerCount, dealerPoints, isInput, isInputOf, isMultiply, dealersOf, deals, dealings, wiresFrom, wiresWhere, multiplies, multiplyWire, inputWires, outWiresOf, outWires, inputCount, ownInputCount, coinCount, dealingsBelow, ownCoinCount, ownOutCount, ownInputsOf, ownInputs, ownBlocks, ownCoins, coinsAt, sentCount}
 use Rattle.plan.specs.File.{magic, sameBytes, between, gateOf, gateAt, outAt, gateOk, outOk, gateKept, outKept, layoutOk, planChecks, planCheck, planOf}
-use Rattle.plan.specs.Coalitions.{inSet, membersFrom, members, setOk}
-use Rattle.party.specs.Messages.{setAll, wiresByParty, reduced, workGate, workFrom, learn, dealTo, nothing, inputPolys, sendInputs, productAt, sendProduct, sendOuts, send, sharesOfOut, resultsOf, callWith, call}
-use Rattle.run.specs.Rounds.{fresh, noCall, callOf, mailTo, round, results}
-use Rattle.run.specs.BenchCalls.{viewCountOf, viewCount, runChecks, benchAnswer}
+use Rattle.coalition.specs.Coalitions.{inSet, membersFrom, members, setOk}
+use Rattle.messages.specs.Messages.{setAll, wiresByParty, reduced, workGate, workFrom, learn, dealTo, nothing, inputPolys, sendInputs, productAt, sendProduct, sendOuts, send, sharesOfOut, resultsOf, callWith, call}
+use Rattle.protocol.specs.Rounds.{fresh, noCall, callOf, mailTo, round, results}
+use Rattle.views.specs.ViewCounts.{viewCountOf, viewCount}
+use Rattle.run.specs.BenchCalls.{runChecks, benchAnswer}
 use Rattle.report.specs.Decimals.{digits, decimal, field, line}
 use Rattle.report.specs.Report.{planWord, viewWord, roundWord, outWord, sentWord, refusedWord, planLine, viewLine, roundLine, memberLines, outLinesFrom, runLines, answerLines, planPart, setPart, listPart, figuresPart, coinsPart, unreadable, benchOf, report}
 

@@ -3,8 +3,9 @@ use Prim.Native.Nat.{ℕ, _*_}
 use mathlib.Core.List.{List}
 use Rattle.numbers.specs.Bytes.{numbers}
 use Rattle.plan.specs.File.{planOf}
-use Rattle.plan.specs.Coalitions.{members}
-use Rattle.run.specs.BenchCalls.{viewCount, benchAnswer}
+use Rattle.coalition.specs.Coalitions.{members}
+use Rattle.views.specs.ViewCounts.{viewCount}
+use Rattle.run.specs.BenchCalls.{benchAnswer}
 use Rattle.report.specs.Report.{answerLines}
 
 unfoldable pub answered : List ℕ → ℕ → List ℕ → List ℕ → List ℕ

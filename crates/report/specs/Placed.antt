@@ -5,8 +5,8 @@ use mathlib.Core.List.{List, [], _∷_, _++_, flatMap}
 use lib.ListN.{length, take, drop, getD}
 use Rattle.plan.specs.declared.Output.{Output}
 use Rattle.plan.specs.Plans.{Plan, multiplies, ownInputCount, ownCoinCount, ownOutCount, mailCount, outWiresOf, sentCount}
-use Rattle.plan.specs.Coalitions.{inSet, membersFrom, members}
-use Rattle.run.specs.BenchCalls.{viewCountOf, viewCount}
+use Rattle.coalition.specs.Coalitions.{inSet, membersFrom, members}
+use Rattle.views.specs.ViewCounts.{viewCountOf, viewCount}
 use Rattle.report.specs.Decimals.{line}
 use Rattle.report.specs.Report.{viewWord, roundWord, outWord, sentWord, planLine}
 

@@ -12,9 +12,10 @@ use Rattle.plan.specs.declared.Checked.the-variants.{Passed, Refused}
 use Rattle.plan.specs.Refusals.{numberOf, placeOf}
 use Rattle.plan.specs.Plans.{Plan, partyCount, multiplies, inputCount, ownInputs, ownCoins, outWiresOf, sentCount}
 use Rattle.plan.specs.File.{planOf}
-use Rattle.plan.specs.Coalitions.{members, inSet}
-use Rattle.run.specs.Rounds.{mailTo, round, results}
-use Rattle.run.specs.BenchCalls.{viewCount, benchAnswer}
+use Rattle.coalition.specs.Coalitions.{members, inSet}
+use Rattle.protocol.specs.Rounds.{mailTo, round, results}
+use Rattle.views.specs.ViewCounts.{viewCount}
+use Rattle.run.specs.BenchCalls.{benchAnswer}
 use Rattle.report.specs.Decimals.{line}
 
 -- the words of the lines

@@ -13,7 +13,7 @@ ghost use Rattle.plan.specs.Refusals.{numberOf, placeOf};
 ghost use Rattle.plan.specs.Plans.{multiplies, outWiresOf, sentCount};
 ghost use Rattle.plan.specs.File.{planOf, outAt};
 ghost use Rattle.plan.specs.Planned.{Planned};
-ghost use Rattle.plan.specs.Coalitions.{inSet, members};
+ghost use Rattle.coalition.specs.Coalitions.{inSet, members};
 ghost use Rattle.report.specs.Decimals.{line};
 ghost use Rattle.report.specs.Report.{refusedWord, sentWord, planLine};
 ghost use Rattle.report.specs.Texts.{Put};
@@ -50,7 +50,7 @@ fn put_sent(text: &mut [u8], at: usize, plan: &[u8], h: Header) -> usize
     requires { ⌜ at ≤ length (now text) ⌝ }
     ensures { λ e. ⌜ Put (line sentWord (sentCount (planOf (now (plan .entry))) ∷ [])) at (now (text .entry)) (now (text .exit)) e ⌝ }
 {
-    let xs = [plan::sent_count(plan, h) as u64];
+    let xs = [counts::sent_count(plan, h) as u64];
     text::put_line(text, at, b"sent", &xs)
 }
 
@@ -71,12 +71,12 @@ fn put_rounds(
     requires { ⌜ from ≤ 500000 ⌝ }
     ensures { λ e. ⌜ Put (roundLinesIn (planOf (now (plan .entry))) i (drop from (numbers (now (view .entry)))) 0 (multiplies (planOf (now (plan .entry))) + 2)) at (now (text .entry)) (now (text .exit)) e ⌝ }
 {
-    let rounds = plan::multiply_count(plan, h) + 2;
+    let rounds = counts::multiply_count(plan, h) + 2;
     let mut next = at;
     let mut place = from;
     let mut round: usize = 0;
     while round < rounds {
-        let count = plan::mail_count(plan, h, i, round + 1);
+        let count = counts::mail_count(plan, h, i, round + 1);
         next = text::put_list_line(text, next, b"round", round as u64, view, place, count);
         place += count;
         round += 1;
@@ -89,7 +89,7 @@ fn own_count(plan: &[u8], h: Header, i: usize) -> usize
     requires { ⌜ Planned (now plan) h ⌝ }
     ensures { λ r. ⌜ record { eq : r ≡ ownCount (planOf (now (plan .entry))) i; le : r ≤ 8192 } ⌝ }
 {
-    plan::own_input_count(plan, h, i) + h.t * plan::own_dealing_count(plan, h, i)
+    counts::own_input_count(plan, h, i) + h.t * counts::own_dealing_count(plan, h, i)
 }
 
 // Party i's lines, when its view begins at number `from`.
@@ -142,7 +142,7 @@ fn put_party(
     requires { ⌜ at ≤ length (now text) ⌝ }
     ensures { λ e. ⌜ Put (cond (inSet set i) (memberPart (planOf (now (plan .entry))) set (numbers (now (view .entry))) i) []) at (now (text .entry)) (now (text .exit)) e ⌝ }
 {
-    if !plan::is_member(set, i) {
+    if !coalition::is_member(set, i) {
         return at;
     }
     let from = part_at(plan, h, set, i);
@@ -197,7 +197,7 @@ fn results_at(plan: &[u8], h: Header, set: u16, i: usize) -> usize
     requires { ⌜ i ≤ 16 ⌝ }
     ensures { λ r. ⌜ record { eq : r ≡ resultsAt (planOf (now (plan .entry))) set i; le : r ≤ 435200 } ⌝ }
 {
-    let outs = plan::own_out_count(plan, h, i);
+    let outs = counts::own_out_count(plan, h, i);
     let count = run::checking::view_count_of(plan, h, i);
     part_at(plan, h, set, i) + (count - outs)
 }
@@ -219,7 +219,7 @@ fn put_out(
 {
     let out = plan::out_at(plan, o);
     let i = out.party;
-    if !plan::is_member(set, i) {
+    if !coalition::is_member(set, i) {
         return at;
     }
     let before = outs_before(plan, h, i, o);

@@ -18,7 +18,7 @@ use mir.Val.{Fits}
 use Rattle.numbers.specs.Bytes.{numbers, bytesOf, holdsCount, firstOver, allBelow}
 use Rattle.numbers.proofs.Bytes.{numbers-length, holds-length}
 use Rattle.numbers.proofs.Below.{firstOver-nothing}
-use Rattle.sharing.specs.Interp.{All}
+use Rattle.polynomials.specs.Interp.{All}
 use Rattle.plan.specs.declared.Header.{Header}
 use Rattle.plan.specs.declared.Reading.{Reading}
 use Rattle.plan.specs.declared.Reading.the-variants as reading
@@ -30,19 +30,20 @@ use Rattle.plan.specs.Refusals.{andThen, firstOf, need, unlessFound}
 use Rattle.plan.specs.Plans.{Plan, partyCount, inputCount, coinCount, sentCount}
 use Rattle.plan.specs.File.{planChecks, planCheck, planOf, outcomeOf}
 use Rattle.plan.specs.Planned.{Planned, ReadAs}
-use Rattle.plan.specs.Coalitions.{members, setFits, setOk}
+use Rattle.coalition.specs.Coalitions.{members, setFits, setOk}
 use Rattle.plan.proofs.Refusals.{andThen-passed, andThen-refused, firstOf-append, passed-both, passed-need, passed-found}
 use Rattle.plan.proofs.Planned.{planned-read, refused-read, plan-p, plan-n}
 use Rattle.plan.proofs.Valid.{valid}
-use Rattle.plan.proofs.Coalitions.{set-ok, member-in, all-members, member-party}
-use Rattle.party.specs.Calls.{unlessRefused}
+use Rattle.coalition.proofs.Coalitions.{set-ok, member-in, all-members, member-party}
+use Rattle.messages.specs.Calls.{unlessRefused}
 use Rattle.run.specs.declared.Benched.{Benched}
 use Rattle.run.specs.declared.Benched.the-variants as benched
-use Rattle.run.specs.Rounds.{view}
-use Rattle.run.specs.Shares.{shareTable, tableViewOf}
-use Rattle.run.specs.Rows.{rowsOf, Given}
-use Rattle.run.specs.BenchCalls.{viewCount, runChecks, benchAnswer, benchedOf, viewAfter}
-use Rattle.run.proofs.Carried.{views-table}
+use Rattle.protocol.specs.Rounds.{view}
+use Rattle.protocol.specs.Shares.{shareTable, tableViewOf}
+use Rattle.tables.specs.Rows.{rowsOf, Given}
+use Rattle.views.specs.ViewCounts.{viewCount}
+use Rattle.run.specs.BenchCalls.{runChecks, benchAnswer, benchedOf, viewAfter}
+use Rattle.protocol.proofs.Carried.{views-table}
 
 -- ---- the table and the views
 module _ {bs : List ℕ} {h : Header} (pl : Planned bs h) where

@@ -26,13 +26,14 @@ use Rattle.plan.specs.Refusals.{andThen, firstOf, need}
 use Rattle.plan.specs.Plans.{Plan, partyCount, dealerCount, dealings, deals, multiplies, inputCount, coinCount, ownInputCount, ownCoinCount, ownOutCount}
 use Rattle.plan.specs.File.{planOf}
 use Rattle.plan.specs.Planned.{Planned}
-use Rattle.plan.specs.Coalitions.{inSet, membersFrom, members, setFits, setOk}
+use Rattle.coalition.specs.Coalitions.{inSet, membersFrom, members, setFits, setOk}
 use Rattle.plan.proofs.Refusals.{andThen-passed, andThen-refused, andThen-end, firstOf-append, need-true, need-false}
 use Rattle.plan.proofs.Planned.{plan-t, plan-p, plan-n, plan-dealers}
-use Rattle.plan.proofs.Coalitions.{set-ok}
+use Rattle.coalition.proofs.Coalitions.{set-ok}
 use Rattle.party.specs.Parts.{listChecks}
 use Rattle.run.specs.Checks.{givenChecks}
-use Rattle.run.specs.BenchCalls.{viewCountOf, viewCount, runChecks}
+use Rattle.views.specs.ViewCounts.{viewCountOf, viewCount}
+use Rattle.run.specs.BenchCalls.{runChecks}
 
 -- ---- how long a party's view is
 module _ (bs : List ℕ) (h : Header) (pl : Planned bs h) where

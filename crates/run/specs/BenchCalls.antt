@@ -1,5 +1,5 @@
 -- The bench as its caller sees it: the first refusal or none, the elements sent, and the lent buffer afterwards.
-use Prim.Native.Nat.{ℕ, _+_, _*_}
+use Prim.Native.Nat.{ℕ, _*_}
 use mathlib.Core.List.{List, [], _∷_, _++_}
 use lib.Dec.{eqb}
 use lib.ListN.{length}
@@ -8,24 +8,14 @@ use Rattle.plan.specs.declared.Checked.{Checked}
 use Rattle.plan.specs.declared.Checked.the-variants.{Passed, Refused}
 use Rattle.plan.specs.declared.Refusal.the-variants as refusal
 use Rattle.plan.specs.Refusals.{firstOf, need, unlessFound}
-use Rattle.plan.specs.Plans.{Plan, partyCount, dealerCount, multiplies, inputCount, coinCount, ownInputCount, ownCoinCount, ownOutCount, sentCount}
+use Rattle.plan.specs.Plans.{Plan, inputCount, coinCount, sentCount}
 use Rattle.plan.specs.File.{planChecks, planOf}
-use Rattle.plan.specs.Coalitions.{members, setOk}
-use Rattle.party.specs.Calls.{unlessRefused}
+use Rattle.coalition.specs.Coalitions.{members, setOk}
+use Rattle.messages.specs.Calls.{unlessRefused}
+use Rattle.views.specs.ViewCounts.{viewCount}
 use Rattle.run.specs.declared.Benched.{Benched}
 use Rattle.run.specs.declared.Benched.the-variants as benched
-use Rattle.run.specs.Rounds.{view}
-
--- the numbers of party i's view: inputs, coins, mail, results
-unfoldable pub viewCountOf : Plan → ℕ → ℕ
-viewCountOf plan i =
-    ownInputCount plan i + (ownCoinCount plan i
-    + ((inputCount plan + multiplies plan * dealerCount plan + partyCount plan * ownOutCount plan i) + ownOutCount plan i))
-
--- of a coalition's view
-unfoldable pub viewCount : Plan → List ℕ → ℕ
-viewCount plan [] = 0
-viewCount plan (i ∷ is) = viewCountOf plan i + viewCount plan is
+use Rattle.protocol.specs.Rounds.{view}
 
 -- refusals 9 to 13 and 19
 unfoldable pub runChecks : Plan → ℕ → List ℕ → List ℕ → ℕ → List Checked

@@ -8,20 +8,21 @@ ghost use Prim.Native.Nat.{_≤_};
 ghost use Rattle.plan.specs.Refusals.{firstOf};
 ghost use Rattle.plan.specs.File.{planOf};
 ghost use Rattle.plan.specs.Planned.{Planned};
-ghost use Rattle.plan.specs.Coalitions.{inSet, members};
+ghost use Rattle.coalition.specs.Coalitions.{inSet, members};
 ghost use Rattle.run.specs.Checks.{givenChecks};
-ghost use Rattle.run.specs.BenchCalls.{viewCountOf, viewCount, runChecks};
+ghost use Rattle.views.specs.ViewCounts.{viewCountOf, viewCount};
+ghost use Rattle.run.specs.BenchCalls.{runChecks};
 
 // The numbers of party i's view.
 pub fn view_count_of(plan: &[u8], h: Header, i: usize) -> usize
     requires { ⌜ Planned (now plan) h ⌝ }
     ensures { λ r. ⌜ record { eq : r ≡ viewCountOf (planOf (now (plan .entry))) i; le : r ≤ 25600 } ⌝ }
 {
-    let coins = h.t * plan::own_dealing_count(plan, h, i);
-    let pieces = plan::multiply_count(plan, h) * (h.t + h.t + 1);
-    let outs = plan::own_out_count(plan, h, i);
-    let mail = plan::input_count(plan, h) + pieces + h.n * outs;
-    plan::own_input_count(plan, h, i) + (coins + (mail + outs))
+    let coins = h.t * counts::own_dealing_count(plan, h, i);
+    let pieces = counts::multiply_count(plan, h) * (h.t + h.t + 1);
+    let outs = counts::own_out_count(plan, h, i);
+    let mail = counts::input_count(plan, h) + pieces + h.n * outs;
+    counts::own_input_count(plan, h, i) + (coins + (mail + outs))
 }
 
 // The same, where it is a member.
@@ -29,7 +30,7 @@ pub fn member_view_count(plan: &[u8], h: Header, set: u16, i: usize) -> usize
     requires { ⌜ Planned (now plan) h ⌝ }
     ensures { λ r. ⌜ record { eq : r ≡ cond (inSet set i) (viewCountOf (planOf (now (plan .entry))) i) 0; le : r ≤ 25600 } ⌝ }
 {
-    if !plan::is_member(set, i) {
+    if !coalition::is_member(set, i) {
         return 0;
     }
     view_count_of(plan, h, i)
@@ -54,11 +55,11 @@ fn check_given(plan: &[u8], h: Header, inputs: &[u8], coins: &[u8]) -> Checked
     requires { ⌜ Planned (now plan) h ⌝ }
     ensures { λ r. ⌜ r ≡ firstOf (givenChecks (planOf (now (plan .entry))) (now (inputs .entry)) (now (coins .entry))) ⌝ }
 {
-    let given = party::checking::check_inputs(inputs, plan::input_count(plan, h), h.field.p);
+    let given = party::checking::check_inputs(inputs, counts::input_count(plan, h), h.field.p);
     let Checked::Passed = given else {
         return given;
     };
-    let count = h.t * plan::dealing_count(plan, h);
+    let count = h.t * counts::dealing_count(plan, h);
     party::checking::check_coins(coins, count, h.field.p)
 }
 
@@ -67,7 +68,7 @@ pub fn check(plan: &[u8], h: Header, set: u16, inputs: &[u8], coins: &[u8], room
     requires { ⌜ Planned (now plan) h ⌝ }
     ensures { λ r. ⌜ r ≡ firstOf (runChecks (planOf (now (plan .entry))) set (now (inputs .entry)) (now (coins .entry)) room) ⌝ }
 {
-    if !plan::set_ok(h, set) {
+    if !coalition::set_ok(h, set) {
         return Checked::Refused(Refusal::Coalition);
     }
     let given = check_given(plan, h, inputs, coins);

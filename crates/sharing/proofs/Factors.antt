@@ -24,12 +24,12 @@ use Rattle.field.specs.Prime.{Prime, inv}
 use Rattle.field.specs.Field.{Is}
 use Rattle.field.proofs.Solve.{Canon, canon-lt, add-canon, mul-canon, zero-canon, #, quote, solve}
 use Rattle.field.proofs.Products.{word}
-use Rattle.sharing.specs.Poly.{sumOf, scale, linear, carried, padded}
-use Rattle.sharing.specs.Interp.{delta}
+use Rattle.polynomials.specs.Poly.{sumOf, scale, linear, carried, padded}
+use Rattle.polynomials.specs.Interp.{delta}
 use Rattle.sharing.specs.Ready.{Ready}
 use Rattle.sharing.proofs.Coding.{entry-below, step-value}
-use Rattle.sharing.proofs.Deltas.{length-delta}
-use Rattle.sharing.proofs.Polys.{length-linear}
+use Rattle.polynomials.proofs.Deltas.{length-delta}
+use Rattle.polynomials.proofs.Polys.{length-linear}
 
 -- ---- all zeros
 tab-zeros : (n : ℕ) → tab {A = ℕ} (λ _. 0) n ≡ replicate n 0

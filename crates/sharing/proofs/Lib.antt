@@ -1,12 +1,6 @@
-pub mod Polys
-pub mod Interpolation
-pub mod Roots
-pub mod Deltas
-pub mod Shares
 pub mod Coding
 pub mod Weighing
 pub mod Factors
 pub mod Rows
 pub mod Openings
 pub mod OnOne
-pub mod Worked

@@ -20,13 +20,13 @@ use Rattle.numbers.proofs.Searches.{nothing-passes, passes-nothing}
 use Rattle.field.specs.Prime.{Prime}
 use Rattle.field.proofs.Solve.{Canon, below}
 use Rattle.field.proofs.Inverse.{pos}
-use Rattle.sharing.specs.Poly.{eval}
-use Rattle.sharing.specs.Interp.{All, Distinct, weights, dot, interpolate}
-use Rattle.sharing.specs.Sharing.{opened, firstOff}
+use Rattle.polynomials.specs.Poly.{eval}
+use Rattle.polynomials.specs.Interp.{All, Distinct, weights, dot, interpolate}
+use Rattle.polynomials.specs.Sharing.{opened, firstOff}
 use Rattle.sharing.proofs.Coding.{map-tab, values-below}
 use Rattle.sharing.proofs.Rows.{agrees, length-weights, length-first, take-below}
-use Rattle.sharing.proofs.Interpolation.{interpolation}
-use Rattle.sharing.proofs.Shares.{lies-on}
+use Rattle.polynomials.proofs.Interpolation.{interpolation}
+use Rattle.polynomials.proofs.Shares.{lies-on}
 
 -- ---- the first entries of lists
 map-take : (f : ℕ → ℕ) (k : ℕ) (xs : List ℕ) → map f (take k xs) ≡ take k (map f xs)

@@ -15,8 +15,8 @@ use mir.Syntax.{w64}
 use mir.Val.{Fits}
 use Rattle.numbers.specs.Bytes.{allBelow}
 use Rattle.field.specs.Field.{Is}
-use Rattle.sharing.specs.Interp.{weights, dot, interpolate}
-use Rattle.sharing.specs.Sharing.{opened, openingRow, openingRows}
+use Rattle.polynomials.specs.Interp.{weights, dot, interpolate}
+use Rattle.polynomials.specs.Sharing.{opened, openingRow, openingRows}
 use Rattle.sharing.specs.Ready.{Openable}
 use Rattle.sharing.proofs.Rows.{take-below, weights-below, length-weights, length-first, length-row, length-rows}
 

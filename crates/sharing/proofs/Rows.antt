@@ -28,8 +28,8 @@ use Rattle.field.specs.Prime.{Prime}
 use Rattle.field.specs.Field.{Is}
 use Rattle.field.proofs.Solve.{canon-lt}
 use Rattle.field.proofs.Inverse.{pos}
-use Rattle.sharing.specs.Interp.{weight, weights, dot, interpolate}
-use Rattle.sharing.specs.Sharing.{opened, firstOff, rowsOf, openingRow, openingRows}
+use Rattle.polynomials.specs.Interp.{weight, weights, dot, interpolate}
+use Rattle.polynomials.specs.Sharing.{opened, firstOff, rowsOf, openingRow, openingRows}
 use Rattle.sharing.specs.Ready.{Ready}
 use Rattle.sharing.proofs.Coding.{entry-below, map-below}
 use Rattle.sharing.proofs.Weighing.{weight-canon}

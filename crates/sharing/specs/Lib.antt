@@ -1,4 +1,1 @@
-pub mod Poly
-pub mod Interp
-pub mod Sharing
 pub mod Ready

@@ -5,7 +5,7 @@ use mathlib.Core.List.{List}
 use Rattle.plan.specs.declared.Refusal.{Refusal}
 use Rattle.plan.specs.declared.Checked.{Checked}
 use Rattle.plan.specs.declared.Checked.the-variants.{Passed, Refused}
-use Rattle.party.specs.Calls.{unlessRefused, stateAfter, outAfter}
+use Rattle.messages.specs.Calls.{unlessRefused, stateAfter, outAfter}
 use Rattle.run.specs.BenchCalls.{viewAfter}
 use Rattle.matching.specs.MatchCalls.{matchedAfter}
 use Rattle.theorems.specs.Demands.{Total}

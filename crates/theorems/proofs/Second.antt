@@ -15,15 +15,15 @@ use Rattle.plan.proofs.Refusals.{firstOf-append, andThen-passed}
 use Rattle.plan.specs.Planned.{Planned}
 use Rattle.plan.proofs.Planned.{planned, plan-p, plan-gates}
 use Rattle.plan.proofs.Valid.{Valid, valid}
-use Rattle.party.specs.Calls.{partyChecks, callChecks, callAnswer}
-use Rattle.run.specs.Rounds.{results}
-use Rattle.run.specs.Ideal.{granted}
-use Rattle.run.proofs.Lists.{map-all}
-use Rattle.run.proofs.Sound.{input-below}
-use Rattle.run.proofs.Carried.{each-party, results-table}
-use Rattle.run.proofs.Openings.{results-right}
-use Rattle.run.proofs.Counts.{sent-all}
-use Rattle.run.proofs.Accepted.{run-accepted}
+use Rattle.messages.specs.Calls.{partyChecks, callChecks, callAnswer}
+use Rattle.protocol.specs.Rounds.{results}
+use Rattle.protocol.specs.Ideal.{granted}
+use Rattle.protocol.proofs.Lists.{map-all}
+use Rattle.protocol.proofs.Sound.{input-below}
+use Rattle.protocol.proofs.Carried.{each-party, results-table}
+use Rattle.protocol.proofs.Openings.{results-right}
+use Rattle.protocol.proofs.Counts.{sent-all}
+use Rattle.protocol.proofs.Accepted.{run-accepted}
 use Rattle.theorems.specs.Demands.{Right, Demand2}
 
 -- the plan's checks, then the party's

@@ -7,20 +7,20 @@ use native.Mathlib.Omega.{arith}
 use borrow.Author.Tests.{ltb-true}
 use lib.Dec.{leb, ltb}
 use lib.ListN.{length}
-use Rattle.sharing.specs.Interp.{All}
+use Rattle.polynomials.specs.Interp.{All}
 use Rattle.plan.specs.Plans.{Plan, partyCount}
 use Rattle.plan.specs.File.{planOf}
-use Rattle.plan.specs.Coalitions.{inSet, members, membersFrom, setOk}
+use Rattle.coalition.specs.Coalitions.{inSet, members, membersFrom, setOk}
 use Rattle.plan.proofs.Planned.{both-true}
 use Rattle.plan.proofs.Valid.{Valid, valid}
-use Rattle.run.specs.Rounds.{view}
-use Rattle.run.specs.Shares.{tableViewOf}
-use Rattle.run.proofs.Carried.{views-table}
-use Rattle.matching.specs.Matching.{isMember, matchedCoins}
-use Rattle.matching.proofs.Blocks.{length-matchedCoins, below-matchedCoins}
-use Rattle.matching.proofs.Back.{one-to-one, onto, keeps}
-use Rattle.matching.proofs.Private.{views-same}
-use Rattle.matching.proofs.SetMembers.{set-few, set-parties, in-below}
+use Rattle.protocol.specs.Rounds.{view}
+use Rattle.protocol.specs.Shares.{tableViewOf}
+use Rattle.protocol.proofs.Carried.{views-table}
+use Rattle.privacy.specs.Matching.{isMember, matchedCoins}
+use Rattle.privacy.proofs.Blocks.{length-matchedCoins, below-matchedCoins}
+use Rattle.privacy.proofs.Back.{one-to-one, onto, keeps}
+use Rattle.privacy.proofs.Private.{views-same}
+use Rattle.privacy.proofs.SetMembers.{set-few, set-parties, in-below}
 use Rattle.theorems.specs.Demands.{Coins, Private, Demand3}
 
 -- a set that passes has only parties of the plan

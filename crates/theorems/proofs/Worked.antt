@@ -5,19 +5,20 @@ use Rattle.numbers.specs.Tables.{tab, firstFrom, firstFailing, countWhere}
 use Rattle.numbers.specs.Bytes.{wordAt, numbers, bytesOf, holdsCount, firstOver, allBelow}
 use Rattle.field.specs.Mod.{add, mul, sub}
 use Rattle.field.specs.Prime.{isPrime, divisorFrom, divisorOf, inv, invert}
-use Rattle.sharing.specs.Poly.{eval, sumOf, scale, linear}
-use Rattle.sharing.specs.Interp.{factor, weight, weights, dot, interpolate, delta}
-use Rattle.sharing.specs.Sharing.{matched, opened, firstOff}
+use Rattle.polynomials.specs.Poly.{eval, sumOf, scale, linear}
+use Rattle.polynomials.specs.Interp.{factor, weight, weights, dot, interpolate, delta}
+use Rattle.polynomials.specs.Sharing.{matched, opened, firstOff}
 use Rattle.plan.specs.Refusals.{numberOf, placeOf, codeOf, andThen, firstOf, need, unlessFound}
 use Rattle.plan.specs.Plans.{partyCount, parties, pointOf, dealerCount, dealerPoints, openingPoints, isInput, isInputOf, isMultiply, dealersOf, deals, dealings, wiresFrom, wiresWhere, multiplies, multiplyWire, inputWires, outWiresOf, outWires, inputCount, ownInputCount, coinCount, dealingsBelow, ownCoinCount, ownOutCount, ownInputsOf, ownInputs, ownBlocks, ownCoins, coinsAt}
 use Rattle.plan.specs.File.{magic, sameBytes, between, gateOf, gateAt, outAt, gateOk, outOk, gateKept, outKept, layoutOk, planChecks, planCheck, planOf}
-use Rattle.plan.specs.Coalitions.{inSet, membersFrom, members, setOk}
-use Rattle.party.specs.Messages.{setAll, wiresByParty, reduced, workGate, workFrom, learn, dealTo, nothing, inputPolys, sendInputs, productAt, sendProduct, sendOuts, send, sharesOfOut, resultsOf, callWith, call}
-use Rattle.run.specs.Rounds.{fresh, noCall, callOf, mailTo, round, results, mails, viewOf, view}
-use Rattle.run.specs.Ideal.{inputsTaken}
-use Rattle.run.specs.Shares.{wireAt, dealtAt, sharings, piecesAt, gateShare, coinsTaken, sharesFrom, shareTable}
-use Rattle.run.specs.BenchCalls.{viewCountOf, viewCount, runChecks, benchAnswer}
-use Rattle.matching.specs.Matching.{isMember, matchedBlocks, matchedAt, matchFrom, matchedCoins}
+use Rattle.coalition.specs.Coalitions.{inSet, membersFrom, members, setOk}
+use Rattle.messages.specs.Messages.{setAll, wiresByParty, reduced, workGate, workFrom, learn, dealTo, nothing, inputPolys, sendInputs, productAt, sendProduct, sendOuts, send, sharesOfOut, resultsOf, callWith, call}
+use Rattle.protocol.specs.Rounds.{fresh, noCall, callOf, mailTo, round, results, mails, viewOf, view}
+use Rattle.protocol.specs.Ideal.{inputsTaken}
+use Rattle.protocol.specs.Shares.{wireAt, dealtAt, sharings, piecesAt, gateShare, coinsTaken, sharesFrom, shareTable}
+use Rattle.views.specs.ViewCounts.{viewCountOf, viewCount}
+use Rattle.run.specs.BenchCalls.{runChecks, benchAnswer}
+use Rattle.privacy.specs.Matching.{isMember, matchedBlocks, matchedAt, matchFrom, matchedCoins}
 use Rattle.theorems.specs.Sums.{contents, bodies, likeK, K, single, sharesOf, benchOf, Sums}
 
 pub sums : Sums

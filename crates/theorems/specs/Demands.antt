@@ -9,12 +9,12 @@ use Rattle.plan.specs.declared.Refusal.{Refusal}
 use Rattle.plan.specs.declared.Checked.the-variants.{Passed, Refused}
 use Rattle.plan.specs.Plans.{Plan, partyCount, parties, multiplies, inputCount, coinCount, ownInputs, ownCoins, writtenCount, sentCount}
 use Rattle.plan.specs.File.{planCheck, planOf}
-use Rattle.plan.specs.Coalitions.{members, setOk}
-use Rattle.party.specs.Calls.{callAnswer, stateAfter, outAfter}
-use Rattle.run.specs.Rounds.{stateIn, mailIn, results, view, sentAll}
-use Rattle.run.specs.Ideal.{granted}
+use Rattle.coalition.specs.Coalitions.{members, setOk}
+use Rattle.messages.specs.Calls.{callAnswer, stateAfter, outAfter}
+use Rattle.protocol.specs.Rounds.{stateIn, mailIn, results, view, sentAll}
+use Rattle.protocol.specs.Ideal.{granted}
 use Rattle.run.specs.BenchCalls.{benchAnswer, viewAfter}
-use Rattle.matching.specs.Matching.{matchedCoins}
+use Rattle.privacy.specs.Matching.{matchedCoins}
 use Rattle.matching.specs.MatchCalls.{matchAnswer, matchedAfter}
 
 -- a list of inputs (document 01: figures), or a setting of coins, with its full count and each number below p

@@ -4,15 +4,15 @@ use mathlib.Core.Path.{_≡_}
 use mathlib.Core.List.{List, [], _∷_, _++_, map}
 use lib.ListN.{length}
 use Rattle.numbers.specs.Bytes.{bytesOf}
-use Rattle.sharing.specs.Interp.{weights, interpolate, delta}
+use Rattle.polynomials.specs.Interp.{weights, interpolate, delta}
 use Rattle.plan.specs.Refusals.{codeOf}
 use Rattle.plan.specs.Plans.{Plan}
 use Rattle.plan.specs.declared.Gate.the-variants.{Multiply}
 use Rattle.plan.specs.File.{planCheck, planOf}
-use Rattle.run.specs.Rounds.{results, view}
-use Rattle.run.specs.Shares.{wireAt, dealtAt, shareTable}
+use Rattle.protocol.specs.Rounds.{results, view}
+use Rattle.protocol.specs.Shares.{wireAt, dealtAt, shareTable}
 use Rattle.run.specs.BenchCalls.{benchAnswer}
-use Rattle.matching.specs.Matching.{matchedCoins}
+use Rattle.privacy.specs.Matching.{matchedCoins}
 
 -- the contents of a plan with four gates and one out: n, t, and the two bytes of p
 unfoldable pub contents : ℕ → ℕ → ℕ → ℕ → List ℕ

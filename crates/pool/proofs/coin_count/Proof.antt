@@ -3,7 +3,7 @@ use Rattle.pool.proofs.coin_count.Statement.{statement}
 use Rattle.pool.proofs.coin_count.Tie as tie
 use Rattle.pool.proofs.coin_count.Reads as reads
 use Rattle.pool.proofs.coin_count.Lts as lts
-use Rattle.plan.proofs.dealing_count.Reads as dealing-count-reads
+use Rattle.counts.proofs.dealing_count.Reads as dealing-count-reads
 
 -- src/lib.rt:131:11
 dealing-count-requires : tie.Need-dealing-count-requires

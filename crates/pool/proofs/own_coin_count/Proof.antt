@@ -3,7 +3,7 @@ use Rattle.pool.proofs.own_coin_count.Statement.{statement}
 use Rattle.pool.proofs.own_coin_count.Tie as tie
 use Rattle.pool.proofs.own_coin_count.Reads as reads
 use Rattle.pool.proofs.own_coin_count.Lts as lts
-use Rattle.plan.proofs.own_dealing_count.Reads as own-dealing-count-reads
+use Rattle.counts.proofs.own_dealing_count.Reads as own-dealing-count-reads
 
 -- src/lib.rt:54:11
 own-dealing-count-requires : tie.Need-own-dealing-count-requires

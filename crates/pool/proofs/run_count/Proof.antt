@@ -3,7 +3,7 @@ use Rattle.pool.proofs.run_count.Statement.{statement}
 use Rattle.pool.proofs.run_count.Tie as tie
 use Rattle.pool.proofs.run_count.Reads as reads
 use Rattle.pool.proofs.run_count.Lts as lts
-use Rattle.plan.proofs.input_count.Reads as input-count-reads
+use Rattle.counts.proofs.input_count.Reads as input-count-reads
 use Rattle.pool.proofs.coin_count.Reads as coin-count-reads
 use Rattle.run.proofs.checking.view_count.Reads as view-count-reads
 

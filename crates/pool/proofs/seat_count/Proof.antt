@@ -3,7 +3,7 @@ use Rattle.pool.proofs.seat_count.Statement.{statement}
 use Rattle.pool.proofs.seat_count.Tie as tie
 use Rattle.pool.proofs.seat_count.Reads as reads
 use Rattle.pool.proofs.seat_count.Lts as lts
-use Rattle.plan.proofs.own_input_count.Reads as own-input-count-reads
+use Rattle.counts.proofs.own_input_count.Reads as own-input-count-reads
 use Rattle.pool.proofs.mail_of_call.Reads as mail-of-call-reads
 use Rattle.pool.proofs.own_coin_count.Reads as own-coin-count-reads
 use Rattle.pool.proofs.written_by_call.Reads as written-by-call-reads

@@ -1,6 +1,6 @@
 use Prim.Native.Nat.{_+_, _-_}
 use lib.ListN.{length}
-use Rattle.sharing.specs.Sharing.{openingRow}
+use Rattle.polynomials.specs.Sharing.{openingRow}
 use Rattle.sharing.proofs.Rows.{Written, writing}
 use Rattle.sharing.proofs.opening_rows.Statement.{statement}
 use Rattle.sharing.proofs.opening_rows.Tie as tie

@@ -1,0 +1,2 @@
+pub mod Coalitions
+pub mod Worked

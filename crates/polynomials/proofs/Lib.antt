@@ -1,0 +1,6 @@
+pub mod Polys
+pub mod Interpolation
+pub mod Roots
+pub mod Deltas
+pub mod Shares
+pub mod Worked

@@ -1,0 +1,3 @@
+pub mod Poly
+pub mod Interp
+pub mod Sharing

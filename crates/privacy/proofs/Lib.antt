@@ -1,0 +1,5 @@
+pub mod Blocks
+pub mod Back
+pub mod Differ
+pub mod Private
+pub mod SetMembers

@@ -1,0 +1,1 @@
+// The matching of coins as a definition, and its laws. No code.

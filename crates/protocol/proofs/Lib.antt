@@ -1,0 +1,11 @@
+pub mod Lists
+pub mod Blocks
+pub mod States
+pub mod Carried
+pub mod Counts
+pub mod Accepted
+pub mod Sound
+pub mod Openings
+pub mod Below
+pub mod Worked
+pub mod Wires

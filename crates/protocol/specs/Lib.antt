@@ -1,0 +1,3 @@
+pub mod Rounds
+pub mod Ideal
+pub mod Shares

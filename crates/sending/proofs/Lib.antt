@@ -1,0 +1,7 @@
+pub mod SendLaws
+pub mod DealLaws
+pub mod InputLaws
+pub mod OutLaws
+pub mod ProductLaws
+pub mod ResultLaws
+pub mod WrittenLaws

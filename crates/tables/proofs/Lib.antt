@@ -1,0 +1,7 @@
+pub mod RowLaws
+pub mod PowerLaws
+pub mod DealLaws
+pub mod GridLaws
+pub mod StepLaws
+pub mod GateLaws
+pub mod FillLaws

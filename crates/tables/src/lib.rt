@@ -1,0 +1,471 @@
+// The table of shares of a run: a row for each wire, in it every party's share. Gates are worked one after the other, all parties at once.
+use field::Field;
+use plan::Gate;
+use plan::Header;
+ghost use mathlib.Core.Path.{_≡_};
+ghost use mathlib.Core.Bool.{true};
+ghost use mathlib.Core.List.{_∷_, map};
+ghost use Prim.Native.Nat.{suc, _+_, _-_, _*_, _/_, _<_, _≤_};
+ghost use lib.ListN.{length, take, drop, getD, replicate};
+ghost use lib.Seq.{paste};
+ghost use Rattle.numbers.specs.Tables.{tab};
+ghost use Rattle.numbers.specs.Bytes.{numbers, allBelow};
+ghost use Rattle.field.specs.Mod.{add, mul};
+ghost use Rattle.field.specs.Field.{Is};
+ghost use Rattle.polynomials.specs.Poly.{eval};
+ghost use Rattle.polynomials.specs.Interp.{dot};
+ghost use Rattle.sharing.specs.Ready.{Ready};
+ghost use Rattle.plan.specs.Planned.{Planned};
+ghost use Rattle.plan.specs.File.{planOf, gateAt};
+ghost use Rattle.protocol.specs.Ideal.{inputsTaken};
+ghost use Rattle.protocol.specs.Shares.{sharings, coinsTaken, shareTable};
+ghost use Rattle.tables.specs.Rows.{rowsOf, powers, powerRows, productsOf, mixedAt, column, Sized, Prepared, Powered, Coined, Dealt, Elements, Rowed, Standing, Taking, Worked, Stepped, Given};
+
+// ---- what is worked out once for a plan
+
+// The powers 1, x, x², .. of a point, as many as there is room for.
+fn powers(f: Field, x: u64, row: &mut [u64])
+    requires { ⌜ Ready (f .p) ⌝ }
+    requires { ⌜ x < f .p ⌝ }
+    ensures { λ _. ⌜ now (row .exit) ≡ powers (f .p) x (length (now (row .entry))) ⌝ }
+{
+    let mut power: u64 = 1;
+    let mut i = 0;
+    while i < row.len() {
+        row[i] = power;
+        power = f.mul(power, x);
+        i += 1;
+    }
+}
+
+// The powers of the points, k of each.
+fn power_rows(f: Field, k: usize, points: &[u64], rows: &mut [u64])
+    requires { ⌜ Ready (f .p) ⌝ }
+    requires { ⌜ allBelow (f .p) (now points) ≡ true ⌝ }
+    requires { ⌜ length (now rows) ≡ k * length (now points) ⌝ }
+    ensures { λ _. ⌜ now (rows .exit) ≡ powerRows (f .p) k (now (points .entry)) ⌝ }
+{
+    let mut at: usize = 0;
+    let mut i: usize = 0;
+    while i < points.len() {
+        let e = at + k;
+        powers(f, points[i], &mut rows[at..e]);
+        at = e;
+        i += 1;
+    }
+}
+
+// The parties' points, 1 to n.
+fn points(n: usize) -> [u64; 15]
+    requires { ⌜ n ≤ 15 ⌝ }
+    ensures { λ r. ⌜ take n r ≡ tab suc n ⌝ }
+{
+    let mut row = [0u64; 15];
+    let mut i: usize = 0;
+    while i < n {
+        row[i] = (i + 1) as u64;
+        i += 1;
+    }
+    row
+}
+
+// The power rows of all parties' points and the weights at 0 of the dealers', for all dealings of a plan.
+pub fn prepare(h: Header, rows: &mut [u64], weights: &mut [u64])
+    requires { ⌜ Sized h ⌝ }
+    requires { ⌜ 120 ≤ length (now rows) ⌝ }
+    requires { ⌜ 15 ≤ length (now weights) ⌝ }
+    ensures { λ _. ⌜ Prepared h (now (rows .exit)) (now (weights .exit)) ⌝ }
+    ensures { λ _. ⌜ drop ((h .t + 1) * h .n) (now (rows .exit)) ≡ drop ((h .t + 1) * h .n) (now (rows .entry)) ⌝ }
+    ensures { λ _. ⌜ drop (h .t + h .t + 1) (now (weights .exit)) ≡ drop (h .t + h .t + 1) (now (weights .entry)) ⌝ }
+{
+    let f = h.field;
+    let n = h.n;
+    let k = h.t + 1;
+    let m = h.t + h.t + 1;
+    let e = k * n;
+    let points = points(n);
+    power_rows(f, k, &points[..n], &mut rows[..e]);
+    sharing::weights(f, 0, &points[..m], &mut weights[..m]);
+}
+
+// ---- dealings
+
+// The polynomial of a dealing: the dealt value, then t coins from one place of the list on.
+fn coefficients(value: u64, coins: &[u8], at: usize, t: usize) -> [u64; 8]
+    requires { ⌜ t < 8 ⌝ }
+    requires { ⌜ at + t ≤ length (now coins) / 2 ⌝ }
+    ensures { λ r. ⌜ take (t + 1) r ≡ value ∷ take t (drop at (numbers (now (coins .entry)))) ⌝ }
+{
+    let mut polynomial = [0u64; 8];
+    polynomial[0] = value;
+    let mut i: usize = 0;
+    while i < t {
+        polynomial[i + 1] = numbers::read(coins, at + i);
+        i += 1;
+    }
+    polynomial
+}
+
+// The pieces of a dealing: the polynomial's values at the points of all n parties, by the power rows.
+fn dealing(f: Field, n: usize, k: usize, rows: &[u64], polynomial: [u64; 8]) -> [u64; 15]
+    requires { ⌜ Ready (f .p) ⌝ }
+    requires { ⌜ (n ≤ 15) × (k ≤ 8) ⌝ }
+    requires { ⌜ Powered (f .p) k (tab suc n) (now rows) ⌝ }
+    requires { ⌜ allBelow (f .p) (take k polynomial) ≡ true ⌝ }
+    ensures { λ r. ⌜ take n r ≡ map (eval (f .p) (take k polynomial)) (tab suc n) ⌝ }
+{
+    let mut row = [0u64; 15];
+    let mut at: usize = 0;
+    let mut j: usize = 0;
+    while j < n {
+        let e = at + k;
+        row[j] = sharing::dot(f, &rows[at..e], &polynomial[..k]);
+        at = e;
+        j += 1;
+    }
+    row
+}
+
+// ---- gates that each party works on its own shares
+
+// Each party's share of wire a plus that of wire b.
+fn add_row(f: Field, n: usize, a: usize, b: usize, table: &[u64]) -> [u64; 15]
+    requires { ⌜ Ready (f .p) ⌝ }
+    requires { ⌜ n ≤ 15 ⌝ }
+    requires { ⌜ Rowed (f .p) n a (now table) ⌝ }
+    requires { ⌜ Rowed (f .p) n b (now table) ⌝ }
+    ensures { λ r. ⌜ take n r ≡ tab (λ j. add (f .p) (getD (now (table .entry)) (n * a + j) 0) (getD (now (table .entry)) (n * b + j) 0)) n ⌝ }
+{
+    let left = n * a;
+    let right = n * b;
+    let mut row = [0u64; 15];
+    let mut j: usize = 0;
+    while j < n {
+        row[j] = f.add(table[left + j], table[right + j]);
+        j += 1;
+    }
+    row
+}
+
+// Each party's share of wire a times c.
+fn scale_row(f: Field, n: usize, a: usize, c: u64, table: &[u64]) -> [u64; 15]
+    requires { ⌜ Ready (f .p) ⌝ }
+    requires { ⌜ n ≤ 15 ⌝ }
+    requires { ⌜ Rowed (f .p) n a (now table) ⌝ }
+    requires { ⌜ c < f .p ⌝ }
+    ensures { λ r. ⌜ take n r ≡ tab (λ j. mul (f .p) (getD (now (table .entry)) (n * a + j) 0) c) n ⌝ }
+{
+    let left = n * a;
+    let mut row = [0u64; 15];
+    let mut j: usize = 0;
+    while j < n {
+        row[j] = f.mul(table[left + j], c);
+        j += 1;
+    }
+    row
+}
+
+// Each party's share of wire a plus c.
+fn offset_row(f: Field, n: usize, a: usize, c: u64, table: &[u64]) -> [u64; 15]
+    requires { ⌜ Ready (f .p) ⌝ }
+    requires { ⌜ n ≤ 15 ⌝ }
+    requires { ⌜ Rowed (f .p) n a (now table) ⌝ }
+    requires { ⌜ c < f .p ⌝ }
+    ensures { λ r. ⌜ take n r ≡ tab (λ j. add (f .p) (getD (now (table .entry)) (n * a + j) 0) c) n ⌝ }
+{
+    let left = n * a;
+    let mut row = [0u64; 15];
+    let mut j: usize = 0;
+    while j < n {
+        row[j] = f.add(table[left + j], c);
+        j += 1;
+    }
+    row
+}
+
+// ---- multiply gates
+
+// What the first m parties deal: each one's share of wire a times its share of wire b.
+pub fn products(f: Field, n: usize, m: usize, a: usize, b: usize, table: &[u64]) -> [u64; 15]
+    requires { ⌜ Ready (f .p) ⌝ }
+    requires { ⌜ (m ≤ n) × (n ≤ 15) ⌝ }
+    requires { ⌜ Rowed (f .p) n a (now table) ⌝ }
+    requires { ⌜ Rowed (f .p) n b (now table) ⌝ }
+    ensures { λ r. ⌜ take m r ≡ productsOf (f .p) n m a b (now (table .entry)) ⌝ }
+    ensures { λ r. ⌜ drop m r ≡ replicate (15 - m) 0 ⌝ }
+{
+    let left = n * a;
+    let right = n * b;
+    let mut row = [0u64; 15];
+    let mut j: usize = 0;
+    while j < m {
+        row[j] = f.mul(table[left + j], table[right + j]);
+        j += 1;
+    }
+    row
+}
+
+// The pieces of a multiply gate, each dealer's with its own t coins: row the dealer, column the receiver.
+fn pieces(
+    f: Field,
+    n: usize,
+    t: usize,
+    rows: &[u64],
+    products: [u64; 15],
+    coins: &[u8],
+    at: usize,
+) -> [[u64; 15]; 15]
+    requires { ⌜ Ready (f .p) ⌝ }
+    requires { ⌜ (2 * t < n) × (n ≤ 15) ⌝ }
+    requires { ⌜ Powered (f .p) (t + 1) (tab suc n) (now rows) ⌝ }
+    requires { ⌜ allBelow (f .p) (take (t + t + 1) products) ≡ true ⌝ }
+    requires { ⌜ Coined (f .p) t (t + t + 1) at (numbers (now coins)) ⌝ }
+    ensures { λ r. ⌜ Dealt (f .p) (tab suc n) (sharings t (take (t + t + 1) products) (drop at (numbers (now (coins .entry))))) r ⌝ }
+{
+    let dealers = t + t + 1;
+    let mut grid = [[0u64; 15]; 15];
+    let mut place = at;
+    let mut d: usize = 0;
+    while d < dealers {
+        let polynomial = coefficients(products[d], coins, place, t);
+        grid[d] = dealing(f, n, t + 1, rows, polynomial);
+        place += t;
+        d += 1;
+    }
+    grid
+}
+
+// One column of a grid, weighed and summed, with one remainder.
+pub fn column_sum(f: Field, weights: &[u64], grid: [[u64; 15]; 15], j: usize) -> u64
+    requires { ⌜ Ready (f .p) ⌝ }
+    requires { ⌜ j < 15 ⌝ }
+    requires { ⌜ length (now weights) ≤ 15 ⌝ }
+    requires { ⌜ allBelow (f .p) (now weights) ≡ true ⌝ }
+    requires { ⌜ allBelow (f .p) (take (length (now weights)) (column grid j)) ≡ true ⌝ }
+    ensures { λ r. ⌜ Is (f .p) (dot (f .p) (now (weights .entry)) (column grid j)) r ⌝ }
+{
+    let mut sum: u64 = 0;
+    let mut d: usize = 0;
+    while d < weights.len() {
+        sum += weights[d] * grid[d][j];
+        d += 1;
+    }
+    sum % f.p
+}
+
+// Every receiver's share: the sum of its column.
+fn reduce(f: Field, n: usize, weights: &[u64], grid: [[u64; 15]; 15]) -> [u64; 15]
+    requires { ⌜ Ready (f .p) ⌝ }
+    requires { ⌜ n ≤ 15 ⌝ }
+    requires { ⌜ length (now weights) ≤ 15 ⌝ }
+    requires { ⌜ allBelow (f .p) (now weights) ≡ true ⌝ }
+    requires { ⌜ Elements (f .p) n (length (now weights)) grid ⌝ }
+    ensures { λ r. ⌜ take n r ≡ tab (λ j. dot (f .p) (now (weights .entry)) (column grid j)) n ⌝ }
+{
+    let mut row = [0u64; 15];
+    let mut j: usize = 0;
+    while j < n {
+        row[j] = column_sum(f, weights, grid, j);
+        j += 1;
+    }
+    row
+}
+
+// A multiply gate's row: the dealers' products are dealt, and each receiver's pieces weighed and summed.
+fn multiply_row(
+    f: Field,
+    n: usize,
+    t: usize,
+    rows: &[u64],
+    weights: &[u64],
+    a: usize,
+    b: usize,
+    coins: &[u8],
+    at: usize,
+    table: &[u64],
+) -> [u64; 15]
+    requires { ⌜ Ready (f .p) ⌝ }
+    requires { ⌜ (2 * t < n) × (n ≤ 15) ⌝ }
+    requires { ⌜ Powered (f .p) (t + 1) (tab suc n) (now rows) ⌝ }
+    requires { ⌜ (length (now weights) ≡ t + t + 1) × (allBelow (f .p) (now weights) ≡ true) ⌝ }
+    requires { ⌜ Coined (f .p) t (t + t + 1) at (numbers (now coins)) ⌝ }
+    requires { ⌜ Rowed (f .p) n a (now table) ⌝ }
+    requires { ⌜ Rowed (f .p) n b (now table) ⌝ }
+    ensures { λ r. ⌜ take n r ≡ map (mixedAt (f .p) (now (weights .entry)) (sharings t (productsOf (f .p) n (t + t + 1) a b (now (table .entry))) (drop at (numbers (now (coins .entry)))))) (tab suc n) ⌝ }
+{
+    let products = products(f, n, t + t + 1, a, b, table);
+    let grid = pieces(f, n, t, rows, products, coins, at);
+    reduce(f, n, weights, grid)
+}
+
+// ---- one gate
+
+// An input gate's row: the input is dealt.
+fn input_row(
+    f: Field,
+    n: usize,
+    t: usize,
+    rows: &[u64],
+    x: u64,
+    coins: &[u8],
+    at: usize,
+) -> [u64; 15]
+    requires { ⌜ Ready (f .p) ⌝ }
+    requires { ⌜ (2 * t < n) × (n ≤ 15) ⌝ }
+    requires { ⌜ Powered (f .p) (t + 1) (tab suc n) (now rows) ⌝ }
+    requires { ⌜ x < f .p ⌝ }
+    requires { ⌜ Coined (f .p) t 1 at (numbers (now coins)) ⌝ }
+    ensures { λ r. ⌜ take n r ≡ map (eval (f .p) (x ∷ take t (drop at (numbers (now (coins .entry)))))) (tab suc n) ⌝ }
+{
+    let polynomial = coefficients(x, coins, at, t);
+    dealing(f, n, t + 1, rows, polynomial)
+}
+
+// The row of gate g's wire, from the rows of the wires below it.
+fn gate_row(
+    plan: &[u8],
+    h: Header,
+    rows: &[u64],
+    weights: &[u64],
+    g: usize,
+    x: u64,
+    coins: &[u8],
+    at: usize,
+    table: &[u64],
+) -> [u64; 15]
+    requires { ⌜ Planned (now plan) h ⌝ }
+    requires { ⌜ g < h .gates ⌝ }
+    requires { ⌜ Prepared h (now rows) (now weights) ⌝ }
+    requires { ⌜ x < h .field .p ⌝ }
+    requires { ⌜ Taking (planOf (now plan)) (gateAt (now plan) g) at (numbers (now coins)) ⌝ }
+    requires { ⌜ Standing (h .field .p) (h .n) g (now table) ⌝ }
+    ensures { λ r. ⌜ Worked (planOf (now (plan .entry))) (h .n) (gateAt (now (plan .entry)) g) g x (drop at (numbers (now (coins .entry)))) (now (table .entry)) r ⌝ }
+{
+    let f = h.field;
+    let n = h.n;
+    let t = h.t;
+    let dealers = t + t + 1;
+    let gate = plan::gate_at(plan, g);
+    match gate {
+        Gate::Input(_) => input_row(f, n, t, rows, x, coins, at),
+        Gate::Add(a, b) => add_row(f, n, a, b, table),
+        Gate::Scale(a, c) => scale_row(f, n, a, c, table),
+        Gate::Offset(a, c) => offset_row(f, n, a, c, table),
+        Gate::Multiply(a, b) => multiply_row(
+            f,
+            n,
+            t,
+            rows,
+            &weights[..dealers],
+            a,
+            b,
+            coins,
+            at,
+            table,
+        ),
+    }
+}
+
+// Writes a row's first n entries from one place of the table on.
+fn put_row(table: &mut [u64], at: usize, row: [u64; 15], n: usize)
+    requires { ⌜ n ≤ 15 ⌝ }
+    requires { ⌜ at + n ≤ length (now table) ⌝ }
+    ensures { λ _. ⌜ now (table .exit) ≡ paste (now (table .entry)) at row n ⌝ }
+{
+    let mut j: usize = 0;
+    while j < n {
+        table[at + j] = row[j];
+        j += 1;
+    }
+}
+
+// Works gate g for all parties: sets the row of its wire, from the rows of the wires below it. x is the next input; the gate's coins stand from place `at` on.
+pub fn step(
+    plan: &[u8],
+    h: Header,
+    rows: &[u64],
+    weights: &[u64],
+    g: usize,
+    x: u64,
+    coins: &[u8],
+    at: usize,
+    table: &mut [u64],
+)
+    requires { ⌜ Planned (now plan) h ⌝ }
+    requires { ⌜ g < h .gates ⌝ }
+    requires { ⌜ Prepared h (now rows) (now weights) ⌝ }
+    requires { ⌜ x < h .field .p ⌝ }
+    requires { ⌜ Taking (planOf (now plan)) (gateAt (now plan) g) at (numbers (now coins)) ⌝ }
+    requires { ⌜ Standing (h .field .p) (h .n) g (now table) ⌝ }
+    requires { ⌜ h .n * h .gates ≤ length (now table) ⌝ }
+    ensures { λ _. ⌜ Stepped (planOf (now (plan .entry))) (h .n) (gateAt (now (plan .entry)) g) g x (drop at (numbers (now (coins .entry)))) (now (table .entry)) (now (table .exit)) ⌝ }
+{
+    let n = h.n;
+    let start = n * g;
+    let row = gate_row(plan, h, rows, weights, g, x, coins, at, table);
+    put_row(table, start, row, n);
+}
+
+// ---- a run
+
+// How many inputs and coins are taken.
+pub struct Taken {
+    pub inputs: usize,
+    pub coins: usize,
+}
+
+// What gate g takes of the inputs and of the coins.
+pub fn taken_at(plan: &[u8], h: Header, g: usize) -> Taken
+    requires { ⌜ Planned (now plan) h ⌝ }
+    ensures { λ r. ⌜ (r .inputs ≡ inputsTaken (gateAt (now (plan .entry)) g)) × (r .coins ≡ coinsTaken (planOf (now (plan .entry))) (gateAt (now (plan .entry)) g)) ⌝ }
+{
+    let t = h.t;
+    let gate = plan::gate_at(plan, g);
+    match gate {
+        Gate::Input(_) => Taken {
+            inputs: 1,
+            coins: t,
+        },
+        Gate::Add(_, _) => Taken {
+            inputs: 0,
+            coins: 0,
+        },
+        Gate::Scale(_, _) => Taken {
+            inputs: 0,
+            coins: 0,
+        },
+        Gate::Offset(_, _) => Taken {
+            inputs: 0,
+            coins: 0,
+        },
+        Gate::Multiply(_, _) => Taken {
+            inputs: 0,
+            coins: t * (t + t + 1),
+        },
+    }
+}
+
+// The table of a run: every party's share of every wire, in front of what the table holds beyond.
+pub fn fill(plan: &[u8], h: Header, inputs: &[u8], coins: &[u8], table: &mut [u64])
+    requires { ⌜ Planned (now plan) h ⌝ }
+    requires { ⌜ Given (planOf (now plan)) (now inputs) (now coins) ⌝ }
+    requires { ⌜ h .n * h .gates ≤ length (now table) ⌝ }
+    ensures { λ _. ⌜ take (h .n * h .gates) (now (table .exit)) ≡ rowsOf (planOf (now (plan .entry)) .points) (shareTable (planOf (now (plan .entry))) (numbers (now (inputs .entry))) (numbers (now (coins .entry)))) ⌝ }
+    ensures { λ _. ⌜ drop (h .n * h .gates) (now (table .exit)) ≡ drop (h .n * h .gates) (now (table .entry)) ⌝ }
+{
+    let mut rows = [0u64; 120];
+    let mut weights = [0u64; 15];
+    prepare(h, &mut rows, &mut weights);
+    let gates = h.gates;
+    let mut i: usize = 0;
+    let mut at: usize = 0;
+    let mut g: usize = 0;
+    while g < gates {
+        let x = numbers::read(inputs, i);
+        step(plan, h, &rows, &weights, g, x, coins, at, table);
+        let taken = taken_at(plan, h, g);
+        i += taken.inputs;
+        at += taken.coins;
+        g += 1;
+    }
+}

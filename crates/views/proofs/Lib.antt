@@ -1,0 +1,4 @@
+pub mod FlatLaws
+pub mod JoinLaws
+pub mod ViewLaws
+pub mod WriteLaws

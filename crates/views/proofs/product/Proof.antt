@@ -1,0 +1,18 @@
+use Rattle.views.proofs.ViewLaws.{multiplying}
+use Rattle.views.proofs.product.Statement.{statement}
+use Rattle.views.proofs.product.Tie as tie
+
+share-in-requires : tie.Need-share-in-requires
+share-in-requires c κs = search multiplying
+
+share-in-requires-2 : tie.Need-share-in-requires-2
+share-in-requires-2 c κs = search multiplying
+
+mul-requires : tie.Need-mul-requires
+mul-requires c κs = search multiplying
+
+returns : tie.Need-returns
+returns c = search multiplying
+
+pub product-spec : {M : Type 1} → statement M
+product-spec = tie.close (tie.spec share-in-requires share-in-requires-2 mul-requires returns)
