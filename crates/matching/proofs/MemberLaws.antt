@@ -33,7 +33,8 @@ use Rattle.coalition.specs.Coalitions.{inSet, membersFrom, members, setOk}
 use Rattle.plan.proofs.Planned.{plan-n, plan-points}
 use Rattle.plan.proofs.Valid.{Valid}
 use Rattle.privacy.specs.Matching.{isMember, matchedBlocks}
-use Rattle.matching.specs.MatchSteps.{deltaTail, moved, changeOf, movedBlocks}
+use Rattle.moves.specs.Moves.{moved, changeOf, movedBlocks}
+use Rattle.matching.specs.MatchSteps.{deltaTail}
 use Rattle.privacy.proofs.Blocks.{all-take, all-drop, matchedBlock, blocks-cons, block-member, block-other}
 use Rattle.privacy.proofs.SetMembers.{member-in, set-few, set-parties}
 

@@ -14,24 +14,15 @@ use Rattle.plan.specs.declared.Checked.{Checked}
 use Rattle.plan.specs.declared.Checked.the-variants.{Passed, Refused}
 use Rattle.plan.specs.declared.Refusal.{Refusal}
 use Rattle.plan.specs.Refusals.{andThen, firstOf}
-use Rattle.plan.specs.File.{planChecks, planCheck, planOf}
+use Rattle.plan.specs.File.{planChecks, planCheck, planOf, outcomeOf}
 use Rattle.plan.specs.Planned.{ReadAs}
 use Rattle.coalition.specs.Coalitions.{members}
 use Rattle.plan.proofs.Refusals.{andThen-passed, andThen-refused, firstOf-append}
 use Rattle.plan.proofs.Planned.{planned-read, refused-read}
 use Rattle.messages.specs.Calls.{unlessRefused}
 use Rattle.privacy.specs.Matching.{matchedCoins}
-use Rattle.matching.specs.MatchCalls.{pairChecks, matchAnswer, matchedAfter}
-use Rattle.matching.specs.MatchParts.{checkedOf}
-use Rattle.matching.proofs.AgreeLaws.{matchable}
-
-pub refused-passed : (r : Reading) (h : Header) → r ≡ reading.Passed h → Passed ≡ checkedOf r
-unfolding checkedOf
-refused-passed r h e = rw e
-
-pub refused-refused : (r : Reading) (q : Refusal) → r ≡ reading.Refused q → Refused q ≡ checkedOf r
-unfolding checkedOf
-refused-refused r q e = rw e
+use Rattle.agreement.specs.MatchCalls.{pairChecks, matchAnswer, matchedAfter}
+use Rattle.agreement.proofs.AgreeLaws.{matchable}
 
 module _ (bs : List ℕ) (set : ℕ) (xs ys coins : List ℕ) (room : ℕ) where
   answer-parts : matchAnswer bs set xs ys coins room ≡ andThen (planCheck bs) (firstOf (pairChecks (planOf bs) set xs ys coins room))
@@ -42,9 +33,9 @@ module _ (bs : List ℕ) (set : ℕ) (xs ys coins : List ℕ) (room : ℕ) where
     plan-refused : (q : Refusal) → r ≡ reading.Refused q → matchAnswer bs set xs ys coins room ≡ Refused q
     plan-refused q e = answer-parts ∙ andThen-refused (planCheck bs) _ q (refused-read bs r q read e)
 
-    pub refused-answer : (q : Refusal) (c : Checked) → r ≡ reading.Refused q → c ≡ checkedOf r → c ≡ matchAnswer bs set xs ys coins room
-    unfolding checkedOf
-    refused-answer q c e ec = ec ∙ ap checkedOf e ∙ sym (plan-refused q e)
+    pub refused-answer : (q : Refusal) (c : Checked) → r ≡ reading.Refused q → c ≡ outcomeOf r → c ≡ matchAnswer bs set xs ys coins room
+    unfolding outcomeOf
+    refused-answer q c e ec = ec ∙ ap outcomeOf e ∙ sym (plan-refused q e)
 
     module _ (h : Header) (e : r ≡ reading.Passed h) (c : Checked) (ec : c ≡ firstOf (pairChecks (planOf bs) set xs ys coins room)) where
       plan-passes : matchAnswer bs set xs ys coins room ≡ c
@@ -72,4 +63,4 @@ module _ (bs : List ℕ) (set : ℕ) (xs ys coins out : List ℕ) (r : Reading) 
     unfolding matchedAfter unlessRefused
     passed-buffer f zs z = rw (plan-passes bs set xs ys coins (length out) r read h e c ec, f) z
 
-pub ruleset pairing-up = (needs, refused-passed, refused-refused, planned-read, matchable, refused-answer, refused-buffer, checked-answer, checked-buffer, passed-answer, passed-buffer)
+pub ruleset pairing-up = (needs, planned-read, matchable, refused-answer, refused-buffer, checked-answer, checked-buffer, passed-answer, passed-buffer)

@@ -44,7 +44,8 @@ use Rattle.tables.proofs.FillLaws.{rows-snoc, coins-next, coins-within}
 use Rattle.tables.proofs.RowLaws.{row-room}
 use Rattle.tables.proofs.StepLaws.{planned-ready, planned-sized}
 use Rattle.privacy.specs.Matching.{matchedAt, matchFrom, matchedCoins}
-use Rattle.matching.specs.MatchSteps.{deltaTail, Equipped, Turn, Matched, Matchable}
+use Rattle.agreement.specs.MatchParts.{Matchable}
+use Rattle.matching.specs.MatchSteps.{deltaTail, Equipped, Turn, Matched}
 use Rattle.privacy.proofs.Blocks.{match-cons}
 use Rattle.privacy.proofs.SetMembers.{set-few}
 use Rattle.ideal.proofs.IdealLaws.{next-taken, input-below}

@@ -39,7 +39,8 @@ use Rattle.protocol.proofs.Lists.{all-tab}
 use Rattle.tables.proofs.StepLaws.{planned-sized}
 use Rattle.tables.proofs.GateLaws.{entry-of-wire}
 use Rattle.privacy.specs.Matching.{matchedBlocks, matchedAt}
-use Rattle.matching.specs.MatchSteps.{deltaTail, moved, movedBlocks, dealersIn, dealtIn, Lent, Advanced, Equipped, Turn, NewCoins, Matched}
+use Rattle.moves.specs.Moves.{moved, movedBlocks, dealersIn, dealtIn, Lent, Advanced}
+use Rattle.matching.specs.MatchSteps.{deltaTail, Equipped, Turn, NewCoins, Matched}
 use Rattle.privacy.proofs.Blocks.{below-canon, share-prefix}
 use Rattle.ideal.proofs.IdealLaws.{gate-kept}
 use Rattle.matching.proofs.MemberLaws.{length-tail, tail-below, blocks-are}

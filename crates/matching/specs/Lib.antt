@@ -1,3 +1,1 @@
-pub mod MatchCalls
-pub mod MatchParts
 pub mod MatchSteps

@@ -13,7 +13,7 @@ ghost use Rattle.plan.specs.Planned.{Planned};
 ghost use Rattle.plan.specs.Plans.{ownCoinCount, coinCount, sentCount};
 ghost use Rattle.messages.specs.Calls.{callAnswer, stateAfter, outAfter};
 ghost use Rattle.run.specs.BenchCalls.{benchAnswer, benchedOf, viewAfter};
-ghost use Rattle.matching.specs.MatchCalls.{matchAnswer, matchedAfter};
+ghost use Rattle.agreement.specs.MatchCalls.{matchAnswer, matchedAfter};
 ghost use Rattle.pool.specs.Sizes.{mailOfCall, writtenByCall, seatCount, seatSize, callCount, runCount, runSize, answerOf};
 
 // Checks a plan: refusals 1 to 8.

@@ -7,7 +7,7 @@ use Rattle.plan.specs.declared.Checked.{Checked}
 use Rattle.plan.specs.declared.Checked.the-variants.{Passed, Refused}
 use Rattle.messages.specs.Calls.{unlessRefused, stateAfter, outAfter}
 use Rattle.run.specs.BenchCalls.{viewAfter}
-use Rattle.matching.specs.MatchCalls.{matchedAfter}
+use Rattle.agreement.specs.MatchCalls.{matchedAfter}
 use Rattle.theorems.specs.Demands.{Total}
 
 kept : (a : Checked) (r : Refusal) (new old : List ℕ) → a ≡ Refused r → unlessRefused a new old ≡ old

@@ -15,7 +15,7 @@ use Rattle.protocol.specs.Rounds.{stateIn, mailIn, results, view, sentAll}
 use Rattle.protocol.specs.Ideal.{granted}
 use Rattle.run.specs.BenchCalls.{benchAnswer, viewAfter}
 use Rattle.privacy.specs.Matching.{matchedCoins}
-use Rattle.matching.specs.MatchCalls.{matchAnswer, matchedAfter}
+use Rattle.agreement.specs.MatchCalls.{matchAnswer, matchedAfter}
 
 -- a list of inputs (document 01: figures), or a setting of coins, with its full count and each number below p
 pub record Inputs (plan : Plan) (xs : List ℕ) : Type 0 where

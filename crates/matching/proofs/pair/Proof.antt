@@ -11,8 +11,8 @@ enum-known-r c = search pairing-up
 enum-told : tie.Need-enum-told
 enum-told c = search pairing-up
 
-refused-requires : tie.Need-refused-requires
-refused-requires c κs = search pairing-up
+outcome-requires : tie.Need-outcome-requires
+outcome-requires c κs = search pairing-up
 
 returns : tie.Need-returns
 returns c = search pairing-up
@@ -45,7 +45,7 @@ pair-spec =
     read-requires
     enum-known-r
     enum-told
-    refused-requires
+    outcome-requires
     returns
     check-requires
     enum-told-2

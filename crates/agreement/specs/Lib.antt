@@ -1,0 +1,2 @@
+pub mod MatchCalls
+pub mod MatchParts
