@@ -61,25 +61,13 @@ static void fail(const char *format, ...)
     exit(1);
 }
 
-static const char *sentence(unsigned number)
-{
-    switch (number) {
-#define POOL_REFUSAL_ROW(n, text) \
-    case n:                   \
-        return text;
-#include "pool_refusals.h"
-#undef POOL_REFUSAL_ROW
-    }
-    return "An unknown refusal.";
-}
-
 /* The value of an answer; a refusal ends the program. */
 static uint64_t value(uint64_t answer)
 {
-    unsigned number = answer & 255;
+    unsigned number = POOL_REFUSAL(answer);
     if (number)
-        fail("refused %u at place %llu: %s", number, (unsigned long long)(answer >> 8), sentence(number));
-    return answer >> 8;
+        fail("refused %u at place %lu: %s", number, (unsigned long)POOL_PLACE(answer), pool_refusal_sentence(number));
+    return POOL_VALUE(answer);
 }
 
 static uint64_t size(unsigned of, uint64_t call, unsigned what)

@@ -35,42 +35,15 @@
  * -------
  *
  * Each function answers 64 bits. Bits 0 to 7 are the number of a refusal, 0
- * where there is none. Bits 8 to 39 are the refusal's place, 0 unless one is
- * named below; places count from 0. Of several faults the one with the lowest
- * number is answered, and of several places the lowest. A refused call has
- * written nothing.
+ * where there is none. Bits 8 to 39 are the refusal's place, 0 unless its
+ * sentence names one; places count from 0. Of several faults the one with the
+ * lowest number is answered, and of several places the lowest. A refused call
+ * has written nothing.
  *
- *   number                                                        place
- *    1  The plan has under 18 bytes or does not begin with POOL.
- *    2  The plan's version is not 1.
- *    3  The number of parties, n, is not 1 to 15.
- *    4  Twice the threshold t is not below n.
- *    5  p is not a prime, or not above n.
- *    6  Byte 7, an offset, the number of gates (1 to 1,024) or of
- *       outs (1 to 64), or the plan's length is not that of the
- *       layout.
- *    7  A gate breaks the rule of its kind.                       the gate
- *    8  An out names a party that is not 1 to n, or a wire that
- *       no gate makes.                                            the out
- *    9  The party is not 1 to n; or the coalition names a party
- *       above n or has more than t members.
- *   10  The count of inputs is wrong.
- *   11  An input is not below p.                                  the input
- *   12  The count of coins is wrong.
- *   13  A coin is not below p.                                    the coin
- *   14  The state does not have 1 + G numbers (G: the gates).
- *   15  The state's first number is above M + 3 (M: the multiply
- *       gates), or another is not below p.
- *   16  The party has finished.
- *   17  The mail's length is not that of the last round.
- *   18  A number of the mail is not below p.                      the number
- *   19  A buffer to be written does not have exactly the length
- *       of what it takes.
- *   20  The n shares of an out do not lie on one polynomial of
- *       degree t or less.                                         the party's own out
- *   21  The two lists of inputs differ at a member's input.       the input
- *   22  The plan's values under the two lists differ at a
- *       member's out.                                             the out
+ * What each number says stands in pool_refusals.h, one row a number in checking
+ * order, with what its place is; pool_refusal_sentence below gives the sentence.
+ * In those sentences a party is a seat, its inputs are figures, a coalition is
+ * a set, and n, t and p are the plan's number of seats, threshold and prime.
  */
 #ifndef POOL_H
 #define POOL_H
@@ -85,6 +58,20 @@ extern "C" {
 /* The refusal's number in an answer, 0 where there is none; and its place. */
 #define POOL_REFUSAL(answer) ((unsigned)((answer) & 0xff))
 #define POOL_PLACE(answer) ((uint32_t)(((answer) >> 8) & 0xffffffff))
+
+/* The sentence of a refusal's number, for a person; null for any other number. */
+static inline const char *pool_refusal_sentence(unsigned number)
+{
+    switch (number) {
+#define POOL_REFUSAL_ROW(row, sentence) \
+    case row:                           \
+        return sentence;
+#include "pool_refusals.h"
+#undef POOL_REFUSAL_ROW
+    default:
+        return 0;
+    }
+}
 
 /* The value in an answer that has one: a size, a count; only where nothing is refused. */
 #define POOL_VALUE(answer) ((uint64_t)(answer) >> 8)
