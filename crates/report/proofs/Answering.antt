@@ -41,13 +41,13 @@ use Rattle.tables.specs.Rows.{Given}
 use Rattle.views.specs.ViewCounts.{viewCount}
 use Rattle.run.specs.BenchCalls.{runChecks, benchAnswer, benchedOf, viewAfter}
 use Rattle.run.proofs.BenchLaws.{passed-set, passed-given}
-use Rattle.report.specs.Decimals.{line}
-use Rattle.report.specs.Report.{refusedWord, answerLines, runLines, planPart, setPart, listPart, figuresPart, coinsPart, unreadable, benchOf, report}
-use Rattle.report.specs.Texts.{Put, Reported}
-use Rattle.report.specs.Placed.{runLinesIn}
+use Rattle.text.specs.Decimals.{line}
+use Rattle.lines.specs.Report.{refusedWord, answerLines, runLines, planPart, setPart, listPart, figuresPart, coinsPart, unreadable, benchOf, report}
+use Rattle.text.specs.Texts.{Put, Reported}
+use Rattle.lines.specs.Placed.{runLinesIn}
 use Rattle.report.specs.Answers.{answered}
-use Rattle.report.proofs.Appending.{put-as}
-use Rattle.report.proofs.Viewed.{run-flat, view-back}
+use Rattle.text.proofs.Appending.{put-as}
+use Rattle.lines.proofs.Viewed.{run-flat, view-back}
 
 -- ---- what the bench answers
 answer-sent : (c : Checked) (sent k : ℕ) → benched.Sent k ≡ benchedOf c sent → c ≡ Passed

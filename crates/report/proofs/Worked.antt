@@ -17,8 +17,8 @@ use Rattle.messages.specs.Messages.{setAll, wiresByParty, reduced, workGate, wo
 use Rattle.protocol.specs.Rounds.{fresh, noCall, callOf, mailTo, round, results}
 use Rattle.views.specs.ViewCounts.{viewCountOf, viewCount}
 use Rattle.run.specs.BenchCalls.{runChecks, benchAnswer}
-use Rattle.report.specs.Decimals.{digits, decimal, field, line}
-use Rattle.report.specs.Report.{planWord, viewWord, roundWord, outWord, sentWord, refusedWord, planLine, viewLine, roundLine, memberLines, outLinesFrom, runLines, answerLines, planPart, setPart, listPart, figuresPart, coinsPart, unreadable, benchOf, report}
+use Rattle.text.specs.Decimals.{digits, decimal, field, line}
+use Rattle.lines.specs.Report.{planWord, viewWord, roundWord, outWord, sentWord, refusedWord, planLine, viewLine, roundLine, memberLines, outLinesFrom, runLines, answerLines, planPart, setPart, listPart, figuresPart, coinsPart, unreadable, benchOf, report}
 
 inputK : List ℕ
 inputK = 45 ∷ 0 ∷ 80 ∷ 79 ∷ 79 ∷ 76 ∷ 1 ∷ 3 ∷ 1 ∷ 0 ∷ 11 ∷ 0 ∷ 18 ∷ 0 ∷ 4 ∷ 0 ∷ 42 ∷ 0 ∷ 1 ∷ 0 ∷ 1 ∷ 0 ∷ 1 ∷ 0 ∷ 0 ∷ 0 ∷ 1 ∷ 0 ∷ 2 ∷ 0 ∷ 0 ∷ 0 ∷ 5 ∷ 0 ∷ 0 ∷ 0 ∷ 1 ∷ 0 ∷ 2 ∷ 0 ∷ 2 ∷ 0 ∷ 0 ∷ 0 ∷ 3 ∷ 3 ∷ 0 ∷ 4 ∷ 0 ∷ 4 ∷ 0 ∷ 5 ∷ 0 ∷ 2 ∷ 0 ∷ 3 ∷ 0 ∷ 1 ∷ 0 ∷ 5 ∷ 0 ∷ 7 ∷ 0 ∷ []

@@ -6,7 +6,7 @@ use Rattle.plan.specs.File.{planOf}
 use Rattle.coalition.specs.Coalitions.{members}
 use Rattle.views.specs.ViewCounts.{viewCount}
 use Rattle.run.specs.BenchCalls.{benchAnswer}
-use Rattle.report.specs.Report.{answerLines}
+use Rattle.lines.specs.Report.{answerLines}
 
 unfoldable pub answered : List ℕ → ℕ → List ℕ → List ℕ → List ℕ
 answered bs set figures coins =
