@@ -22,8 +22,8 @@ ghost use Rattle.lines.specs.Placed.{roundLinesIn, ownCount, memberLines
 pub fn put_refused(text: &mut [u8], r: Refusal) -> usize
     ensures { λ e. ⌜ Put (line refusedWord (numberOf r ∷ placeOf r ∷ [])) 0 (now (text .entry)) (now (text .exit)) e ⌝ }
 {
-    let number = plan::number(r);
-    let place = plan::place(r);
+    let number = codes::number(r);
+    let place = codes::place(r);
     let xs = [number, place];
     text::put_line(text, 0, b"refused", &xs)
 }

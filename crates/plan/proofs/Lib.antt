@@ -1,7 +1,6 @@
 pub mod Refusals
 pub mod Gates
 pub mod Ways
-pub mod Codes
 pub mod Planned
 pub mod Valid
 pub mod Worked

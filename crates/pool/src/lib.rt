@@ -21,7 +21,7 @@ ghost use Rattle.pool.specs.Sizes.{mailOfCall, writtenByCall, seatCount,
 pub extern "C" fn pool_plan_check(plan: &[u8]) -> u64
     ensures { λ r. ⌜ r ≡ codeOf (planCheck (now (plan .entry))) ⌝ }
 {
-    plan::code(plan::check(plan))
+    codes::code(plan::check(plan))
 }
 
 // An answer with a value, which stands above the low byte.
@@ -81,14 +81,14 @@ pub extern "C" fn pool_seat_size(plan: &[u8], seat: u16, call: u16, what: u16) -
 {
     let r = plan::read(plan);
     let Reading::Passed(h) = r else {
-        return plan::code(plan::outcome(r));
+        return codes::code(plan::outcome(r));
     };
     let i = seat as usize;
     if i < 1 {
-        return plan::code(Checked::Refused(Refusal::Coalition));
+        return codes::code(Checked::Refused(Refusal::Coalition));
     }
     if h.n < i {
-        return plan::code(Checked::Refused(Refusal::Coalition));
+        return codes::code(Checked::Refused(Refusal::Coalition));
     }
     value(2 * seat_count(plan, h, i, call as usize, what))
 }
@@ -100,7 +100,7 @@ pub extern "C" fn pool_calls(plan: &[u8]) -> u64
 {
     let r = plan::read(plan);
     let Reading::Passed(h) = r else {
-        return plan::code(plan::outcome(r));
+        return codes::code(plan::outcome(r));
     };
     value(counts::multiply_count(plan, h) + 3)
 }
@@ -120,7 +120,7 @@ pub extern "C" fn pool_seat_call(
     ensures state { λ _. ⌜ now (state .exit) ≡ stateAfter (now (plan .entry)) seat (now (figures .entry)) (now (coins .entry)) (now (state .entry)) (now (mail .entry)) (length (now (out .entry))) ⌝ }
     ensures out { λ _. ⌜ now (out .exit) ≡ outAfter (now (plan .entry)) seat (now (figures .entry)) (now (coins .entry)) (now (state .entry)) (now (mail .entry)) (now (out .entry)) ⌝ }
 {
-    plan::code(party::call(plan, seat as usize, figures, coins, state, mail, out))
+    codes::code(party::call(plan, seat as usize, figures, coins, state, mail, out))
 }
 
 fn coin_count(plan: &[u8], h: Header) -> usize
@@ -150,10 +150,10 @@ pub extern "C" fn pool_run_size(plan: &[u8], set: u16, what: u16) -> u64
 {
     let r = plan::read(plan);
     let Reading::Passed(h) = r else {
-        return plan::code(plan::outcome(r));
+        return codes::code(plan::outcome(r));
     };
     if !coalition::set_ok(h, set) {
-        return plan::code(Checked::Refused(Refusal::Coalition));
+        return codes::code(Checked::Refused(Refusal::Coalition));
     }
     value(2 * run_count(plan, h, set, what))
 }
@@ -164,7 +164,7 @@ fn sent(b: Benched) -> u64
 {
     match b {
         Benched::Sent(n) => value(n % 4294967296),
-        Benched::Refused(r) => plan::code(Checked::Refused(r)),
+        Benched::Refused(r) => codes::code(Checked::Refused(r)),
     }
 }
 
@@ -196,5 +196,5 @@ pub extern "C" fn pool_match(
     ensures answer { λ r. ⌜ r ≡ codeOf (matchAnswer (now (plan .entry)) set (now (first .entry)) (now (second .entry)) (now (coins .entry)) (length (now (matched .entry)))) ⌝ }
     ensures matched { λ _. ⌜ now (matched .exit) ≡ matchedAfter (now (plan .entry)) set (now (first .entry)) (now (second .entry)) (now (coins .entry)) (now (matched .entry)) ⌝ }
 {
-    plan::code(matching::pair(plan, set, first, second, coins, matched))
+    codes::code(matching::pair(plan, set, first, second, coins, matched))
 }

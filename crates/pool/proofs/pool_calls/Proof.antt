@@ -3,7 +3,7 @@ use Rattle.pool.proofs.pool_calls.Statement.{statement}
 use Rattle.pool.proofs.pool_calls.Tie as tie
 use Rattle.pool.proofs.pool_calls.Reads as reads
 use Rattle.pool.proofs.pool_calls.Lts as lts
-use Rattle.plan.proofs.code.Reads as code-reads
+use Rattle.codes.proofs.code.Reads as code-reads
 use Rattle.counts.proofs.multiply_count.Reads as multiply-count-reads
 use Rattle.plan.proofs.outcome.Reads as outcome-reads
 use Rattle.plan.proofs.read.Reads as read-reads

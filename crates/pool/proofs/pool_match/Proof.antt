@@ -5,7 +5,7 @@ use Rattle.pool.proofs.pool_match.Tie as tie
 use Rattle.pool.proofs.pool_match.Reads as reads
 use Rattle.pool.proofs.pool_match.Lts as lts
 use Rattle.matching.proofs.pair.Reads as pair-reads
-use Rattle.plan.proofs.code.Reads as code-reads
+use Rattle.codes.proofs.code.Reads as code-reads
 
 -- src/lib.rt:195:16
 pair-requires : tie.Need-pair-requires

@@ -5,7 +5,7 @@ use Rattle.pool.proofs.pool_seat_call.Tie as tie
 use Rattle.pool.proofs.pool_seat_call.Reads as reads
 use Rattle.pool.proofs.pool_seat_call.Lts as lts
 use Rattle.party.proofs.call.Reads as call-reads
-use Rattle.plan.proofs.code.Reads as code-reads
+use Rattle.codes.proofs.code.Reads as code-reads
 
 -- src/lib.rt:120:16
 call-requires : tie.Need-call-requires

@@ -3,7 +3,7 @@ use Rattle.pool.proofs.sent.Statement.{statement}
 use Rattle.pool.proofs.sent.Tie as tie
 use Rattle.pool.proofs.sent.Reads as reads
 use Rattle.pool.proofs.sent.Lts as lts
-use Rattle.plan.proofs.code.Reads as code-reads
+use Rattle.codes.proofs.code.Reads as code-reads
 use Rattle.pool.proofs.value.Reads as value-reads
 
 -- src/lib.rt:166:23

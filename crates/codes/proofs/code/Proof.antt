@@ -1,6 +1,6 @@
-use Rattle.plan.proofs.Codes.{coding}
-use Rattle.plan.proofs.code.Statement.{statement}
-use Rattle.plan.proofs.code.Tie as tie
+use Rattle.codes.proofs.Codes.{coding}
+use Rattle.codes.proofs.code.Statement.{statement}
+use Rattle.codes.proofs.code.Tie as tie
 
 enum-told : tie.Need-enum-told
 enum-told c = search coding
