@@ -44,7 +44,7 @@ pub fn read(s: &[u8], i: usize) -> u64
     ensures { λ r. ⌜ record { eq : r ≡ getD (numbers (now (s .entry))) i 0; lt : r < limit } ⌝ }
 {
     if i < s.len() / 2 {
-        return word(s, 2 * i);
+        return wide(s[2 * i]) + 256 * wide(s[2 * i + 1]);
     }
     0
 }
