@@ -1,8 +1,8 @@
 // Lists of numbers that are lent as bytes: two bytes a number, the low byte first. A read past the end is 0, and a write
 // there changes nothing.
 ghost use mathlib.Core.Path.{_≡_};
-ghost use Prim.Native.Nat.{_<_};
-ghost use lib.ListN.{getD, drop};
+ghost use Prim.Native.Nat.{_/_, _<_};
+ghost use lib.ListN.{length, getD, drop};
 ghost use Rattle.numbers.specs.Bytes.{wordAt, limit, numbers, holdsCount, stored, firstOver, allBelow};
 
 // What a search answers.
@@ -39,12 +39,20 @@ pub fn word(s: &[u8], at: usize) -> u64
     0
 }
 
+// Number i of a list that has it: no test is made.
+pub fn number(s: &[u8], i: usize) -> u64
+    requires { ⌜ i < length (now s) / 2 ⌝ }
+    ensures { λ r. ⌜ record { eq : r ≡ getD (numbers (now (s .entry))) i 0; lt : r < limit } ⌝ }
+{
+    wide(s[2 * i]) + 256 * wide(s[2 * i + 1])
+}
+
 // Number i of a list.
 pub fn read(s: &[u8], i: usize) -> u64
     ensures { λ r. ⌜ record { eq : r ≡ getD (numbers (now (s .entry))) i 0; lt : r < limit } ⌝ }
 {
     if i < s.len() / 2 {
-        return wide(s[2 * i]) + 256 * wide(s[2 * i + 1]);
+        return number(s, i);
     }
     0
 }

@@ -2,32 +2,8 @@ use Rattle.numbers.proofs.Ways.{coding}
 use Rattle.numbers.proofs.read.Statement.{statement}
 use Rattle.numbers.proofs.read.Tie as tie
 
-mul-wide : tie.Need-mul-wide
-mul-wide c = search coding
-
-shared-slice-read-wide : tie.Need-shared-slice-read-wide
-shared-slice-read-wide c = search coding
-
-wide-requires : tie.Need-wide-requires
-wide-requires c κs = search coding
-
-mul-wide-2 : tie.Need-mul-wide-2
-mul-wide-2 c = search coding
-
-add-wide : tie.Need-add-wide
-add-wide c = search coding
-
-shared-slice-read-wide-2 : tie.Need-shared-slice-read-wide-2
-shared-slice-read-wide-2 c = search coding
-
-wide-requires-2 : tie.Need-wide-requires-2
-wide-requires-2 c κs = search coding
-
-mul-result : tie.Need-mul-result
-mul-result c = search coding
-
-add-result : tie.Need-add-result
-add-result c = search coding
+number-requires : tie.Need-number-requires
+number-requires c κs = search coding
 
 returns : tie.Need-returns
 returns c = search coding
@@ -36,17 +12,4 @@ returns-2 : tie.Need-returns-2
 returns-2 c = search coding
 
 pub read-spec : {M : Type 1} → statement M
-read-spec =
-    tie.close
-    (tie.spec
-    mul-wide
-    shared-slice-read-wide
-    wide-requires
-    mul-wide-2
-    add-wide
-    shared-slice-read-wide-2
-    wide-requires-2
-    mul-result
-    add-result
-    returns
-    returns-2)
+read-spec = tie.close (tie.spec number-requires returns returns-2)
