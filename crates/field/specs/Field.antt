@@ -1,7 +1,7 @@
 -- The field type: its constructor, and what its methods take and give.
 use mathlib.Core.Path.{_≡_}
 use mathlib.Core.Bool.{_&&_, cond}
-use Prim.Native.Nat.{ℕ, _<_}
+use Prim.Native.Nat.{ℕ, _*_, _/_, _≤_, _<_}
 use lib.Dec.{ltb}
 use Rattle.field.specs.declared.Made.{Made}
 use Rattle.field.specs.declared.Made.the-variants as made
@@ -31,3 +31,14 @@ pub record Below2 (p a b : ℕ) : Type 0 where
 pub record Is (p v r : ℕ) : Type 0 where
   pub eq : r ≡ v
   pub lt : r < p
+
+-- 2^36 / p
+unfoldable pub reciprocal : ℕ → ℕ
+reciprocal p = 68719476736 / p
+
+-- a sum x of at most 16 products of elements, and the reciprocal m of p
+pub record Reducible (p m x : ℕ) : Type 0 where
+  pub above : 1 < p
+  pub small : p < fieldLimit
+  pub by : m ≡ reciprocal p
+  pub sum : x ≤ 16 * (p * p)

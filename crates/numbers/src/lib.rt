@@ -2,8 +2,8 @@
 // there changes nothing.
 ghost use mathlib.Core.Path.{_≡_};
 ghost use mathlib.Core.Bool.{cond};
-ghost use Prim.Native.Nat.{_<_, _≤_};
-ghost use lib.ListN.{getD, drop};
+ghost use Prim.Native.Nat.{_/_, _<_, _≤_};
+ghost use lib.ListN.{length, getD, drop};
 ghost use Rattle.numbers.specs.Bytes.{wordAt, limit, numbers, holdsCount, stored, firstOver, allBelow};
 
 // What a search answers.
@@ -40,12 +40,20 @@ pub fn word(s: &[u8], at: usize) -> u64
     0
 }
 
+// Number i of a list that has it: no test is made.
+pub fn number(s: &[u8], i: usize) -> u64
+    requires { ⌜ i < length (now s) / 2 ⌝ }
+    ensures { λ r. ⌜ record { eq : r ≡ getD (numbers (now (s .entry))) i 0; lt : r < limit } ⌝ }
+{
+    wide(s[2 * i]) + 256 * wide(s[2 * i + 1])
+}
+
 // Number i of a list.
 pub fn read(s: &[u8], i: usize) -> u64
     ensures { λ r. ⌜ record { eq : r ≡ getD (numbers (now (s .entry))) i 0; lt : r < limit } ⌝ }
 {
     if i < s.len() / 2 {
-        return word(s, 2 * i);
+        return number(s, i);
     }
     0
 }

@@ -2,13 +2,14 @@
 --     Valued, valuing       the value of a polynomial, from the last coefficient
 --     dealing               its values at the points
 --     Summed, summing       the weighted sum, with one remainder
+--     summing-by            the same, reduced by the reciprocal
 -- Assumes nothing.
 use mathlib.Core.Path.{_≡_, refl, sym, ap, _∙_}
 use mathlib.Core.Bool.{Bool, true, false}
 use mathlib.Core.List.{List, [], _∷_, map}
 use Prim.Native.Nat.{ℕ, zero, suc, _+_, _*_, _-_, _%_, _^_, _≤_, _<_}
 use native.Mathlib.Numerals.{add-one}
-use native.Mathlib.Nat.{mod-lt, mul-le-mul}
+use native.Mathlib.Nat.{mod-lt, mul-le-mul, mul-le-mul-right, add-mul}
 use native.Mathlib.Omega.{arith}
 use borrow.Author.Needs.{needs}
 use borrow.Author.Tests.{ltb-true, ltb-false, lt-ltb}
@@ -18,11 +19,11 @@ use lib.Seq.{drop-cons, drop-length}
 use Rattle.numbers.specs.Tables.{tab}
 use Rattle.numbers.specs.Bytes.{allBelow}
 use Rattle.numbers.proofs.Tables.{list-tab, tab-map}
-use Rattle.numbers.proofs.Below.{allBelow-at}
+use Rattle.numbers.proofs.Below.{allBelow-at, allBelow-drop}
 use Rattle.numbers.proofs.Fills.{Filled, filling, filled}
 use Rattle.field.specs.Mod.{add, mul}
 use Rattle.field.specs.Prime.{Prime}
-use Rattle.field.specs.Field.{Is}
+use Rattle.field.specs.Field.{Below2, Is, reciprocal, Reducible}
 use Rattle.field.proofs.Solve.{Canon, zero-canon, Same, same, turn, _⨾_, plus, mul-same, add-same, mod-canon, add-canon, canon-same, canon-lt, mod-same}
 use Rattle.field.proofs.Products.{word}
 use Rattle.polynomials.specs.Poly.{eval}
@@ -122,6 +123,15 @@ dot-canon p (w ∷ ws) (v ∷ vs) = add-canon _ _
 pub plain-dot : (p : ℕ) (ws vs : List ℕ) → plainSum ws vs % p ≡ dot p ws vs
 plain-dot p ws vs = plain-same p ws vs .rest ∙ dot-canon p ws vs .canon
 
+-- at most p² for each weight
+pub plain-bound : (p : ℕ) (ws vs : List ℕ) → Ready p → allBelow p ws ≡ true → allBelow p vs ≡ true → plainSum ws vs ≤ length ws * (p * p)
+unfolding plainSum
+plain-bound p [] vs r hw hv = omega arith
+plain-bound p (w ∷ ws) [] r hw hv = omega arith
+plain-bound p (w ∷ ws) (v ∷ vs) r hw hv =
+    let term : w * v ≤ p * p = mul-le-mul {n₁ = w} {m₁ = v} {n₂ = p} {m₂ = p} (omega (arith, entry-below p (w ∷ ws) 0 r hw)) (omega (arith, entry-below p (v ∷ vs) 0 r hv)) in
+    omega (arith, plain-bound p ws vs r (allBelow-drop p 1 (w ∷ ws) hw) (allBelow-drop p 1 (v ∷ vs) hv), add-mul (length ws) 1 (p * p))
+
 -- the invariant: sum, with what is left from i on, is the whole sum
 pub record Summed (ws vs : List ℕ) (sum i : ℕ) : Type 0 where
   pub within : i ≤ length ws
@@ -157,5 +167,30 @@ module _ (ws vs : List ℕ) where
 
   pub term-fits : (p sum i : ℕ) → Ready p → allBelow p ws ≡ true → allBelow p vs ≡ true → getD ws i 0 * getD vs i 0 < 2 ^ 64
   term-fits p sum i r hw hv = omega (arith, product-small p i r hw hv)
+
+  -- the terms worked by the field's products, and the sum reduced by the reciprocal
+  module _ (p : ℕ) (r : Ready p) (hw : allBelow p ws ≡ true) (hv : allBelow p vs ≡ true) (sum i : ℕ) (s : Summed ws vs sum i) where
+    pub term-below : Below2 p (getD ws i 0) (getD vs i 0)
+    term-below = record { above = r .prime .above; small = r .small; left = entry-below p ws i r hw; right = entry-below p vs i r hv }
+
+    module _ (y : ℕ) (e : y ≡ getD ws i 0 * getD vs i 0) where
+      pub next-fits : length ws ≤ 16 → sum + y < 2 ^ 64
+      next-fits le = rw e (sum-fits p sum i r hw hv (omega arith) s)
+
+      pub sum-next : length ws ≤ length vs → i < length ws → Summed ws vs (sum + y) (i + 1)
+      sum-next le l = rw e (sum-more p sum i r hw hv le s l)
+
+    pub sum-reducible : (m : ℕ) → m ≡ reciprocal p → length ws ≤ 16 → Reducible p m sum
+    sum-reducible m e le = record {
+      above = r .prime .above;
+      small = r .small;
+      by = e;
+      sum = omega (arith, s .whole, plain-bound p ws vs r hw hv, mul-le-mul-right (p * p) le);
+    }
+
+    pub sum-reduced : (y : ℕ) → length ws ≤ i → Is p (sum % p) y → Is p (dot p ws vs) y
+    sum-reduced y l e = rw (← e .eq) at (sum-whole p sum i r l s)
+
+pub ruleset summing-by = (needs, sum-none, term-below, next-fits, sum-next, sum-reducible, sum-reduced)
 
 pub ruleset summing = (needs, sum-none, sum-more, sum-whole, sum-fits, term-fits)
