@@ -43,8 +43,7 @@ use Rattle.plan.proofs.Refusals.{andThen-passed, andThen-refused, firstOf-appen
 use Rattle.protocol.specs.Ideal.{inputsTaken, values}
 use Rattle.protocol.proofs.Wires.{values-length}
 use Rattle.agreement.specs.MatchCalls.{inputOwners, inputsAgree, outsAgree, pairChecks}
-use Rattle.agreement.specs.MatchParts.{inputChecks, coinChecks, agreeChecks, inputAgrees, gateAgrees, outAgrees, outAgreesAt}
-use Rattle.agreement.specs.MatchParts.{Matchable}
+use Rattle.agreement.specs.MatchParts.{inputChecks, coinChecks, agreeChecks, inputAgrees, gateAgrees, outAgrees, outAgreesAt, Matchable}
 use Rattle.ideal.proofs.IdealLaws.{next-taken}
 
 -- ---- the set and the inputs

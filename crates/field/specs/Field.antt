@@ -5,7 +5,7 @@ use Prim.Native.Nat.{ℕ, _*_, _/_, _≤_, _<_}
 use lib.Dec.{ltb}
 use Rattle.field.specs.declared.Made.{Made}
 use Rattle.field.specs.declared.Made.the-variants as made
-use Rattle.field.specs.Prime.{isPrime}
+use Rattle.field.specs.Prime.{isPrime, Prime}
 
 -- a plan's prime has two bytes
 abbrev pub fieldLimit : ℕ
@@ -14,6 +14,11 @@ fieldLimit = 65536
 -- the field of p, which has to be a prime below the limit
 unfoldable pub madeOf : ℕ → Made
 madeOf p = cond (ltb p fieldLimit && isPrime p) (made.Field (record { p = p })) made.Refused
+
+-- what the code takes: a prime below the limit. A list of its elements is a list xs with `allBelow p xs ≡ true`
+pub record Ready (p : ℕ) : Type 0 where
+  pub prime : Prime p
+  pub small : p < fieldLimit
 
 -- an element of the field of p, and two of them
 pub record Below1 (p a : ℕ) : Type 0 where

@@ -20,8 +20,7 @@ use Rattle.numbers.specs.Bytes.{allBelow}
 use Rattle.numbers.proofs.Below.{at-allBelow, allBelow-take}
 use Rattle.numbers.proofs.Counts.{countWhere-take-suc, countWhere-take-zero}
 use Rattle.field.specs.Mod.{add, mul}
-use Rattle.field.specs.Field.{Is}
-use Rattle.sharing.specs.Ready.{Ready}
+use Rattle.field.specs.Field.{Is, Ready}
 use Rattle.sharing.proofs.Coding.{entry-below}
 use Rattle.plan.specs.declared.Gate.{Gate}
 use Rattle.plan.specs.declared.Gate.the-variants.{Input, Add, Scale, Offset, Multiply}

@@ -27,11 +27,11 @@ use Rattle.numbers.proofs.Bytes.{numbers-stored}
 use Rattle.numbers.proofs.Below.{allBelow-set, allBelow-tab}
 use Rattle.numbers.proofs.Fills.{Filled, filling, filled}
 use Rattle.field.specs.Mod.{add, mul}
-use Rattle.field.specs.Field.{Is}
+use Rattle.field.specs.Field.{Is, Ready}
 use Rattle.polynomials.specs.Interp.{weights, dot, interpolate}
 use Rattle.polynomials.specs.Sharing.{opened}
-use Rattle.sharing.specs.Ready.{Ready, Openable}
-use Rattle.sharing.proofs.Rows.{length-weights}
+use Rattle.openings.specs.Openable.{Openable}
+use Rattle.openings.proofs.Rows.{length-weights}
 use Rattle.sharing.proofs.Coding.{entry-below}
 use Rattle.messages.proofs.PointLaws.{first-points, points-below}
 use Rattle.plan.specs.declared.Gate.{Gate}

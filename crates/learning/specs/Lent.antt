@@ -4,7 +4,7 @@ use mathlib.Core.Path.{_≡_}
 use mathlib.Core.Bool.{true}
 use mathlib.Core.List.{List}
 use Rattle.numbers.specs.Bytes.{numbers, allBelow}
-use Rattle.sharing.specs.Ready.{Ready}
+use Rattle.field.specs.Field.{Ready}
 use Rattle.plan.specs.declared.Header.{Header}
 
 -- these bytes hold the numbers xs, which are below p

@@ -7,9 +7,8 @@ ghost use Prim.Native.Nat.{suc, _<_, _≤_, _+_};
 ghost use lib.ListN.{drop, getD, set};
 ghost use Rattle.numbers.specs.Bytes.{numbers, allBelow};
 ghost use Rattle.numbers.specs.Tables.{tab};
-ghost use Rattle.field.specs.Field.{Is};
+ghost use Rattle.field.specs.Field.{Is, Ready};
 ghost use Rattle.polynomials.specs.Sharing.{opened};
-ghost use Rattle.sharing.specs.Ready.{Ready};
 ghost use Rattle.plan.specs.Plans.{isInputOf, isMultiply, multiplyWire, inputWires, ownInputCount};
 ghost use Rattle.plan.specs.File.{gateOk, planOf};
 ghost use Rattle.plan.specs.Planned.{Planned};
@@ -178,7 +177,7 @@ fn reduced(h: Header, mail: &[u8]) -> u64
     let all = messages::points();
     let pieces = first_numbers(mail);
     let m = h.t + h.t + 1;
-    sharing::opened(h.field, h.t + h.t, &all[..m], &pieces[..m])
+    openings::opened(h.field, h.t + h.t, &all[..m], &pieces[..m])
 }
 
 // Learns the share of product k, counted from 0, and works the gates after it.

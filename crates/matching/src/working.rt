@@ -204,7 +204,7 @@ fn delta(plan: &[u8], h: Header, set: u16) -> [u64; 8]
     let mut points = [0u64; 16];
     let mut delta = [0u64; 8];
     let k = moves::members(set, &mut points);
-    sharing::vanishing(h.field, &points[..k], &mut delta[..e]);
+    delta::vanishing(h.field, &points[..k], &mut delta[..e]);
     delta
 }
 

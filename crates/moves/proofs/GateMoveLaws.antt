@@ -19,7 +19,7 @@ use Rattle.numbers.proofs.Below.{allBelow-tab, allBelow-take, allBelow-drop}
 use Rattle.field.specs.Mod.{mul}
 use Rattle.field.proofs.Solve.{canon-lt, mul-canon}
 use Rattle.field.proofs.Inverse.{pos}
-use Rattle.sharing.specs.Ready.{Ready}
+use Rattle.field.specs.Field.{Ready}
 use Rattle.plan.specs.declared.Gate.{Gate}
 use Rattle.plan.specs.declared.Gate.the-variants.{Input, Add, Scale, Offset, Multiply}
 use Rattle.plan.specs.declared.Header.{Header}

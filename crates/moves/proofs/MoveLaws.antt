@@ -20,10 +20,9 @@ use Rattle.numbers.specs.Bytes.{numbers, stored, allBelow}
 use Rattle.numbers.proofs.Tables.{tab-zero, tab-next, tab-ext, length-tab, getD-tab}
 use Rattle.numbers.proofs.Bytes.{numbers-length, numbers-stored, length-stored}
 use Rattle.field.specs.Mod.{add, mul, sub}
-use Rattle.field.specs.Field.{Is}
+use Rattle.field.specs.Field.{Is, Ready}
 use Rattle.field.proofs.Products.{word}
 use Rattle.polynomials.specs.Poly.{sumOf, scale}
-use Rattle.sharing.specs.Ready.{Ready}
 use Rattle.sharing.proofs.Coding.{entry-below, step-value}
 use Rattle.coalition.specs.Coalitions.{inSet, membersFrom, members}
 use Rattle.moves.specs.Moves.{moved, changeOf, movedBlocks, Lent, Written, Advanced}

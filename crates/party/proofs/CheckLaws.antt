@@ -26,9 +26,9 @@ use Rattle.numbers.proofs.Tables.{length-tab}
 use Rattle.numbers.proofs.Below.{allBelow-tab, firstOver-nothing}
 use Rattle.numbers.proofs.Searches.{Seeking, begin, found, passed, nothing}
 use Rattle.polynomials.specs.Sharing.{firstOff, openingRow, openingRows}
-use Rattle.sharing.specs.Ready.{Ready}
+use Rattle.field.specs.Field.{Ready}
 use Rattle.sharing.proofs.Coding.{entry-below}
-use Rattle.sharing.proofs.Rows.{length-row, length-rows}
+use Rattle.openings.proofs.Rows.{length-row, length-rows}
 use Rattle.plan.specs.declared.Header.{Header}
 use Rattle.plan.specs.declared.Checked.{Checked}
 use Rattle.plan.specs.declared.Checked.the-variants.{Passed, Refused}

@@ -7,7 +7,7 @@ use lib.ListN.{drop, getD}
 use Rattle.numbers.specs.Tables.{tab, firstFailing}
 use Rattle.numbers.specs.Bytes.{numbers, holdsCount, firstOver, allBelow}
 use Rattle.polynomials.specs.Sharing.{firstOff}
-use Rattle.sharing.specs.Ready.{Ready}
+use Rattle.field.specs.Field.{Ready}
 use Rattle.plan.specs.declared.Header.{Header}
 use Rattle.plan.specs.declared.Checked.{Checked}
 use Rattle.plan.specs.declared.Refusal.{Refusal}

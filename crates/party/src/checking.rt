@@ -93,7 +93,7 @@ fn first_off_out(h: Header, points: &[u64], rows: &[u64], own: usize, mail: &[u8
     let mut j: usize = 0;
     while j < own {
         let shares = sending::shares_of_out(n, own, j, mail);
-        let off = sharing::first_off_by(h.field, h.t, points, rows, &shares[..n]);
+        let off = openings::first_off_by(h.field, h.t, points, rows, &shares[..n]);
         if let Found::At(_) = off {
             return Found::At(j);
         }
@@ -111,7 +111,7 @@ fn first_off_in(h: Header, points: &[u64], room: &mut [u64], own: usize, mail: &
     ensures { λ r. ⌜ r ≡ firstFailing (outLies h own (numbers (now (mail .entry)))) own ⌝ }
 {
     let used = (h.t + 1) * h.n;
-    sharing::opening_rows(h.field, h.t, points, &mut room[..used]);
+    openings::opening_rows(h.field, h.t, points, &mut room[..used]);
     first_off_out(h, points, &room[..used], own, mail)
 }
 

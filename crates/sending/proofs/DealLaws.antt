@@ -17,9 +17,8 @@ use Rattle.numbers.specs.Tables.{tab}
 use Rattle.numbers.specs.Bytes.{numbers, allBelow}
 use Rattle.numbers.proofs.Tables.{tab-next, tab-zero, length-tab, getD-tab, is-tab}
 use Rattle.numbers.proofs.Below.{at-allBelow}
-use Rattle.field.specs.Field.{Is}
+use Rattle.field.specs.Field.{Is, Ready}
 use Rattle.polynomials.specs.Poly.{eval}
-use Rattle.sharing.specs.Ready.{Ready}
 use Rattle.sharing.proofs.Coding.{entry-below}
 use Rattle.sending.specs.Sending.{Dealing, coinsFrom}
 

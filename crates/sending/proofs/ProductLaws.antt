@@ -20,10 +20,9 @@ use Rattle.numbers.proofs.Tables.{length-tab, getD-tab, tab-map}
 use Rattle.numbers.proofs.Bytes.{numbers-length}
 use Rattle.numbers.proofs.Fills.{Numbered, number-none, number-next, numbered-all}
 use Rattle.field.specs.Mod.{mul}
-use Rattle.field.specs.Field.{Is, Below2}
+use Rattle.field.specs.Field.{Is, Below2, Ready}
 use Rattle.polynomials.specs.Poly.{eval}
 use Rattle.polynomials.specs.Sharing.{deal}
-use Rattle.sharing.specs.Ready.{Ready}
 use Rattle.sharing.proofs.Coding.{entry-below}
 use Rattle.plan.specs.declared.Gate.{Gate}
 use Rattle.plan.specs.declared.Gate.the-variants.{Input, Add, Scale, Offset, Multiply}

@@ -18,12 +18,11 @@ use Rattle.numbers.specs.Bytes.{numbers, allBelow, stored}
 use Rattle.numbers.proofs.Tables.{tab-next, tab-zero, tab-ext, length-tab, getD-tab, take-tab}
 use Rattle.numbers.proofs.Below.{at-allBelow}
 use Rattle.numbers.proofs.Fills.{Numbered, number-none, number-next, numbered-all}
-use Rattle.field.specs.Field.{Is}
+use Rattle.field.specs.Field.{Is, Ready}
 use Rattle.polynomials.specs.Interp.{weights, dot, interpolate}
 use Rattle.polynomials.specs.Sharing.{opened}
-use Rattle.sharing.specs.Ready.{Ready}
 use Rattle.sharing.proofs.Coding.{entry-below}
-use Rattle.sharing.proofs.Rows.{weights-below, length-weights}
+use Rattle.openings.proofs.Rows.{weights-below, length-weights}
 use Rattle.plan.specs.declared.Header.{Header}
 use Rattle.plan.specs.Plans.{Plan, partyCount}
 use Rattle.plan.specs.File.{planOf}

@@ -10,7 +10,7 @@ use Rattle.numbers.specs.Bytes.{numbers, allBelow}
 use Rattle.polynomials.specs.Poly.{eval}
 use Rattle.polynomials.specs.Interp.{dot}
 use Rattle.polynomials.specs.Sharing.{opened}
-use Rattle.sharing.specs.Ready.{Ready}
+use Rattle.field.specs.Field.{Ready}
 use Rattle.plan.specs.declared.Header.{Header}
 use Rattle.plan.specs.Plans.{Plan, partyCount, multiplies, ownCoinCount, writtenCount}
 use Rattle.messages.specs.Messages.{inputPolys, sharesOfOut}

@@ -23,13 +23,12 @@ use Rattle.numbers.proofs.Below.{allBelow-at, allBelow-drop}
 use Rattle.numbers.proofs.Fills.{Filled, filling, filled}
 use Rattle.field.specs.Mod.{add, mul}
 use Rattle.field.specs.Prime.{Prime}
-use Rattle.field.specs.Field.{Below2, Is, reciprocal, Reducible}
+use Rattle.field.specs.Field.{Below2, Is, reciprocal, Reducible, Ready}
 use Rattle.field.proofs.Solve.{Canon, zero-canon, Same, same, turn, _⨾_, plus, mul-same, add-same, mod-canon, add-canon, canon-same, canon-lt, mod-same}
 use Rattle.field.proofs.Products.{word}
 use Rattle.polynomials.specs.Poly.{eval}
 use Rattle.polynomials.specs.Interp.{dot}
 use Rattle.polynomials.specs.Sharing.{deal}
-use Rattle.sharing.specs.Ready.{Ready}
 use Rattle.polynomials.proofs.Polys.{eval-canon}
 
 -- ---- lists of elements

@@ -20,11 +20,10 @@ use Rattle.numbers.specs.Bytes.{allBelow}
 use Rattle.numbers.proofs.Fills.{Filled, filling}
 use Rattle.field.specs.Mod.{add, mul, sub}
 use Rattle.field.specs.Prime.{Prime, inv}
-use Rattle.field.specs.Field.{Below2, Is}
+use Rattle.field.specs.Field.{Below2, Is, Ready}
 use Rattle.field.proofs.Solve.{Canon, below, zero-canon, mul-canon, #, quote, solve, combine}
 use Rattle.field.proofs.Inverse.{inv-small, inv-canon, inv-law, inv-unique, no-zero-divisor, pos, one-canon}
 use Rattle.polynomials.specs.Interp.{factor, apart, weight, weights}
-use Rattle.sharing.specs.Ready.{Ready}
 use Rattle.sharing.proofs.Coding.{entry-below, filled-map}
 
 -- ---- the inverse of a product

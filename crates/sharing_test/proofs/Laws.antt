@@ -13,7 +13,7 @@ use Rattle.numbers.specs.Bytes.{allBelow}
 use Rattle.numbers.proofs.Below.{allBelow-next, allBelow-over, allBelow-end}
 use Rattle.field.proofs.Products.{word}
 use Rattle.field.proofs.Elements.{new-prime, new-small}
-use Rattle.sharing.specs.Ready.{Ready}
+use Rattle.field.specs.Field.{Ready}
 
 -- ---- whether every number is below p
 pub record Testing (p : ℕ) (xs : List ℕ) (i : ℕ) : Type 0 where

@@ -20,10 +20,9 @@ use Rattle.numbers.specs.Bytes.{numbers, allBelow}
 use Rattle.numbers.proofs.Tables.{length-tab}
 use Rattle.numbers.proofs.Bytes.{numbers-length}
 use Rattle.field.specs.Mod.{add, mul}
-use Rattle.field.specs.Field.{Is}
+use Rattle.field.specs.Field.{Is, Ready}
 use Rattle.polynomials.specs.Poly.{eval}
 use Rattle.polynomials.specs.Interp.{dot}
-use Rattle.sharing.specs.Ready.{Ready}
 use Rattle.sharing.proofs.Coding.{map-tab, Summed, sum-none, sum-more, sum-whole, sum-fits, term-fits}
 use Rattle.tables.specs.Rows.{powers, Powered, column}
 use Rattle.tables.proofs.RowLaws.{Making, make-none, make-next, made, row-room}

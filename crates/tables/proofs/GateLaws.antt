@@ -21,7 +21,7 @@ use Rattle.field.specs.Mod.{add, mul}
 use Rattle.polynomials.specs.Poly.{eval}
 use Rattle.polynomials.specs.Interp.{weights}
 use Rattle.sharing.proofs.Coding.{map-tab}
-use Rattle.sharing.proofs.Rows.{weights-below}
+use Rattle.openings.proofs.Rows.{weights-below}
 use Rattle.plan.specs.declared.Gate.{Gate}
 use Rattle.plan.specs.declared.Gate.the-variants.{Input, Add, Scale, Offset, Multiply}
 use Rattle.plan.specs.declared.Header.{Header}

@@ -23,7 +23,7 @@ use Rattle.numbers.proofs.Tables.{length-tab, getD-tab}
 use Rattle.numbers.proofs.Below.{allBelow-at, allBelow-take, allBelow-drop}
 use Rattle.numbers.proofs.Bytes.{numbers-length}
 use Rattle.polynomials.specs.Poly.{eval}
-use Rattle.sharing.specs.Ready.{Ready}
+use Rattle.field.specs.Field.{Ready}
 use Rattle.sharing.proofs.Coding.{map-tab}
 use Rattle.protocol.specs.Shares.{sharings}
 use Rattle.tables.specs.Rows.{column, Coined, Dealt, Elements}

@@ -19,15 +19,14 @@ use Rattle.numbers.proofs.Tables.{tab-cons, tab-map, length-tab, getD-tab}
 use Rattle.numbers.proofs.Below.{at-allBelow}
 use Rattle.numbers.proofs.Fills.{Filled, fill-none, fill-next, filled}
 use Rattle.field.specs.Mod.{mul}
-use Rattle.field.specs.Field.{Is}
+use Rattle.field.specs.Field.{Is, Ready}
 use Rattle.field.proofs.Solve.{canon-lt, mul-canon, #, quote, solve}
 use Rattle.field.proofs.Inverse.{pos}
 use Rattle.polynomials.specs.Poly.{eval}
 use Rattle.polynomials.specs.Interp.{dot}
-use Rattle.sharing.specs.Ready.{Ready}
 use Rattle.polynomials.specs.Sharing.{rowsOf}
 use Rattle.sharing.proofs.Coding.{entry-below}
-use Rattle.sharing.proofs.Rows.{Written, none-written, room, piece-long, written-next, written-done}
+use Rattle.openings.proofs.Rows.{Written, none-written, room, piece-long, written-next, written-done}
 use Rattle.tables.specs.Rows.{power, powers, powerRows, Powered}
 use Rattle.tables.proofs.RowLaws.{flat-part, part-front, row-room}
 

@@ -25,7 +25,7 @@ use Rattle.field.proofs.Solve.{canon-lt, mul-canon}
 use Rattle.field.proofs.Inverse.{pos}
 use Rattle.polynomials.specs.Poly.{eval}
 use Rattle.polynomials.specs.Interp.{dot, weights}
-use Rattle.sharing.specs.Ready.{Ready}
+use Rattle.field.specs.Field.{Ready}
 use Rattle.polynomials.proofs.Polys.{eval-canon}
 use Rattle.sharing.proofs.Coding.{map-tab}
 use Rattle.plan.specs.declared.Gate.{Gate}

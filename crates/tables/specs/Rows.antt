@@ -9,7 +9,7 @@ use Rattle.numbers.specs.Bytes.{numbers, allBelow}
 use Rattle.field.specs.Mod.{mul}
 use Rattle.polynomials.specs.Poly.{eval}
 use Rattle.polynomials.specs.Interp.{weights, dot}
-use Rattle.sharing.specs.Ready.{Ready}
+use Rattle.field.specs.Field.{Ready}
 use Rattle.plan.specs.declared.Gate.{Gate}
 use Rattle.plan.specs.declared.Header.{Header}
 use Rattle.plan.specs.Plans.{Plan, inputCount, coinCount}

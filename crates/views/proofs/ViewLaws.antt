@@ -25,11 +25,11 @@ use Rattle.numbers.specs.Bytes.{stored, allBelow}
 use Rattle.numbers.proofs.Tables.{length-tab, getD-tab}
 use Rattle.numbers.proofs.Below.{allBelow-take, allBelow-drop}
 use Rattle.field.specs.Mod.{add, mul}
-use Rattle.field.specs.Field.{Is}
+use Rattle.field.specs.Field.{Is, Ready}
 use Rattle.field.proofs.Products.{word}
 use Rattle.polynomials.specs.Poly.{eval}
 use Rattle.polynomials.specs.Sharing.{opened}
-use Rattle.sharing.specs.Ready.{Ready, Openable}
+use Rattle.openings.specs.Openable.{Openable}
 use Rattle.sharing.proofs.Coding.{entry-below, step-value, Valued, value-none, value-more, value-whole, product-fits}
 use Rattle.plan.specs.declared.Gate.{Gate}
 use Rattle.plan.specs.declared.Gate.the-variants.{Input, Add, Scale, Offset, Multiply}

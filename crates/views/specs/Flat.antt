@@ -10,7 +10,7 @@ use Rattle.numbers.specs.Bytes.{allBelow}
 use Rattle.field.specs.Mod.{mul}
 use Rattle.polynomials.specs.Poly.{eval}
 use Rattle.polynomials.specs.Sharing.{opened}
-use Rattle.sharing.specs.Ready.{Ready}
+use Rattle.field.specs.Field.{Ready}
 use Rattle.plan.specs.declared.Gate.{Gate}
 use Rattle.plan.specs.declared.Gate.the-variants.{Input, Add, Scale, Offset, Multiply}
 use Rattle.plan.specs.declared.Header.{Header}

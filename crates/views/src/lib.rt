@@ -13,9 +13,8 @@ ghost use lib.ListN.{getD, length};
 ghost use Rattle.numbers.specs.Tables.{tab};
 ghost use Rattle.numbers.specs.Bytes.{numbers, bytesOf, allBelow};
 ghost use Rattle.field.specs.Mod.{mul};
-ghost use Rattle.field.specs.Field.{Is};
+ghost use Rattle.field.specs.Field.{Is, Ready};
 ghost use Rattle.polynomials.specs.Poly.{eval};
-ghost use Rattle.sharing.specs.Ready.{Ready};
 ghost use Rattle.plan.specs.Plans.{isInputOf, inputWires, outWires, coinCount, ownInputs, ownCoins};
 ghost use Rattle.sending.specs.Sending.{coinsFrom};
 ghost use Rattle.plan.specs.File.{planOf};
@@ -260,7 +259,7 @@ fn opening(h: Header, table: &[u64], w: usize) -> u64
     let n = h.n;
     let a = n * w;
     let e = a + n;
-    sharing::opened(h.field, h.t, &points[..n], &table[a..e])
+    openings::opened(h.field, h.t, &points[..n], &table[a..e])
 }
 
 // The result of an out, where it is party i's.

@@ -1,6 +1,5 @@
 use Prim.Native.Nat.{_-_}
-use Rattle.lines.proofs.Printed.{Before}
-use Rattle.lines.proofs.Printed.{earlier}
+use Rattle.lines.proofs.Printed.{Before, earlier}
 use Rattle.lines.proofs.outs_before.Statement.{statement}
 use Rattle.lines.proofs.outs_before.Tie as tie
 

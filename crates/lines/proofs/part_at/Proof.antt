@@ -1,7 +1,6 @@
 use Prim.Native.Nat.{_-_}
 use Rattle.plan.specs.File.{planOf}
-use Rattle.lines.proofs.Printed.{Parting}
-use Rattle.lines.proofs.Printed.{parting}
+use Rattle.lines.proofs.Printed.{Parting, parting}
 use Rattle.lines.proofs.part_at.Statement.{statement}
 use Rattle.lines.proofs.part_at.Tie as tie
 

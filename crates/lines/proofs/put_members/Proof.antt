@@ -2,8 +2,7 @@ use Prim.Native.Nat.{_-_}
 use Rattle.numbers.specs.Bytes.{numbers}
 use Rattle.plan.specs.File.{planOf}
 use Rattle.lines.specs.Placed.{memberPart}
-use Rattle.lines.proofs.Printed.{Calling}
-use Rattle.lines.proofs.Printed.{calling}
+use Rattle.lines.proofs.Printed.{Calling, calling}
 use Rattle.lines.proofs.put_members.Statement.{statement}
 use Rattle.lines.proofs.put_members.Tie as tie
 

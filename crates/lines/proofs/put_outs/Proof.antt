@@ -1,7 +1,6 @@
 use Prim.Native.Nat.{_-_}
 use Rattle.numbers.specs.Bytes.{numbers}
-use Rattle.lines.proofs.Printed.{Outing}
-use Rattle.lines.proofs.Printed.{outing-all-outs}
+use Rattle.lines.proofs.Printed.{Outing, outing-all-outs}
 use Rattle.lines.proofs.put_outs.Statement.{statement}
 use Rattle.lines.proofs.put_outs.Tie as tie
 

@@ -2,8 +2,7 @@ use Prim.Native.Nat.{_-_}
 use Rattle.numbers.specs.Bytes.{numbers}
 use Rattle.plan.specs.File.{planOf}
 use Rattle.lines.specs.Report.{roundWord}
-use Rattle.lines.proofs.Printed.{Rounding}
-use Rattle.lines.proofs.Printed.{rounding}
+use Rattle.lines.proofs.Printed.{Rounding, rounding}
 use Rattle.lines.proofs.put_rounds.Statement.{statement}
 use Rattle.lines.proofs.put_rounds.Tie as tie
 

@@ -1,6 +1,6 @@
 use Prim.Native.Nat.{_-_}
 use lib.ListN.{length}
-use Rattle.sharing.proofs.Rows.{Written}
+use Rattle.openings.proofs.Rows.{Written}
 use Rattle.tables.proofs.PowerLaws.{powersAt, writing}
 use Rattle.tables.proofs.power_rows.Statement.{statement}
 use Rattle.tables.proofs.power_rows.Tie as tie

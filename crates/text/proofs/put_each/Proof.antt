@@ -2,8 +2,7 @@ use mathlib.Core.List.{flatMap}
 use Prim.Native.Nat.{_-_}
 use lib.ListN.{length, drop}
 use Rattle.text.specs.Decimals.{field}
-use Rattle.text.proofs.Appending.{Left}
-use Rattle.text.proofs.Appending.{eaching}
+use Rattle.text.proofs.Appending.{Left, eaching}
 use Rattle.text.proofs.put_each.Statement.{statement}
 use Rattle.text.proofs.put_each.Tie as tie
 

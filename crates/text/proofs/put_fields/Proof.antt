@@ -3,8 +3,7 @@ use Prim.Native.Nat.{_-_}
 use lib.ListN.{take, drop}
 use Rattle.numbers.specs.Bytes.{numbers}
 use Rattle.text.specs.Decimals.{field}
-use Rattle.text.proofs.Appending.{Left, fieldsFrom}
-use Rattle.text.proofs.Appending.{fielding}
+use Rattle.text.proofs.Appending.{Left, fieldsFrom, fielding}
 use Rattle.text.proofs.put_fields.Statement.{statement}
 use Rattle.text.proofs.put_fields.Tie as tie
 

@@ -1,7 +1,6 @@
 use Prim.Native.Nat.{_-_}
 use lib.ListN.{length, drop}
-use Rattle.text.proofs.Appending.{Left}
-use Rattle.text.proofs.Appending.{wording}
+use Rattle.text.proofs.Appending.{Left, wording}
 use Rattle.text.proofs.put_word.Statement.{statement}
 use Rattle.text.proofs.put_word.Tie as tie
 

@@ -1,6 +1,5 @@
 use Rattle.views.proofs.ViewLaws.{sorting}
 use Rattle.plan.specs.Plans.{isInputOf}
-use Rattle.views.proofs.ViewLaws.{sorting}
 use Rattle.views.proofs.is_input_of.Statement.{statement}
 use Rattle.views.proofs.is_input_of.Tie as tie
 
