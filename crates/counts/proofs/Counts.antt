@@ -14,17 +14,15 @@ use lib.ListN.{length, getD, take, drop, length-append, drop-of-length-le}
 use lib.Seq.{drop-cons}
 use Rattle.numbers.specs.Tables.{countWhere}
 use Rattle.numbers.proofs.Tables.{length-tab}
-use Rattle.numbers.proofs.Counts.{countWhere-take-suc, countWhere-take-zero, countWhere-take-all}
+use Rattle.numbers.proofs.Counts.{countWhere-take-suc, countWhere-take-zero, countWhere-take-all, Counted, count-none, count-next, counted}
 use Rattle.plan.specs.declared.Gate.{Gate}
 use Rattle.plan.specs.declared.Gate.the-variants.{Input, Add, Scale, Offset, Multiply}
 use Rattle.plan.specs.declared.Output.{Output}
 use Rattle.plan.specs.declared.Header.{Header}
-use Rattle.counts.specs.declared.Counted.{Counted}
-use Rattle.counts.specs.declared.Counted.the-variants.{Inputs, InputsOf, Multiplies, DealingsOf}
 use Rattle.plan.specs.Plans.{Plan, dealerCount, isInput, isInputOf, isMultiply, dealersOf, deals, dealings, wiresFrom, wiresWhere, multiplies, multiplyWire, outWiresOf, outWires, inputCount, ownInputCount, dealingsBelow, ownOutCount}
 use Rattle.plan.specs.File.{gateAt, outAt, planOf}
 use Rattle.plan.specs.Planned.{Planned}
-use Rattle.counts.specs.Counts.{isCounted, countBelow, isOutOf}
+use Rattle.counts.specs.Counts.{Tallied, isOutOf}
 use Rattle.plan.proofs.Planned.{plan-gates, plan-gate, plan-outs, plan-out, plan-dealers}
 
 -- ---- a gate's kind, once it is known
@@ -45,82 +43,79 @@ pub deals-multiply : (bs : List ℕ) (h : Header) (g : Gate) (i a b : ℕ) → P
 unfolding deals
 deals-multiply bs h g i a b k e = rw (e, plan-dealers k)
 
-module _ (plan : Plan) (what : Counted) (g : Gate) (t : Bool) where
-  pub counted-inputs : what ≡ Inputs → t ≡ isInput g → t ≡ isCounted plan what g
-  unfolding isCounted
-  counted-inputs e f = rw e f
+pub ruleset kinds = (needs, input-as, input-of-as, multiply-as, deals-multiply, deals-as)
 
-  pub counted-inputs-of : (i : ℕ) → what ≡ InputsOf i → t ≡ isInputOf i g → t ≡ isCounted plan what g
-  unfolding isCounted
-  counted-inputs-of i e f = rw e f
+-- ---- a loop over the gates that counts: k of the first g pass
+module _ (f : Gate → Bool) (bs : List ℕ) (h : Header) (k g : ℕ) (p : Planned bs h) (c : Counted f (planOf bs .gates) k g) where
+  gates-next : g < h .gates → (gate : Gate) (t : Bool) (o : ℕ) → gate ≡ gateAt bs g → t ≡ f gate → o ≡ cond t 1 0 → Counted f (planOf bs .gates) (k + o) (g + 1)
+  gates-next l gate t o eg et eo = count-next f (planOf bs .gates) k g c o (Input 0) (rw (plan-gates p) l) (rw (plan-gate p g l, ← eg, ← et) eo)
 
-  pub counted-multiplies : what ≡ Multiplies → t ≡ isMultiply g → t ≡ isCounted plan what g
-  unfolding isCounted
-  counted-multiplies e f = rw e f
+  gates-few : k ≤ 1024
+  gates-few = omega (arith, c .small, c .within, plan-gates p, p .gates-high)
 
-  pub counted-dealings : (i : ℕ) → what ≡ DealingsOf i → t ≡ deals plan i g → t ≡ isCounted plan what g
-  unfolding isCounted
-  counted-dealings i e f = rw e f
+  gates-done : h .gates ≤ g → k ≡ countWhere f (planOf bs .gates)
+  gates-done l = counted f (planOf bs .gates) k g c (rw (plan-gates p) l)
 
-pub ruleset kinds = (needs, input-as, input-of-as, multiply-as, deals-multiply, deals-as, counted-inputs, counted-inputs-of, counted-multiplies, counted-dealings)
+-- the loop of a tally
+pub record Tallying (bs : List ℕ) (i a b m d g : ℕ) : Type 0 where
+  pub inputs : Counted isInput (planOf bs .gates) a g
+  pub own : Counted (isInputOf i) (planOf bs .gates) b g
+  pub multiplies : Counted isMultiply (planOf bs .gates) m g
+  pub dealings : Counted (deals (planOf bs) i) (planOf bs .gates) d g
 
--- ---- the loop over the gates: k of the first g are counted
-pub record Counting (bs : List ℕ) (h : Header) (what : Counted) (end k g : ℕ) : Type 0 where
-  pub within : g ≤ end
-  pub inside : g ≤ h .gates
-  pub le : k ≤ g
-  pub is : k ≡ countBelow (planOf bs) what g
+module _ (bs : List ℕ) (i : ℕ) where
+  pub tally-none : Tallying bs i 0 0 0 0 0
+  tally-none = record {
+    inputs = count-none isInput (planOf bs .gates);
+    own = count-none (isInputOf i) (planOf bs .gates);
+    multiplies = count-none isMultiply (planOf bs .gates);
+    dealings = count-none (deals (planOf bs) i) (planOf bs .gates);
+  }
 
-pub count-none : (bs : List ℕ) (what : Counted) → 0 ≡ countBelow (planOf bs) what 0
-unfolding countBelow
-count-none bs what = sym (countWhere-take-zero (isCounted (planOf bs) what) (planOf bs .gates))
+  module _ (h : Header) (a b m d g : ℕ) (p : Planned bs h) (c : Tallying bs i a b m d g) where
+    pub tally-next : g < h .gates → (gate : Gate) → gate ≡ gateAt bs g → (ta tb tm td : Bool) (oa ob om od : ℕ)
+        → ta ≡ isInput gate → oa ≡ cond ta 1 0 → tb ≡ isInputOf i gate → ob ≡ cond tb 1 0 → tm ≡ isMultiply gate → om ≡ cond tm 1 0 → td ≡ deals (planOf bs) i gate → od ≡ cond td 1 0
+        → Tallying bs i (a + oa) (b + ob) (m + om) (d + od) (g + 1)
+    tally-next l gate e ta tb tm td oa ob om od ea fa eb fb em fm ed fd = record {
+      inputs = gates-next isInput bs h a g p (c .inputs) l gate ta oa e ea fa;
+      own = gates-next (isInputOf i) bs h b g p (c .own) l gate tb ob e eb fb;
+      multiplies = gates-next isMultiply bs h m g p (c .multiplies) l gate tm om e em fm;
+      dealings = gates-next (deals (planOf bs) i) bs h d g p (c .dealings) l gate td od e ed fd;
+    }
 
-module _ (bs : List ℕ) (h : Header) (what : Counted) (end k g : ℕ) (p : Planned bs h) (c : Counting bs h what end k g) where
-  pub count-next : g < h .gates → (gate : Gate) (t : Bool) (o : ℕ) → gate ≡ gateAt bs g → t ≡ isCounted (planOf bs) what gate → o ≡ cond t 1 0
-      → k + o ≡ countBelow (planOf bs) what (g + 1)
-  unfolding countBelow
-  count-next l gate t o eg et eo =
-      rw (countWhere-take-suc (isCounted (planOf bs) what) (planOf bs .gates) g (Input 0) (rw (plan-gates p) l), plan-gate p g l, ← eg, ← et, ← eo)
-      (ap (λ (x : ℕ). x + o) (c .is))
+    pub tallied : h .gates ≤ g → Tallied (planOf bs) i (record { inputs = a; own = b; multiplies = m; dealings = d })
+    unfolding inputCount ownInputCount multiplies
+    tallied l = record {
+      inputs = gates-done isInput bs h a g p (c .inputs) l;
+      own = gates-done (isInputOf i) bs h b g p (c .own) l;
+      multiplies = gates-done isMultiply bs h m g p (c .multiplies) l;
+      dealings = gates-done (deals (planOf bs) i) bs h d g p (c .dealings) l;
+      inputs-few = gates-few isInput bs h a g p (c .inputs);
+      own-few = gates-few (isInputOf i) bs h b g p (c .own);
+      multiplies-few = gates-few isMultiply bs h m g p (c .multiplies);
+      dealings-few = gates-few (deals (planOf bs) i) bs h d g p (c .dealings);
+    }
 
-  pub count-all : h .gates ≤ g → g < end → k ≡ countBelow (planOf bs) what end
-  unfolding countBelow
-  count-all l m =
-      c .is
-      ∙ countWhere-take-all (isCounted (planOf bs) what) (planOf bs .gates) g (rw (plan-gates p) l)
-      ∙ sym (countWhere-take-all (isCounted (planOf bs) what) (planOf bs .gates) end (rw (plan-gates p) (omega arith)))
+-- the loop over the gates below g
+pub record DealtBelow (bs : List ℕ) (i g k below : ℕ) : Type 0 where
+  pub within : below ≤ g
+  pub count : Counted (deals (planOf bs) i) (planOf bs .gates) k below
 
-  pub count-done : end ≤ g → k ≡ countBelow (planOf bs) what end
-  count-done l = let e : g ≡ end = omega (arith, c .within) in c .is ∙ ap (countBelow (planOf bs) what) e
+pub dealt-none : (bs : List ℕ) (i g : ℕ) → DealtBelow bs i g 0 0
+dealt-none bs i g = record { within = omega arith; count = count-none (deals (planOf bs) i) (planOf bs .gates) }
 
--- the counts of all gates
-module _ (bs : List ℕ) (h : Header) (p : Planned bs h) where
-  whole : (what : Counted) → countBelow (planOf bs) what (h .gates) ≡ countWhere (isCounted (planOf bs) what) (planOf bs .gates)
-  unfolding countBelow
-  whole what = countWhere-take-all (isCounted (planOf bs) what) (planOf bs .gates) (h .gates) (rw (plan-gates p) (omega arith))
+module _ (bs : List ℕ) (i g k below : ℕ) (c : DealtBelow bs i g k below) where
+  pub dealt-next : (h : Header) (gate : Gate) (t : Bool) (o : ℕ) → Planned bs h → g ≤ h .gates → below < g → gate ≡ gateAt bs below → t ≡ deals (planOf bs) i gate → o ≡ cond t 1 0
+      → DealtBelow bs i g (k + o) (below + 1)
+  dealt-next h gate t o p m l e et eo = record { within = omega arith; count = gates-next (deals (planOf bs) i) bs h k below p (c .count) (omega arith) gate t o e et eo }
 
-  module _ (r : ℕ) where
-    pub count-inputs : r ≡ countBelow (planOf bs) Inputs (h .gates) → r ≡ inputCount (planOf bs)
-    unfolding isCounted inputCount
-    count-inputs e = e ∙ whole Inputs
+  pub dealt-below : g ≤ below → k ≡ dealingsBelow (planOf bs) i g
+  unfolding dealingsBelow
+  dealt-below l =
+      let e : below ≡ g = omega (arith, c .within) in
+      c .count .is ∙ ap (λ (n : ℕ). countWhere (deals (planOf bs) i) (take n (planOf bs .gates))) e
 
-    pub count-own-inputs : (i : ℕ) → r ≡ countBelow (planOf bs) (InputsOf i) (h .gates) → r ≡ ownInputCount (planOf bs) i
-    unfolding isCounted ownInputCount
-    count-own-inputs i e = e ∙ whole (InputsOf i)
-
-    pub count-multiplies : r ≡ countBelow (planOf bs) Multiplies (h .gates) → r ≡ multiplies (planOf bs)
-    unfolding isCounted multiplies
-    count-multiplies e = e ∙ whole Multiplies
-
-    pub count-own-dealings : (i : ℕ) → r ≡ countBelow (planOf bs) (DealingsOf i) (h .gates) → r ≡ countWhere (deals (planOf bs) i) (planOf bs .gates)
-    unfolding isCounted
-    count-own-dealings i e = e ∙ whole (DealingsOf i)
-
-pub count-dealings-below : (bs : List ℕ) (r i g : ℕ) → r ≡ countBelow (planOf bs) (DealingsOf i) g → r ≡ dealingsBelow (planOf bs) i g
-unfolding isCounted countBelow dealingsBelow
-count-dealings-below bs r i g e = e
-
-pub ruleset counting = (needs, count-none, count-next, count-all, count-done, count-inputs, count-own-inputs, count-multiplies, count-own-dealings, count-dealings-below)
+pub ruleset counting = (needs, tally-none, tally-next, tallied, dealt-none, dealt-next, dealt-below)
 
 -- ---- dealings: one for each input gate, 2t + 1 for each multiply gate
 module _ (plan : Plan) where

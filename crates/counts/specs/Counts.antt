@@ -1,25 +1,23 @@
--- What the gates of a plan are counted for.
-use Prim.Native.Nat.{ℕ}
+-- Counts of a plan's gates and outs.
+use Prim.Native.Nat.{ℕ, _≤_}
+use mathlib.Core.Path.{_≡_}
 use mathlib.Core.Bool.{Bool}
 use lib.Dec.{eqb}
-use lib.ListN.{take}
 use Rattle.numbers.specs.Tables.{countWhere}
-use Rattle.plan.specs.declared.Gate.{Gate}
 use Rattle.plan.specs.declared.Output.{Output}
-use Rattle.counts.specs.declared.Counted.{Counted}
-use Rattle.counts.specs.declared.Counted.the-variants.{Inputs, InputsOf, Multiplies, DealingsOf}
-use Rattle.plan.specs.Plans.{Plan, isInput, isInputOf, isMultiply, deals}
+use Rattle.plan.specs.Plans.{Plan, deals, multiplies, inputCount, ownInputCount}
+use Rattle.counts.specs.declared.Tally.{Tally}
 
--- the gates that are counted
-unfoldable pub isCounted : Plan → Counted → Gate → Bool
-isCounted plan Inputs = isInput
-isCounted plan (InputsOf i) = isInputOf i
-isCounted plan Multiplies = isMultiply
-isCounted plan (DealingsOf i) = deals plan i
-
--- how many of the first g gates are counted
-unfoldable pub countBelow : Plan → Counted → ℕ → ℕ
-countBelow plan what g = countWhere (isCounted plan what) (take g (plan .gates))
+-- a plan's tally, with party i's own; the bounds hold of every plan that passes, and stand here for arithmetic to find
+pub record Tallied (plan : Plan) (i : ℕ) (c : Tally) : Type 0 where
+  pub inputs : c .inputs ≡ inputCount plan
+  pub own : c .own ≡ ownInputCount plan i
+  pub multiplies : c .multiplies ≡ multiplies plan
+  pub dealings : c .dealings ≡ countWhere (deals plan i) (plan .gates)
+  pub inputs-few : c .inputs ≤ 1024
+  pub own-few : c .own ≤ 1024
+  pub multiplies-few : c .multiplies ≤ 1024
+  pub dealings-few : c .dealings ≤ 1024
 
 -- whether an out is party i's
 unfoldable pub isOutOf : ℕ → Output → Bool

@@ -11,14 +11,16 @@ ghost use Rattle.numbers.specs.Tables.{countWhere};
 ghost use Rattle.plan.specs.File.{planOf};
 ghost use Rattle.plan.specs.Planned.{Planned};
 ghost use Rattle.plan.specs.Plans.{isInput, isInputOf, isMultiply, deals, dealings, multiplies, multiplyWire, inputCount, ownInputCount, dealingsBelow, ownOutCount, mailCount, writtenCount, sentCount};
-ghost use Rattle.counts.specs.Counts.{isCounted, countBelow, isOutOf};
+ghost use Rattle.counts.specs.Counts.{Tallied, isOutOf};
 
-// What the gates of a plan are counted for; a party's own by its number.
-pub enum Counted {
-    Inputs,
-    InputsOf(usize),
-    Multiplies,
-    DealingsOf(usize),
+// Counts of a plan's gates, for one party.
+pub struct Tally {
+    pub inputs: usize,
+    // the party's own inputs
+    pub own: usize,
+    pub multiplies: usize,
+    // the gates at which the party deals
+    pub dealings: usize,
 }
 
 // ---- counts of a plan's gates
@@ -73,55 +75,52 @@ pub fn is_dealer(plan: &[u8], h: Header, i: usize, gate: Gate) -> bool
     }
 }
 
-fn is_counted(plan: &[u8], h: Header, what: Counted, gate: Gate) -> bool
+// A plan's tally for party i, in one pass over its gates.
+pub fn tally_of(plan: &[u8], h: Header, i: usize) -> Tally
     requires { ⌜ Planned (now plan) h ⌝ }
-    ensures { λ r. ⌜ r ≡ isCounted (planOf (now (plan .entry))) what gate ⌝ }
-{
-    match what {
-        Counted::Inputs => is_input(gate),
-        Counted::InputsOf(i) => is_input_of(i, gate),
-        Counted::Multiplies => is_multiply(gate),
-        Counted::DealingsOf(i) => is_dealer(plan, h, i, gate),
-    }
-}
-
-// How many of the first gates of a plan are counted.
-fn count_below(plan: &[u8], h: Header, what: Counted, end: usize) -> usize
-    requires { ⌜ Planned (now plan) h ⌝ }
-    ensures { λ r. ⌜ record { eq : r ≡ countBelow (planOf (now (plan .entry))) what end; le : r ≤ 1024 } ⌝ }
+    ensures { λ r. ⌜ Tallied (planOf (now (plan .entry))) i r ⌝ }
 {
     let gates = h.gates;
-    let mut k: usize = 0;
+    let mut inputs: usize = 0;
+    let mut own: usize = 0;
+    let mut multiplies: usize = 0;
+    let mut dealings: usize = 0;
     let mut g: usize = 0;
-    while g < end {
-        if gates <= g {
-            return k;
-        }
-        k += numbers::one_if(is_counted(plan, h, what, plan::gate_at(plan, g)));
+    while g < gates {
+        let gate = plan::gate_in(plan, g);
+        inputs += numbers::one_if(is_input(gate));
+        own += numbers::one_if(is_input_of(i, gate));
+        multiplies += numbers::one_if(is_multiply(gate));
+        dealings += numbers::one_if(is_dealer(plan, h, i, gate));
         g += 1;
     }
-    k
+    Tally {
+        inputs,
+        own,
+        multiplies,
+        dealings,
+    }
 }
 
 pub fn input_count(plan: &[u8], h: Header) -> usize
     requires { ⌜ Planned (now plan) h ⌝ }
     ensures { λ r. ⌜ record { eq : r ≡ inputCount (planOf (now (plan .entry))); le : r ≤ 1024 } ⌝ }
 {
-    count_below(plan, h, Counted::Inputs, h.gates)
+    tally_of(plan, h, 0).inputs
 }
 
 pub fn own_input_count(plan: &[u8], h: Header, i: usize) -> usize
     requires { ⌜ Planned (now plan) h ⌝ }
     ensures { λ r. ⌜ record { eq : r ≡ ownInputCount (planOf (now (plan .entry))) i; le : r ≤ 1024 } ⌝ }
 {
-    count_below(plan, h, Counted::InputsOf(i), h.gates)
+    tally_of(plan, h, i).own
 }
 
 pub fn multiply_count(plan: &[u8], h: Header) -> usize
     requires { ⌜ Planned (now plan) h ⌝ }
     ensures { λ r. ⌜ record { eq : r ≡ multiplies (planOf (now (plan .entry))); le : r ≤ 1024 } ⌝ }
 {
-    count_below(plan, h, Counted::Multiplies, h.gates)
+    tally_of(plan, h, 0).multiplies
 }
 
 // How many dealings party i has; each takes t of its coins.
@@ -129,15 +128,22 @@ pub fn own_dealing_count(plan: &[u8], h: Header, i: usize) -> usize
     requires { ⌜ Planned (now plan) h ⌝ }
     ensures { λ r. ⌜ record { eq : r ≡ countWhere (deals (planOf (now (plan .entry))) i) (planOf (now (plan .entry)) .gates); le : r ≤ 1024 } ⌝ }
 {
-    count_below(plan, h, Counted::DealingsOf(i), h.gates)
+    tally_of(plan, h, i).dealings
 }
 
 // How many of party i's dealings stand at gates below g.
 pub fn dealings_below(plan: &[u8], h: Header, i: usize, g: usize) -> usize
     requires { ⌜ Planned (now plan) h ⌝ }
+    requires { ⌜ g ≤ h .gates ⌝ }
     ensures { λ r. ⌜ record { eq : r ≡ dealingsBelow (planOf (now (plan .entry))) i g; le : r ≤ 1024 } ⌝ }
 {
-    count_below(plan, h, Counted::DealingsOf(i), g)
+    let mut k: usize = 0;
+    let mut below: usize = 0;
+    while below < g {
+        k += numbers::one_if(is_dealer(plan, h, i, plan::gate_in(plan, below)));
+        below += 1;
+    }
+    k
 }
 
 // How many dealings a run has: one for each input gate, 2t + 1 for each multiply gate.
@@ -145,7 +151,8 @@ pub fn dealing_count(plan: &[u8], h: Header) -> usize
     requires { ⌜ Planned (now plan) h ⌝ }
     ensures { λ r. ⌜ record { eq : r ≡ length (dealings (planOf (now (plan .entry)))); le : r ≤ 15360 } ⌝ }
 {
-    input_count(plan, h) + multiply_count(plan, h) * (h.t + h.t + 1)
+    let c = tally_of(plan, h, 0);
+    c.inputs + c.multiplies * (h.t + h.t + 1)
 }
 
 // The wire that multiply gate k makes, these counted from 0; 0 where there is none.
@@ -157,7 +164,7 @@ pub fn multiply_wire(plan: &[u8], h: Header, k: usize) -> usize
     let mut left = k;
     let mut g: usize = 0;
     while g < gates {
-        if is_multiply(plan::gate_at(plan, g)) {
+        if is_multiply(plan::gate_in(plan, g)) {
             if left == 0 {
                 return g;
             }
@@ -191,39 +198,56 @@ pub fn own_out_count(plan: &[u8], h: Header, i: usize) -> usize
 
 // ---- sizes of a run
 
-// The numbers of mail that party i's call number k takes.
-pub fn mail_count(plan: &[u8], h: Header, i: usize, k: usize) -> usize
+// The numbers of mail that party i's call number k takes, by its tally.
+pub fn mail_by(plan: &[u8], h: Header, i: usize, c: Tally, k: usize) -> usize
     requires { ⌜ Planned (now plan) h ⌝ }
+    requires { ⌜ Tallied (planOf (now plan)) i c ⌝ }
     ensures { λ r. ⌜ record { eq : r ≡ mailCount (planOf (now (plan .entry))) i k; le : r ≤ 1024 } ⌝ }
 {
     if k == 0 {
         return 0;
     }
     if k == 1 {
-        return input_count(plan, h);
+        return c.inputs;
     }
-    if k - 2 < multiply_count(plan, h) {
+    if k - 2 < c.multiplies {
         return h.t + h.t + 1;
     }
     h.n * own_out_count(plan, h, i)
 }
 
-// The numbers that party i's call number k writes: outgoing mail, or results in the last call.
+// The same.
+pub fn mail_count(plan: &[u8], h: Header, i: usize, k: usize) -> usize
+    requires { ⌜ Planned (now plan) h ⌝ }
+    ensures { λ r. ⌜ record { eq : r ≡ mailCount (planOf (now (plan .entry))) i k; le : r ≤ 1024 } ⌝ }
+{
+    mail_by(plan, h, i, tally_of(plan, h, i), k)
+}
+
+// The numbers that party i's call number k writes, by its tally: outgoing mail, or results in the last call.
+pub fn written_by(plan: &[u8], h: Header, i: usize, c: Tally, k: usize) -> usize
+    requires { ⌜ Planned (now plan) h ⌝ }
+    requires { ⌜ Tallied (planOf (now plan)) i c ⌝ }
+    ensures { λ r. ⌜ record { eq : r ≡ writtenCount (planOf (now (plan .entry))) i k; le : r ≤ 15360 } ⌝ }
+{
+    if k == 0 {
+        return h.n * c.own;
+    }
+    if k - 1 < c.multiplies {
+        return sent_by(h.n, i, h.t + h.t + 1);
+    }
+    if k - 1 == c.multiplies {
+        return h.outs;
+    }
+    own_out_count(plan, h, i)
+}
+
+// The same.
 pub fn written_count(plan: &[u8], h: Header, i: usize, k: usize) -> usize
     requires { ⌜ Planned (now plan) h ⌝ }
     ensures { λ r. ⌜ record { eq : r ≡ writtenCount (planOf (now (plan .entry))) i k; le : r ≤ 15360 } ⌝ }
 {
-    if k == 0 {
-        return h.n * own_input_count(plan, h, i);
-    }
-    let m = multiply_count(plan, h);
-    if k - 1 < m {
-        return sent_by(h.n, i, h.t + h.t + 1);
-    }
-    if k - 1 == m {
-        return h.outs;
-    }
-    own_out_count(plan, h, i)
+    written_by(plan, h, i, tally_of(plan, h, i), k)
 }
 
 // The numbers that party i sends to n parties if it is one of the dealers.

@@ -17,7 +17,7 @@ use native.Mathlib.Numerals.{add-one}
 use native.Mathlib.Omega.{arith}
 use borrow.Author.Needs.{needs}
 use borrow.Author.Tests.{ltb-true, lt-ltb, le-ltb}
-use lib.Dec.{eqb, ltb}
+use lib.Dec.{ltb}
 use lib.ListN.{length, getD, take, drop, set, drop-of-length-le}
 use lib.Seq.{length-take-le, take-take, drop-cons, drop-drop, getD-drop, set-getD}
 use Rattle.numbers.specs.Tables.{tab, countWhere}
@@ -124,26 +124,6 @@ module _ (p g : ℕ) (gate : Gate) (xs : List ℕ) (r : ℕ) where
 pub ruleset working = (needs, read-below, scale-constant, offset-constant, work-input, work-multiply, work-add, work-scale, work-offset, written-holds)
 
 -- ---- the gates up to the next multiply
-pub multiply-yes : (gate : Gate) (a b : ℕ) → gate ≡ Multiply a b → true ≡ isMultiply gate
-unfolding isMultiply
-multiply-yes gate a b e = rw e
-
-pub multiply-not-input : (gate : Gate) (s : ℕ) → gate ≡ Input s → false ≡ isMultiply gate
-unfolding isMultiply
-multiply-not-input gate s e = rw e
-
-pub multiply-not-add : (gate : Gate) (a b : ℕ) → gate ≡ Add a b → false ≡ isMultiply gate
-unfolding isMultiply
-multiply-not-add gate a b e = rw e
-
-pub multiply-not-scale : (gate : Gate) (a c : ℕ) → gate ≡ Scale a c → false ≡ isMultiply gate
-unfolding isMultiply
-multiply-not-scale gate a c e = rw e
-
-pub multiply-not-offset : (gate : Gate) (a c : ℕ) → gate ≡ Offset a c → false ≡ isMultiply gate
-unfolding isMultiply
-multiply-not-offset gate a c e = rw e
-
 -- the invariant at gate g: the shares are s, and were s₀; what is left to work gives what there is to work
 pub record Worked (bs : List ℕ) (p from : ℕ) (s₀ s : List ℕ) (g : ℕ) : Type 0 where
   pub rest : workFrom p g (drop g (planOf bs .gates)) (numbers s) ≡ workFrom p from (drop from (planOf bs .gates)) (numbers s₀)
@@ -168,29 +148,9 @@ module _ (bs : List ℕ) (h : Header) (from : ℕ) (s₀ : List ℕ) where
       unfolding workFrom
       work-next d n k j = record { rest = rw (add-one, k .eq) (rw (gates-from bs h pl g l, ← e, ← m, n) at (w .rest)); below = k .below; long = j ∙ w .long }
 
-pub ruleset going-on = (needs, multiply-yes, multiply-not-input, multiply-not-add, multiply-not-scale, multiply-not-offset, planned-ready, gate-kept, work-none, work-end, work-stop, work-next)
+pub ruleset going-on = (needs, planned-ready, gate-kept, work-none, work-end, work-stop, work-next)
 
 -- ---- the wires of one party's inputs
-pub input-is : (i : ℕ) (gate : Gate) (s : ℕ) → gate ≡ Input s → eqb i s ≡ isInputOf i gate
-unfolding isInputOf
-input-is i gate s e = rw e
-
-pub input-not-add : (i : ℕ) (gate : Gate) (a b : ℕ) → gate ≡ Add a b → false ≡ isInputOf i gate
-unfolding isInputOf
-input-not-add i gate a b e = rw e
-
-pub input-not-scale : (i : ℕ) (gate : Gate) (a c : ℕ) → gate ≡ Scale a c → false ≡ isInputOf i gate
-unfolding isInputOf
-input-not-scale i gate a c e = rw e
-
-pub input-not-offset : (i : ℕ) (gate : Gate) (a c : ℕ) → gate ≡ Offset a c → false ≡ isInputOf i gate
-unfolding isInputOf
-input-not-offset i gate a c e = rw e
-
-pub input-not-multiply : (i : ℕ) (gate : Gate) (a b : ℕ) → gate ≡ Multiply a b → false ≡ isInputOf i gate
-unfolding isInputOf
-input-not-multiply i gate a b e = rw e
-
 -- one gate
 module _ (p i g : ℕ) (gate : Gate) (mail s : List ℕ) (at : ℕ) (t : Bool) (e : t ≡ isInputOf i gate) (r : Ready p) (b : allBelow p (numbers s) ≡ true) where
   pub input-learnt : (x : ℕ) (d : List ℕ) → t ≡ true → allBelow p (numbers mail) ≡ true → x ≡ getD (numbers mail) at 0 → d ≡ stored s g x
@@ -206,7 +166,7 @@ one-learnt i at gate t e y = rw (← e, y)
 pub none-learnt : (i at : ℕ) (gate : Gate) (t : Bool) → t ≡ isInputOf i gate → t ≡ false → at ≡ at + cond (isInputOf i gate) 1 0
 none-learnt i at gate t e n = rw (← e, n) (omega arith)
 
-pub ruleset learning-one = (needs, input-is, input-not-add, input-not-scale, input-not-offset, input-not-multiply, read-below, input-learnt, input-passed, one-learnt, none-learnt)
+pub ruleset learning-one = (needs, read-below, input-learnt, input-passed, one-learnt, none-learnt)
 
 set-cons : (xs ws vs : List ℕ) (g : ℕ) → setAll xs (g ∷ ws) vs ≡ setAll (set xs g (getD vs 0 0)) ws (drop 1 vs)
 unfolding setAll

@@ -9,7 +9,7 @@ ghost use Rattle.numbers.specs.Bytes.{numbers, allBelow};
 ghost use Rattle.numbers.specs.Tables.{tab};
 ghost use Rattle.field.specs.Field.{Is, Ready};
 ghost use Rattle.polynomials.specs.Sharing.{opened};
-ghost use Rattle.plan.specs.Plans.{isInputOf, isMultiply, multiplyWire, inputWires, ownInputCount};
+ghost use Rattle.plan.specs.Plans.{isInputOf, multiplies, multiplyWire, inputWires, ownInputCount};
 ghost use Rattle.plan.specs.File.{gateOk, planOf};
 ghost use Rattle.plan.specs.Planned.{Planned};
 ghost use Rattle.learning.specs.Lent.{Holds, Dealers};
@@ -43,18 +43,6 @@ fn work_gate(h: Header, g: usize, gate: Gate, shares: &mut [u8])
     numbers::write(shares, g, v);
 }
 
-fn is_multiply(gate: Gate) -> bool
-    ensures { λ r. ⌜ r ≡ isMultiply gate ⌝ }
-{
-    match gate {
-        Gate::Input(_) => false,
-        Gate::Add(_, _) => false,
-        Gate::Scale(_, _) => false,
-        Gate::Offset(_, _) => false,
-        Gate::Multiply(_, _) => true,
-    }
-}
-
 // Works the gates from one on up to the next multiply, or all that are left.
 fn work_from(plan: &[u8], h: Header, from: usize, shares: &mut [u8])
     requires { ⌜ Planned (now plan) h ⌝ }
@@ -63,24 +51,12 @@ fn work_from(plan: &[u8], h: Header, from: usize, shares: &mut [u8])
 {
     let mut g = from;
     while g < h.gates {
-        let gate = plan::gate_at(plan, g);
-        if is_multiply(gate) {
+        let gate = plan::gate_in(plan, g);
+        if counts::is_multiply(gate) {
             return;
         }
         work_gate(h, g, gate, shares);
         g += 1;
-    }
-}
-
-fn is_input_of(i: usize, gate: Gate) -> bool
-    ensures { λ r. ⌜ r ≡ isInputOf i gate ⌝ }
-{
-    match gate {
-        Gate::Input(s) => i == s,
-        Gate::Add(_, _) => false,
-        Gate::Scale(_, _) => false,
-        Gate::Offset(_, _) => false,
-        Gate::Multiply(_, _) => false,
     }
 }
 
@@ -104,7 +80,7 @@ fn learn_input(
       most : r ≤ at + 1;
     } ⌝ }
 {
-    if is_input_of(i, gate) {
+    if counts::is_input_of(i, gate) {
         numbers::write(shares, g, numbers::read(mail, at));
         return at + 1;
     }
@@ -133,7 +109,7 @@ fn learn_inputs_of(
     let mut at = from;
     let mut g = 0;
     while g < h.gates {
-        let gate = plan::gate_at(plan, g);
+        let gate = plan::gate_in(plan, g);
         at = learn_input(h, i, g, gate, mail, at, shares);
         g += 1;
     }
@@ -208,9 +184,10 @@ fn learn_first(plan: &[u8], h: Header, mail: &[u8], shares: &mut [u8])
 }
 
 // What call number k learns from its mail and works on the shares: nothing in call 0; the inputs in call 1; product k - 2 after that,
-// while there is one.
-pub fn learn(plan: &[u8], h: Header, k: usize, mail: &[u8], shares: &mut [u8])
+// while there is one. The plan has m multiplies.
+pub fn learn(plan: &[u8], h: Header, m: usize, k: usize, mail: &[u8], shares: &mut [u8])
     requires { ⌜ Planned (now plan) h ⌝ }
+    requires { ⌜ m ≡ multiplies (planOf (now plan)) ⌝ }
     requires { ⌜ allBelow (h .field .p) (numbers (now mail)) ≡ true ⌝ }
     requires { ⌜ allBelow (h .field .p) (numbers (now shares)) ≡ true ⌝ }
     ensures { λ _. ⌜ Holds (h .field .p) (learn (planOf (now (plan .entry))) k (numbers (now (shares .entry))) (numbers (now (mail .entry)))) (now (shares .exit)) ⌝ }
@@ -222,7 +199,7 @@ pub fn learn(plan: &[u8], h: Header, k: usize, mail: &[u8], shares: &mut [u8])
         learn_first(plan, h, mail, shares);
         return;
     }
-    if k - 2 < counts::multiply_count(plan, h) {
+    if k - 2 < m {
         learn_product(plan, h, k - 2, mail, shares);
         return;
     }

@@ -21,6 +21,10 @@ word-none : (s : List ℕ) (at : ℕ) → length s ≤ at → wordAt s at ≡ 0
 unfolding wordAt
 word-none s at l = rw (List·getD-eq-default s 0 {n = at} l, List·getD-eq-default s 0 {n = at + 1} (omega arith))
 
+pub word-some : (s : List ℕ) (at a b : ℕ) → a ≡ getD s at 0 → b ≡ getD s (at + 1) 0 → a + 256 * b ≡ wordAt s at
+unfolding wordAt
+word-some s at a b e f = rw (e, f)
+
 -- ---- a gate by its kind
 module _ (k s a b : ℕ) where
   pub gate-second : (s ≡ 0 → ⊥) → Input 0 ≡ gateOf k s a b
@@ -79,4 +83,4 @@ module _ (s : List ℕ) (o : ℕ) where
   unfolding outAt
   out-none l = rw (List·getD-eq-default s 0 {n = 18 + 6 * wordAt s 12 + 3 * o} (omega arith), word-none s (18 + 6 * wordAt s 12 + 3 * o + 1) (omega arith))
 
-pub ruleset reading = (needs, byte-none, gate-second, gate-input, gate-add, gate-scale, gate-offset, gate-multiply, gate-other, input-some, input-none, gate-some, gate-none, out-some, out-none)
+pub ruleset reading = (needs, byte-none, word-some, gate-second, gate-input, gate-add, gate-scale, gate-offset, gate-multiply, gate-other, input-some, input-none, gate-some, gate-none, out-some, out-none)

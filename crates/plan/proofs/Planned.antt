@@ -83,6 +83,9 @@ laid bs h =
     let e = both-true (between 1 64 (outCountAt bs)) _ (d .1) in
     record { gates = c .0; outs = e .0; long = eqb-true (length bs) (18 + 6 * gateCountAt bs + 3 * outCountAt bs) (e .1) }
 
+pub laid-gates : (bs : List ℕ) (t : Bool) → t ≡ layoutOk bs → t ≡ true → 18 + 6 * gateCountAt bs ≤ length bs
+laid-gates bs t e y = omega (arith, laid bs (sym e ∙ y) .long)
+
 pub planned : (bs : List ℕ) → pAt bs < 65536 → planCheck bs ≡ Passed → Planned bs (headerOf bs)
 unfolding headerOf
 planned bs small h =

@@ -2,20 +2,19 @@
 --     Begun, beginning     the loop that writes the coefficients
 --     sharing-out          what a share takes
 -- Assumes nothing.
-use mathlib.Core.Path.{_≡_, refl, sym, ap, _∙_}
-use mathlib.Core.Bool.{Bool, true, false, cond}
-use mathlib.Core.List.{List, [], _∷_, _++_}
-use Prim.Native.Nat.{ℕ, zero, suc, _+_, _-_, _*_, _<_, _≤_}
+use mathlib.Core.Path.{_≡_, sym, ap, _∙_}
+use mathlib.Core.Bool.{true}
+use mathlib.Core.List.{List, [], _∷_}
+use Prim.Native.Nat.{ℕ, _+_, _-_, _<_, _≤_}
 use native.Mathlib.Numerals.{add-one}
 use native.Mathlib.Omega.{arith}
 use borrow.Author.Needs.{needs}
 use borrow.Author.Tests.{lt-ltb}
-use lib.Dec.{ltb}
 use lib.ListN.{length, getD, take, drop, set, length-set}
-use lib.Seq.{ext-getD, take-suc-set, length-take-le, getD-take, getD-drop}
+use lib.Seq.{take-suc-set, length-take-le, getD-take, getD-drop}
 use Rattle.numbers.specs.Tables.{tab}
-use Rattle.numbers.specs.Bytes.{numbers, allBelow}
-use Rattle.numbers.proofs.Tables.{tab-next, tab-zero, length-tab, getD-tab, is-tab}
+use Rattle.numbers.specs.Bytes.{allBelow}
+use Rattle.numbers.proofs.Tables.{tab-next, length-tab, getD-tab, is-tab}
 use Rattle.numbers.proofs.Below.{at-allBelow}
 use Rattle.field.specs.Field.{Is, Ready}
 use Rattle.polynomials.specs.Poly.{eval}

@@ -1,22 +1,21 @@
 -- Laws of the dealings of a party's own inputs.
---     gating               what a test of a gate says
+--     input-sending        one gate
 --     Inputting, inputting the loop over the gates that writes a share of each
 -- Assumes nothing.
-use mathlib.Core.Path.{_≡_, refl, sym, ap, ap₂, _∙_}
+use mathlib.Core.Path.{_≡_, refl, sym, ap, _∙_}
 use mathlib.Core.Bool.{Bool, true, false, cond, not}
 use mathlib.Core.List.{List, [], _∷_, _++_, map, map-append, flatMap}
-use Prim.Native.Nat.{ℕ, zero, suc, _+_, _-_, _*_, _/_, _^_, _<_, _≤_}
+use Prim.Native.Nat.{ℕ, suc, _+_, _-_, _*_, _^_, _<_, _≤_}
 use native.Mathlib.Numerals.{add-one}
 use native.Mathlib.Nat.{mul-le-mul, mul-le-mul-left, mul-suc}
 use native.Mathlib.Omega.{arith}
 use borrow.Author.Needs.{needs}
 use borrow.Author.Tests.{not-true, not-false}
-use lib.Dec.{eqb, leb}
-use lib.ListN.{length, getD, take, drop, length-append, take-append-drop}
+use lib.ListN.{length, getD, take, drop, take-append-drop}
 use lib.Seq.{take-suc, take-all, drop-drop, getD-drop, length-take-le}
 use Rattle.numbers.specs.Tables.{tab, countWhere}
-use Rattle.numbers.specs.Bytes.{numbers, allBelow, stored}
-use Rattle.field.specs.Field.{Is, Ready}
+use Rattle.numbers.specs.Bytes.{numbers, stored}
+use Rattle.field.specs.Field.{Is}
 use Rattle.numbers.proofs.Bytes.{numbers-length}
 use Rattle.numbers.proofs.Tables.{length-tab, getD-tab, tab-map, tab-ext}
 use Rattle.numbers.proofs.Counts.{countWhere-append, countWhere-le-length, countWhere-take-suc, Counted, count-none, count-next}
@@ -25,61 +24,17 @@ use Rattle.sharing.proofs.Coding.{entry-below}
 use Rattle.plan.specs.declared.Gate.{Gate}
 use Rattle.plan.specs.declared.Gate.the-variants.{Input, Add, Scale, Offset, Multiply}
 use Rattle.plan.specs.declared.Header.{Header}
-use Rattle.plan.specs.Plans.{Plan, partyCount, ownInputCount, dealerCount, isInputOf, deals, wiresFrom, wiresWhere, inputWires, dealingsBelow, ownCoinCount, coinsAt}
+use Rattle.plan.specs.Plans.{Plan, partyCount, ownInputCount, isInputOf, deals, wiresFrom, wiresWhere, inputWires, dealingsBelow, ownCoinCount, coinsAt}
 use Rattle.plan.specs.File.{gateAt, planOf}
 use Rattle.plan.specs.Planned.{Planned}
-use Rattle.plan.proofs.Planned.{plan-t, plan-p, plan-n, plan-points, plan-gates, plan-gate, plan-dealers}
+use Rattle.plan.proofs.Planned.{plan-t, plan-p, plan-n, plan-points, plan-gates, plan-gate}
 use Rattle.plan.proofs.Valid.{valid}
 use Rattle.messages.specs.Messages.{inputPolys, dealTo, sendInputs}
 use Rattle.sending.specs.Sending.{Sent, Dealing, Own, coinsFrom, inputShares}
 use Rattle.sending.proofs.SendLaws.{sent-none, sent-more, sent-unless, sent-where, flat, Rows, rows-none, rows-next, rows-all, rows-length}
 use Rattle.sending.proofs.DealLaws.{coinsFrom-part}
 
--- ---- a test of a gate
-module _ (g : Gate) (i : ℕ) where
-  pub own-input : (s : ℕ) → g ≡ Input s → eqb i s ≡ isInputOf i g
-  unfolding isInputOf
-  own-input s e = rw e
-
-  pub own-add : (a b : ℕ) → g ≡ Add a b → false ≡ isInputOf i g
-  unfolding isInputOf
-  own-add a b e = rw e
-
-  pub own-scale : (a b : ℕ) → g ≡ Scale a b → false ≡ isInputOf i g
-  unfolding isInputOf
-  own-scale a b e = rw e
-
-  pub own-offset : (a b : ℕ) → g ≡ Offset a b → false ≡ isInputOf i g
-  unfolding isInputOf
-  own-offset a b e = rw e
-
-  pub own-multiply : (a b : ℕ) → g ≡ Multiply a b → false ≡ isInputOf i g
-  unfolding isInputOf
-  own-multiply a b e = rw e
-
-  module _ (plan : Plan) (r : ℕ) where
-    pub deals-input : (s : ℕ) → g ≡ Input s → r ≡ cond (eqb i s) 1 0 → r ≡ cond (deals plan i g) 1 0
-    unfolding deals
-    deals-input s e q = rw e q
-
-    pub deals-add : (a b : ℕ) → g ≡ Add a b → _≡_ {A = ℕ} 0 (cond (deals plan i g) 1 0)
-    unfolding deals
-    deals-add a b e = rw e
-
-    pub deals-scale : (a b : ℕ) → g ≡ Scale a b → _≡_ {A = ℕ} 0 (cond (deals plan i g) 1 0)
-    unfolding deals
-    deals-scale a b e = rw e
-
-    pub deals-offset : (a b : ℕ) → g ≡ Offset a b → _≡_ {A = ℕ} 0 (cond (deals plan i g) 1 0)
-    unfolding deals
-    deals-offset a b e = rw e
-
-pub deals-multiply : (g : Gate) (i r a b : ℕ) (bs : List ℕ) (h : Header) → Planned bs h → g ≡ Multiply a b → r ≡ cond (leb i (h .t + h .t + 1)) 1 0 → r ≡ cond (deals (planOf bs) i g) 1 0
-unfolding deals
-deals-multiply g i r a b bs h k e q = rw (e, plan-dealers k) q
-
-pub ruleset gating = (needs, own-input, own-add, own-scale, own-offset, own-multiply, deals-input, deals-add, deals-scale, deals-offset, deals-multiply)
-
+-- ---- one gate
 -- a share is written where the gate is an own input
 module _ (t b : Bool) (e : t ≡ b) (v at : ℕ) (old : List ℕ) where
   pub gate-unless : not t ≡ true → Sent (cond b (v ∷ []) []) at old old at
@@ -257,14 +212,14 @@ module _ (bs : List ℕ) (i : ℕ) (inputs coins : List ℕ) (x at : ℕ) where
         (one-share g (length ws) 0 (coinsFrom (h .t) (h .t * k) (numbers coins)) (isInputOf i (getD (planOf bs .gates) g (Input 0))) coins-here
         ∙ rw (← wires-passed, ← es, ← e, plan-p w))
 
-    pub inputs-next : (gate : Gate) (s b next : ℕ) (d′ : List ℕ) → gate ≡ gateAt bs g → s ≡ getD (numbers inputs) (place - at) 0
+    pub inputs-next : (gate : Gate) (t : Bool) (s b next : ℕ) (d′ : List ℕ) → gate ≡ gateAt bs g → s ≡ getD (numbers inputs) (place - at) 0
         → Sent (cond (isInputOf i gate) (eval (h .field .p) (s ∷ coinsFrom (h .t) (h .t * k) (numbers coins)) x ∷ []) []) place d d′ next
-        → b ≡ cond (deals (planOf bs) i gate) 1 0
+        → t ≡ deals (planOf bs) i gate → b ≡ cond t 1 0
         → Inputting bs i inputs coins x at d₀ d′ next (k + b) (g + 1)
-    inputs-next gate s b next d′ eg es to eb = record {
+    inputs-next gate t s b next d′ eg es to et eb = record {
       low = omega (arith, v .low, to .place);
       high = omega (arith, v .high, to .place, one-long (isInputOf i gate) (eval (h .field .p) (s ∷ coinsFrom (h .t) (h .t * k) (numbers coins)) x));
-      passed = count-next (deals (planOf bs) i) (planOf bs .gates) k g (v .passed) b (Input 0) below-gates (rw (plan-gate w g l, ← eg) eb);
+      passed = count-next (deals (planOf bs) i) (planOf bs .gates) k g (v .passed) b (Input 0) below-gates (rw (plan-gate w g l, ← eg, ← et) eb);
       sent = rw (shares-next gate s eg es) (sent-more _ _ d₀ d d′ at place next (v .sent) to);
     }
 

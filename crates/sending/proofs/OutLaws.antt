@@ -4,26 +4,26 @@
 --     outs-length, gathering   the loop over the parties: every out is some party's
 -- Assumes nothing.
 use mathlib.Core.Path.{_≡_, refl, sym, ap, ap₂, _∙_}
-use mathlib.Core.Bool.{Bool, true, false, cond, not}
-use mathlib.Core.List.{List, [], _∷_, _++_, map, map-append, flatMap}
-use Prim.Native.Nat.{ℕ, zero, suc, _+_, _-_, _*_, _/_, _<_, _≤_}
+use mathlib.Core.Bool.{Bool, true, false, cond}
+use mathlib.Core.List.{List, [], _∷_, _++_, map-append, flatMap}
+use Prim.Native.Nat.{ℕ, zero, suc, _+_, _-_, _*_, _<_, _≤_}
 use native.Mathlib.Numerals.{add-one}
 use native.Mathlib.Omega.{arith}
 use borrow.Author.Needs.{needs}
-use borrow.Author.Tests.{eq-eqb, ne-eqb, eqb-true, eqb-false, ltb-true, leb-true}
-use lib.Dec.{eqb, leb, ltb}
-use lib.ListN.{length, getD, take, drop, length-append}
+use borrow.Author.Tests.{eq-eqb, ne-eqb, eqb-true, eqb-false}
+use lib.Dec.{eqb, ltb}
+use lib.ListN.{length, getD, take, length-append}
 use lib.Seq.{take-suc, take-all}
 use Rattle.numbers.specs.Tables.{tab}
 use Rattle.numbers.specs.Bytes.{numbers, stored}
 use Rattle.numbers.proofs.Tables.{tab-map, tab-ext}
 use Rattle.plan.specs.declared.Output.{Output}
 use Rattle.plan.specs.declared.Header.{Header}
-use Rattle.plan.specs.Plans.{Plan, partyCount, parties, outWiresOf, outWires}
+use Rattle.plan.specs.Plans.{partyCount, parties, outWiresOf, outWires}
 use Rattle.plan.specs.File.{between, outAt, outOk, planOf}
 use Rattle.plan.specs.Planned.{Planned}
 use Rattle.plan.proofs.Planned.{plan-n, plan-outs, plan-out, both-true, between-true}
-use Rattle.plan.proofs.Valid.{Valid, valid}
+use Rattle.plan.proofs.Valid.{valid}
 use Rattle.messages.specs.Messages.{sendOuts}
 use Rattle.sending.specs.Sending.{Sent, outShares}
 use Rattle.sending.proofs.SendLaws.{sent-none, sent-more, sent-unless, sent-where, flat, flat-none, flat-next, Rows, rows-none, rows-next, rows-all}

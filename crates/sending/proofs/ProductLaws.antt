@@ -5,15 +5,14 @@
 -- Assumes nothing.
 use mathlib.Core.Path.{_≡_, refl, sym, ap, ap₂, _∙_}
 use mathlib.Core.Bool.{Bool, true, false, cond}
-use mathlib.Core.List.{List, [], _∷_, _++_, map, flatMap}
-use Prim.Native.Nat.{ℕ, zero, suc, _+_, _-_, _*_, _/_, _^_, _<_, _≤_}
+use mathlib.Core.List.{List, [], _∷_, map, flatMap}
+use Prim.Native.Nat.{ℕ, zero, suc, _+_, _-_, _*_, _^_, _<_, _≤_}
 use native.Mathlib.Nat.{mul-le-mul}
-use native.Mathlib.Numerals.{add-one}
 use native.Mathlib.Omega.{arith}
 use borrow.Author.Needs.{needs}
 use borrow.Author.Tests.{le-leb, lt-leb}
-use lib.Dec.{eqb, leb}
-use lib.ListN.{length, getD, take, drop}
+use lib.Dec.{leb}
+use lib.ListN.{length, getD, take}
 use Rattle.numbers.specs.Tables.{tab, countWhere}
 use Rattle.numbers.specs.Bytes.{numbers, allBelow, stored}
 use Rattle.numbers.proofs.Tables.{length-tab, getD-tab, tab-map}
@@ -30,11 +29,11 @@ use Rattle.plan.specs.declared.Header.{Header}
 use Rattle.plan.specs.Plans.{Plan, partyCount, dealerCount, isMultiply, deals, wiresFrom, wiresWhere, multiplies, multiplyWire, dealingsBelow, ownCoinCount, coinsAt}
 use Rattle.plan.specs.File.{gateAt, planOf}
 use Rattle.plan.specs.Planned.{Planned}
-use Rattle.plan.proofs.Planned.{plan-t, plan-p, plan-n, plan-points, plan-gates, plan-gate, plan-dealers}
+use Rattle.plan.proofs.Planned.{plan-t, plan-p, plan-n, plan-points, plan-gate, plan-dealers}
 use Rattle.messages.specs.Messages.{productAt, dealTo, nothing, sendProduct}
 use Rattle.sending.specs.Sending.{Dealing, Coined, coinsFrom}
 use Rattle.sending.proofs.SendLaws.{flat}
-use Rattle.sending.proofs.DealLaws.{coefficients-long, share-is, dealing-below}
+use Rattle.sending.proofs.DealLaws.{coefficients-long, dealing-below}
 use Rattle.sending.proofs.InputLaws.{prime-of, coins-at}
 
 -- ---- the product

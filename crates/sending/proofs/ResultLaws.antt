@@ -4,18 +4,18 @@
 --     opening-all  the loop over the outs
 -- Assumes nothing.
 use mathlib.Core.Path.{_≡_, refl, sym, ap, ap₂, _∙_}
-use mathlib.Core.Bool.{Bool, true, false, cond}
-use mathlib.Core.List.{List, [], _∷_, _++_, map}
-use Prim.Native.Nat.{ℕ, zero, suc, _+_, _-_, _*_, _/_, _^_, _<_, _≤_}
+use mathlib.Core.Bool.{true}
+use mathlib.Core.List.{List, [], _++_}
+use Prim.Native.Nat.{ℕ, suc, _+_, _-_, _*_, _/_, _^_, _<_, _≤_}
 use native.Mathlib.Nat.{mul-le-mul}
 use native.Mathlib.Numerals.{add-one}
 use native.Mathlib.Omega.{arith}
 use borrow.Author.Needs.{needs}
 use lib.ListN.{length, getD, take, drop, set, length-set, length-append}
-use lib.Seq.{take-suc-set, take-at, length-take-le, take-take}
+use lib.Seq.{take-suc-set, take-at, length-take-le}
 use Rattle.numbers.specs.Tables.{tab}
 use Rattle.numbers.specs.Bytes.{numbers, allBelow, stored}
-use Rattle.numbers.proofs.Tables.{tab-next, tab-zero, tab-ext, length-tab, getD-tab, take-tab}
+use Rattle.numbers.proofs.Tables.{tab-next, length-tab, getD-tab, take-tab}
 use Rattle.numbers.proofs.Below.{at-allBelow}
 use Rattle.numbers.proofs.Fills.{Numbered, number-none, number-next, numbered-all}
 use Rattle.field.specs.Field.{Is, Ready}
@@ -24,7 +24,6 @@ use Rattle.polynomials.specs.Sharing.{opened}
 use Rattle.sharing.proofs.Coding.{entry-below}
 use Rattle.openings.proofs.Rows.{weights-below, length-weights}
 use Rattle.plan.specs.declared.Header.{Header}
-use Rattle.plan.specs.Plans.{Plan, partyCount}
 use Rattle.plan.specs.File.{planOf}
 use Rattle.plan.specs.Planned.{Planned}
 use Rattle.plan.proofs.Planned.{plan-t, plan-p, plan-n, plan-points}

@@ -1,17 +1,16 @@
 -- What a call writes, by its number.
 --     calling      what closes the needs of `send`
 -- Assumes nothing.
-use mathlib.Core.Path.{_≡_, refl, sym, ap, subst, _∙_}
-use mathlib.Core.Bool.{Bool, true, false, cond}
-use mathlib.Core.List.{List, [], _∷_, _++_, flatMap}
-use Prim.Native.Nat.{ℕ, zero, suc, _+_, _-_, _*_, _/_, _<_, _≤_}
-use native.Mathlib.Numerals.{add-one}
+use mathlib.Core.Path.{_≡_, sym, ap, subst, _∙_}
+use mathlib.Core.Bool.{cond}
+use mathlib.Core.List.{List, [], flatMap}
+use Prim.Native.Nat.{ℕ, suc, _+_, _-_, _*_, _/_, _<_, _≤_}
 use native.Mathlib.Omega.{arith}
 use borrow.Author.Needs.{needs}
 use borrow.Author.Tests.{eq-eqb, ne-eqb, lt-ltb, le-ltb}
-use lib.Dec.{eqb, leb, ltb}
+use lib.Dec.{leb}
 use lib.ListN.{length}
-use Rattle.numbers.specs.Bytes.{numbers, allBelow}
+use Rattle.numbers.specs.Bytes.{numbers}
 use Rattle.plan.specs.declared.Header.{Header}
 use Rattle.plan.specs.Plans.{Plan, partyCount, dealerCount, multiplies, ownInputCount, ownOutCount, outWires, writtenCount}
 use Rattle.plan.specs.File.{planOf}
@@ -19,7 +18,7 @@ use Rattle.plan.specs.Planned.{Planned}
 use Rattle.plan.proofs.Planned.{plan-outs}
 use Rattle.messages.specs.Messages.{sendInputs, sendProduct, sendOuts, resultsOf, send, callWith}
 use Rattle.messages.specs.Calls.{written}
-use Rattle.sending.specs.Sending.{Own, Coined, Lent, openedOuts}
+use Rattle.sending.specs.Sending.{Coined, Lent, openedOuts}
 use Rattle.sending.proofs.OutLaws.{wires-few}
 
 -- ---- how much is written

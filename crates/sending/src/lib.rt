@@ -15,7 +15,7 @@ ghost use Rattle.field.specs.Field.{Is, Ready};
 ghost use Rattle.polynomials.specs.Poly.{eval};
 ghost use Rattle.polynomials.specs.Interp.{dot};
 ghost use Rattle.polynomials.specs.Sharing.{deal};
-ghost use Rattle.plan.specs.Plans.{partyCount, dealerCount, multiplies, isInputOf, deals, inputWires, outWires, ownInputCount};
+ghost use Rattle.plan.specs.Plans.{partyCount, dealerCount, multiplies, isInputOf, inputWires, outWires, ownInputCount};
 ghost use Rattle.plan.specs.File.{planOf};
 ghost use Rattle.plan.specs.Planned.{Planned};
 ghost use Rattle.messages.specs.Calls.{written};
@@ -51,41 +51,6 @@ fn share(f: Field, t: usize, secret: u64, coins: &[u8], at: usize, x: u64) -> u6
 
 // ---- call 0: the party's own inputs
 
-fn is_input_of(i: usize, gate: Gate) -> bool
-    ensures { λ r. ⌜ r ≡ isInputOf i gate ⌝ }
-{
-    match gate {
-        Gate::Input(party) => i == party,
-        Gate::Add(_, _) => false,
-        Gate::Scale(_, _) => false,
-        Gate::Offset(_, _) => false,
-        Gate::Multiply(_, _) => false,
-    }
-}
-
-// How many dealings party i has at a gate: one at its inputs, and one at each multiply gate if it is a dealer.
-fn dealings_at(plan: &[u8], h: Header, i: usize, gate: Gate) -> usize
-    requires { ⌜ Planned (now plan) h ⌝ }
-    ensures { λ r. ⌜ record { eq : r ≡ cond (deals (planOf (now (plan .entry))) i gate) 1 0; le : r ≤ 1 } ⌝ }
-{
-    match gate {
-        Gate::Input(party) => one_if(i == party),
-        Gate::Add(_, _) => 0,
-        Gate::Scale(_, _) => 0,
-        Gate::Offset(_, _) => 0,
-        Gate::Multiply(_, _) => one_if(i <= h.t + h.t + 1),
-    }
-}
-
-fn one_if(t: bool) -> usize
-    ensures { λ r. ⌜ record { eq : r ≡ cond t 1 0; le : r ≤ 1 } ⌝ }
-{
-    if t {
-        return 1;
-    }
-    0
-}
-
 // Writes party i's share at x of a gate that is an input of its own; answers the next place.
 fn send_input(
     h: Header,
@@ -103,7 +68,7 @@ fn send_input(
     requires { ⌜ place ≤ 65536 ⌝ }
     ensures { λ r. ⌜ Sent (cond (isInputOf i gate) (eval (h .field .p) (secret ∷ coinsFrom (h .t) from (numbers (now (coins .entry)))) x ∷ []) []) place (now (out .entry)) (now (out .exit)) r ⌝ }
 {
-    if !is_input_of(i, gate) {
+    if !counts::is_input_of(i, gate) {
         return place;
     }
     numbers::write(out, place, share(h.field, h.t, secret, coins, from, x));
@@ -131,10 +96,10 @@ fn send_inputs_to(
     let mut k: usize = 0;
     let mut g: usize = 0;
     while g < h.gates {
-        let gate = plan::gate_at(plan, g);
+        let gate = plan::gate_in(plan, g);
         let secret = numbers::read(inputs, place - at);
         place = send_input(h, i, gate, secret, coins, h.t * k, x, place, out);
-        k += dealings_at(plan, h, i, gate);
+        k += numbers::one_if(counts::is_dealer(plan, h, i, gate));
         g += 1;
     }
     place
@@ -213,7 +178,7 @@ fn send_product(
         return;
     }
     let g = counts::multiply_wire(plan, h, k);
-    let secret = product(h.field, plan::gate_at(plan, g), shares);
+    let secret = product(h.field, plan::gate_in(plan, g), shares);
     let d = counts::dealings_below(plan, h, i, g);
     deal(h, secret, coins, h.t * d, out);
 }
@@ -329,10 +294,11 @@ fn results(plan: &[u8], h: Header, mail: &[u8], out: &mut [u8])
 
 // ---- the call
 
-// Writes what party i's call number k sends, or in the last call its results.
+// Writes what party i's call number k sends, or in the last call its results. The plan has m multiplies.
 pub fn send(
     plan: &[u8],
     h: Header,
+    m: usize,
     i: usize,
     k: usize,
     inputs: &[u8],
@@ -342,6 +308,7 @@ pub fn send(
     out: &mut [u8],
 )
     requires { ⌜ Planned (now plan) h ⌝ }
+    requires { ⌜ m ≡ multiplies (planOf (now plan)) ⌝ }
     requires { ⌜ Lent (planOf (now plan)) i k (now inputs) (now coins) (now shares) (now mail) (now out) ⌝ }
     ensures { λ _. ⌜ numbers (now (out .exit)) ≡ written (planOf (now (plan .entry))) k (callWith (planOf (now (plan .entry))) i k (numbers (now (inputs .entry))) (numbers (now (coins .entry))) (numbers (now (shares .entry))) (numbers (now (mail .entry)))) ⌝ }
 {
@@ -349,7 +316,6 @@ pub fn send(
         send_inputs(plan, h, i, inputs, coins, out);
         return;
     }
-    let m = counts::multiply_count(plan, h);
     if k <= m {
         send_product(plan, h, i, k - 1, coins, shares, out);
         return;

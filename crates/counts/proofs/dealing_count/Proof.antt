@@ -2,11 +2,8 @@ use Rattle.counts.proofs.Sizes.{sizing}
 use Rattle.counts.proofs.dealing_count.Statement.{statement}
 use Rattle.counts.proofs.dealing_count.Tie as tie
 
-input-count-requires : tie.Need-input-count-requires
-input-count-requires c κs = search sizing
-
-multiply-count-requires : tie.Need-multiply-count-requires
-multiply-count-requires c κs = search sizing
+tally-of-requires : tie.Need-tally-of-requires
+tally-of-requires c κs = search sizing
 
 add-result : tie.Need-add-result
 add-result c = search sizing
@@ -25,12 +22,4 @@ returns c = search sizing
 
 pub dealing-count-spec : {M : Type 1} → statement M
 dealing-count-spec =
-    tie.close
-    (tie.spec
-    input-count-requires
-    multiply-count-requires
-    add-result
-    add-result-2
-    mul-result
-    add-result-3
-    returns)
+    tie.close (tie.spec tally-of-requires add-result add-result-2 mul-result add-result-3 returns)

@@ -13,8 +13,8 @@ abbrev μ-loop : tie.MeasureT-loop
 loop-holds : tie.Need-loop-holds Inv-loop μ-loop
 loop-holds c = search wiring
 
-gate-at-requires : tie.Need-gate-at-requires Inv-loop μ-loop
-gate-at-requires c κs = search wiring
+gate-in-requires : tie.Need-gate-in-requires Inv-loop μ-loop
+gate-in-requires c κs = search wiring
 
 is-multiply-requires : tie.Need-is-multiply-requires Inv-loop μ-loop
 is-multiply-requires c κs = search wiring
@@ -44,7 +44,7 @@ multiply-wire-spec =
     Inv-loop
     μ-loop
     loop-holds
-    gate-at-requires
+    gate-in-requires
     is-multiply-requires
     returns
     sub-left

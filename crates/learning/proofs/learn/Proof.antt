@@ -17,9 +17,6 @@ returns-2 c = search learning
 sub-if3 : tie.Need-sub-if3
 sub-if3 c = search learning
 
-multiply-count-requires : tie.Need-multiply-count-requires
-multiply-count-requires c κs = search learning
-
 sub-learn-product : tie.Need-sub-learn-product
 sub-learn-product c = search learning
 
@@ -44,7 +41,6 @@ learn-spec =
     same-length
     returns-2
     sub-if3
-    multiply-count-requires
     sub-learn-product
     learn-product-requires
     same-length-2

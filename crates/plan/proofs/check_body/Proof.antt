@@ -1,4 +1,5 @@
 use Rattle.plan.proofs.Ways.{body}
+use Rattle.plan.proofs.Planned.{laid-gates}
 use Rattle.plan.proofs.check_body.Statement.{statement}
 use Rattle.plan.proofs.check_body.Tie as tie
 
@@ -9,7 +10,7 @@ returns : tie.Need-returns
 returns c = search body
 
 first-bad-gate-requires : tie.Need-first-bad-gate-requires
-first-bad-gate-requires c κs = search body
+first-bad-gate-requires c κs = search (body, laid-gates)
 
 enum-known-g : tie.Need-enum-known-g
 enum-known-g c = search body

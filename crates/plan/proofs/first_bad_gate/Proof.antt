@@ -23,8 +23,8 @@ word-requires-2 c κs = search seeking
 loop-holds : tie.Need-loop-holds Inv-loop μ-loop
 loop-holds c = search seeking
 
-gate-at-requires : tie.Need-gate-at-requires Inv-loop μ-loop
-gate-at-requires c κs = search seeking
+gate-in-requires : tie.Need-gate-in-requires Inv-loop μ-loop
+gate-in-requires c κs = search seeking
 
 gate-ok-requires : tie.Need-gate-ok-requires Inv-loop μ-loop
 gate-ok-requires c κs = search seeking
@@ -54,7 +54,7 @@ first-bad-gate-spec =
     word-requires
     word-requires-2
     loop-holds
-    gate-at-requires
+    gate-in-requires
     gate-ok-requires
     returns
     add-g

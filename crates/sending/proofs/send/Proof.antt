@@ -11,9 +11,6 @@ same-length c = search calling
 returns : tie.Need-returns
 returns c = search calling
 
-multiply-count-requires : tie.Need-multiply-count-requires
-multiply-count-requires c κs = search calling
-
 sub-send-product : tie.Need-sub-send-product
 sub-send-product c = search calling
 
@@ -54,7 +51,6 @@ send-spec =
     send-inputs-requires
     same-length
     returns
-    multiply-count-requires
     sub-send-product
     send-product-requires
     same-length-2

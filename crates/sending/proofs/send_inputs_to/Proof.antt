@@ -12,8 +12,8 @@ abbrev μ-loop : tie.MeasureT-loop
 loop-holds : tie.Need-loop-holds Inv-loop μ-loop
 loop-holds c = search inputting
 
-gate-at-requires : tie.Need-gate-at-requires Inv-loop μ-loop
-gate-at-requires c κs = search inputting
+gate-in-requires : tie.Need-gate-in-requires Inv-loop μ-loop
+gate-in-requires c κs = search inputting
 
 sub-read : tie.Need-sub-read Inv-loop μ-loop
 sub-read c = search inputting
@@ -27,8 +27,11 @@ mul-send-input c = record { fits = search inputs-fit }
 send-input-requires : tie.Need-send-input-requires Inv-loop μ-loop
 send-input-requires c κs = search inputting
 
-dealings-at-requires : tie.Need-dealings-at-requires Inv-loop μ-loop
-dealings-at-requires c κs = search inputting
+is-dealer-requires : tie.Need-is-dealer-requires Inv-loop μ-loop
+is-dealer-requires c κs = search inputting
+
+one-if-requires : tie.Need-one-if-requires Inv-loop μ-loop
+one-if-requires c κs = search inputting
 
 add-k : tie.Need-add-k Inv-loop μ-loop
 add-k c = search inputting
@@ -55,12 +58,13 @@ send-inputs-to-spec =
     Inv-loop
     μ-loop
     loop-holds
-    gate-at-requires
+    gate-in-requires
     sub-read
     read-requires
     mul-send-input
     send-input-requires
-    dealings-at-requires
+    is-dealer-requires
+    one-if-requires
     add-k
     add-g
     loop-less

@@ -14,8 +14,8 @@ returns c = search product-sending
 multiply-wire-requires : tie.Need-multiply-wire-requires
 multiply-wire-requires c κs = search product-sending
 
-gate-at-requires : tie.Need-gate-at-requires
-gate-at-requires c κs = search product-sending
+gate-in-requires : tie.Need-gate-in-requires
+gate-in-requires c κs = search product-sending
 
 product-requires : tie.Need-product-requires
 product-requires c κs = search product-sending
@@ -43,7 +43,7 @@ send-product-spec =
     add-if1-2
     returns
     multiply-wire-requires
-    gate-at-requires
+    gate-in-requires
     product-requires
     dealings-below-requires
     mul-deal

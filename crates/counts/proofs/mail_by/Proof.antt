@@ -1,21 +1,15 @@
 use Rattle.counts.proofs.Sizes.{by-n-64-fits, sizing}
-use Rattle.counts.proofs.mail_count.Statement.{statement}
-use Rattle.counts.proofs.mail_count.Tie as tie
+use Rattle.counts.proofs.mail_by.Statement.{statement}
+use Rattle.counts.proofs.mail_by.Tie as tie
 
 returns : tie.Need-returns
 returns c = search sizing
-
-input-count-requires : tie.Need-input-count-requires
-input-count-requires c κs = search sizing
 
 returns-2 : tie.Need-returns-2
 returns-2 c = search sizing
 
 sub-if3 : tie.Need-sub-if3
 sub-if3 c = search sizing
-
-multiply-count-requires : tie.Need-multiply-count-requires
-multiply-count-requires c κs = search sizing
 
 add-result : tie.Need-add-result
 add-result c = search sizing
@@ -35,15 +29,13 @@ mul-result c = search by-n-64-fits
 returns-4 : tie.Need-returns-4
 returns-4 c = search sizing
 
-pub mail-count-spec : {M : Type 1} → statement M
-mail-count-spec =
+pub mail-by-spec : {M : Type 1} → statement M
+mail-by-spec =
     tie.close
     (tie.spec
     returns
-    input-count-requires
     returns-2
     sub-if3
-    multiply-count-requires
     add-result
     add-result-2
     returns-3

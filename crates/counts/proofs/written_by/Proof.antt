@@ -1,18 +1,12 @@
 use Rattle.counts.proofs.Sizes.{sizing}
-use Rattle.counts.proofs.written_count.Statement.{statement}
-use Rattle.counts.proofs.written_count.Tie as tie
-
-own-input-count-requires : tie.Need-own-input-count-requires
-own-input-count-requires c κs = search sizing
+use Rattle.counts.proofs.written_by.Statement.{statement}
+use Rattle.counts.proofs.written_by.Tie as tie
 
 mul-result : tie.Need-mul-result
 mul-result c = search sizing
 
 returns : tie.Need-returns
 returns c = search sizing
-
-multiply-count-requires : tie.Need-multiply-count-requires
-multiply-count-requires c κs = search sizing
 
 sub-if2 : tie.Need-sub-if2
 sub-if2 c = search sizing
@@ -41,14 +35,12 @@ own-out-count-requires c κs = search sizing
 returns-4 : tie.Need-returns-4
 returns-4 c = search sizing
 
-pub written-count-spec : {M : Type 1} → statement M
-written-count-spec =
+pub written-by-spec : {M : Type 1} → statement M
+written-by-spec =
     tie.close
     (tie.spec
-    own-input-count-requires
     mul-result
     returns
-    multiply-count-requires
     sub-if2
     add-sent-by
     add-sent-by-2
