@@ -15,7 +15,7 @@ use lib.ListN.{length, getD, take, drop, take-append-drop}
 use lib.Seq.{take-suc, take-all, drop-drop, getD-drop, length-take-le}
 use Rattle.numbers.specs.Tables.{tab, countWhere}
 use Rattle.numbers.specs.Bytes.{numbers, stored}
-use Rattle.field.specs.Field.{Is}
+use Rattle.field.specs.Field.{Is, Ready}
 use Rattle.numbers.proofs.Bytes.{numbers-length}
 use Rattle.numbers.proofs.Tables.{length-tab, getD-tab, tab-map, tab-ext}
 use Rattle.numbers.proofs.Counts.{countWhere-append, countWhere-le-length, countWhere-take-suc, Counted, count-none, count-next}
