@@ -24,7 +24,7 @@ use Rattle.polynomials.specs.Poly.{sumOf, scale, padded}
 use Rattle.polynomials.specs.Interp.{All, delta}
 use Rattle.polynomials.specs.Sharing.{matched}
 use Rattle.polynomials.proofs.Deltas.{length-delta}
-use Rattle.delta.proofs.Factors.{padded-below, delta-below}
+use Rattle.polynomials.proofs.Elements.{padded-below, delta-below}
 use Rattle.plan.specs.declared.Header.{Header}
 use Rattle.plan.specs.Plans.{Plan, pointOf}
 use Rattle.plan.specs.File.{planOf}

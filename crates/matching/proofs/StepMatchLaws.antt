@@ -23,7 +23,7 @@ use Rattle.field.specs.Mod.{mul}
 use Rattle.field.proofs.Inverse.{pos}
 use Rattle.polynomials.specs.Interp.{All}
 use Rattle.sharing.proofs.Coding.{map-tab}
-use Rattle.delta.proofs.Factors.{scale-below, sum-below}
+use Rattle.polynomials.proofs.Elements.{scale-below, sum-below}
 use Rattle.plan.specs.declared.Gate.{Gate}
 use Rattle.plan.specs.declared.Gate.the-variants.{Input, Add, Scale, Offset, Multiply}
 use Rattle.plan.specs.declared.Header.{Header}

@@ -4,3 +4,4 @@ pub mod Roots
 pub mod Deltas
 pub mod Shares
 pub mod Worked
+pub mod Elements

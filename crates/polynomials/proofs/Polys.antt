@@ -1,12 +1,12 @@
 -- The values and the lengths of sums, products and quotients of polynomials.
-use mathlib.Core.Path.{_≡_, refl, sym, ap, _∙_}
-use mathlib.Core.List.{List, [], _∷_, map}
+use mathlib.Core.Path.{_≡_, refl, sym, ap, ap₂, _∙_}
+use mathlib.Core.List.{List, [], _∷_, _++_, map}
 use Prim.Native.Nat.{ℕ, zero, suc, _+_, _*_, _-_, _%_, _≤_, _<_, max}
 use native.Mathlib.Omega.{arith}
-use lib.ListN.{length, length-map}
+use lib.ListN.{length, replicate, length-map}
 use Rattle.field.proofs.Solve.{Canon, zero-canon, add-canon, #, quote, solve, combine}
 use Rattle.field.specs.Mod.{add, mul, sub}
-use Rattle.polynomials.specs.Poly.{eval, sumOf, scale, product, linear}
+use Rattle.polynomials.specs.Poly.{eval, sumOf, scale, product, linear, padded}
 
 -- the quotient of f by X - x, whose remainder is the value at x: the values at x of f's tails
 unfoldable pub tailsAt : ℕ → ℕ → List ℕ → List ℕ
@@ -37,6 +37,22 @@ pub eval-product : (p : ℕ) (f g : List ℕ) (x : ℕ) → eval p (product p f 
 unfolding eval product
 eval-product p [] g x = solve p (search (quote, # (eval p g x))) (omega arith)
 eval-product p (a ∷ f) g x = rw (eval-sum p (scale p a g) (0 ∷ product p f g) x, eval-scale p a g x, eval-product p f g x) (solve p (search (quote, # a, # x, # (eval p f x), # (eval p g x)) depth 7) (omega arith))
+
+-- zeros above a polynomial change no value
+eval-zeros : (p k x : ℕ) → eval p (replicate k 0) x ≡ 0
+unfolding eval
+eval-zeros p zero x = refl
+eval-zeros p (suc k) x = rw (eval-zeros p k x) (solve p (search (quote, # x)) (omega arith))
+
+eval-above : (p k : ℕ) (f : List ℕ) (x : ℕ) → eval p (f ++ replicate k 0) x ≡ eval p f x
+unfolding eval
+eval-above p k [] x = eval-zeros p k x
+eval-above p k (a ∷ f) x = ap (λ (v : ℕ). add p a (mul p x v)) (eval-above p k f x)
+
+pub values-padded : (p n : ℕ) (f xs : List ℕ) → map (eval p (padded n f)) xs ≡ map (eval p f) xs
+unfolding padded
+values-padded p n f [] = refl
+values-padded p n f (x ∷ xs) = ap₂ (λ (v : ℕ) (l : List ℕ). v ∷ l) (eval-above p (n - length f) f x) (values-padded p n f xs)
 
 pub length-sum : (p : ℕ) (f g : List ℕ) → length (sumOf p f g) ≡ max (length f) (length g)
 unfolding sumOf

@@ -1,31 +1,34 @@
 -- The code of dealings: a polynomial read from the coins, its pieces by the power rows, a grid of pieces, and its columns weighed and summed.
 --     Reading, reading        the loop that reads a dealing's coins
 --     Piecing, piecing        the loop over the receivers
---     Weighed, weighing       the loop down a column
+--     Weighed                 a column weighed and summed
+--     weighing, resting       the loops over a row and over the sums
 -- Assumes nothing.
-use mathlib.Core.Path.{_≡_, refl, sym, ap, _∙_}
+use mathlib.Core.Path.{_≡_, refl, sym, ap, ap₂, _∙_}
 use mathlib.Core.Bool.{true}
-use mathlib.Core.List.{List, [], _∷_, map}
+use mathlib.Core.List.{List, [], _∷_, _++_, map}
 use Prim.Native.Nat.{ℕ, suc, _+_, _-_, _*_, _/_, _%_, _^_, _<_, _≤_}
 use native.Mathlib.Numerals.{add-one}
-use native.Mathlib.Nat.{add-sub-cancel-left, mul-suc, mul-zero}
+use native.Mathlib.Nat.{add-sub-cancel-left, mul-suc, mul-zero, mul-le-mul-right}
 use native.Mathlib.Omega.{arith}
 use borrow.Author.Needs.{needs}
-use lib.ListN.{length, take, drop, set, getD, replicate, length-set, length-drop, length-map, List·getD-map}
-use lib.Seq.{take-suc, take-suc-set, getD-take, getD-drop, length-take-le}
+use lib.ListN.{length, take, drop, set, getD, replicate, length-set, length-drop, length-map, take-append-drop, List·getD-map}
+use lib.Seq.{take-suc, take-suc-set, getD-take, getD-drop, drop-drop, drop-set-lt, length-take-le}
 use mir.Syntax.{w64}
 use mir.Val.{Fits}
 use Rattle.numbers.specs.Tables.{tab}
 use Rattle.numbers.specs.Bytes.{numbers, allBelow}
 use Rattle.numbers.proofs.Tables.{length-tab}
+use Rattle.numbers.proofs.Below.{allBelow-at}
 use Rattle.numbers.proofs.Bytes.{numbers-length}
 use Rattle.field.specs.Mod.{add, mul}
-use Rattle.field.specs.Field.{Is, Ready}
-use Rattle.polynomials.specs.Poly.{eval}
+use Rattle.field.specs.Field.{Below2, Is, reciprocal, Reducible, Ready}
+use Rattle.field.proofs.Products.{word}
+use Rattle.polynomials.specs.Poly.{eval, padded}
 use Rattle.polynomials.specs.Interp.{dot}
-use Rattle.sharing.proofs.Coding.{map-tab, Summed, sum-none, sum-more, sum-whole, sum-fits, term-fits}
-use Rattle.tables.specs.Rows.{powers, Powered, column}
-use Rattle.tables.proofs.RowLaws.{Making, make-none, make-next, made, row-room}
+use Rattle.sharing.proofs.Coding.{entry-below, map-tab, plain-bound, Summed, sum-none, sum-more, sum-whole}
+use Rattle.tables.specs.Rows.{powers, Powered, column, addedAt, added, rests}
+use Rattle.tables.proofs.RowLaws.{Making, make-none, make-next, made, Changing, unchanged-at, change-none, change-next, changed, row-room, drop-zeros}
 use Rattle.tables.proofs.PowerLaws.{eval-powers, length-powers, powers-below, power-row}
 
 -- ---- a dealing's polynomial: the value, then i coins stand
@@ -33,11 +36,11 @@ pub record Reading (v : ℕ) (cs : List ℕ) (at t : ℕ) (d : List ℕ) (i : �
   pub within : i ≤ t
   pub long : length d ≡ 8
   pub front : take (i + 1) d ≡ v ∷ take i (drop at cs)
+  pub rest : drop (i + 1) d ≡ drop (i + 1) (replicate 8 0)
 
 module _ (v : ℕ) (coins : List ℕ) (at t : ℕ) where
-  pub read-none : (d : List ℕ) → length d ≡ 8 → Reading v (numbers coins) at t (set d 0 v) 0
-  read-none (x ∷ d) e = record { within = omega arith; long = e; front = refl }
-  read-none [] e = absurd (omega arith)
+  pub read-none : Reading v (numbers coins) at t (set (replicate 8 0) 0 v) 0
+  read-none = record { within = omega arith; long = refl; front = refl; rest = refl }
 
   module _ (d : List ℕ) (i : ℕ) (h : Reading v (numbers coins) at t d i) where
     pub read-next : (c : ℕ) → t < 8 → at + t ≤ length coins / 2 → i < t → c ≡ getD (numbers coins) (at + i) 0 → Reading v (numbers coins) at t (set d (i + 1) c) (i + 1)
@@ -48,10 +51,16 @@ module _ (v : ℕ) (coins : List ℕ) (at t : ℕ) where
           within = omega arith;
           long = length-set d (i + 1) c ∙ h .long;
           front = rw (add-one (i + 1), take-suc-set d (i + 1) c (omega (arith, h .long)), h .front, add-one i, take-suc (drop at (numbers coins)) i 0 lt, is);
+          rest = drop-set-lt (i + 1 + 1) d (i + 1) c (omega arith) ∙ sym (drop-drop 1 (i + 1) d) ∙ ap (drop 1) (h .rest) ∙ drop-drop 1 (i + 1) (replicate 8 0);
         }
 
-    pub read-all : t ≤ i → take (t + 1) d ≡ v ∷ take t (drop at (numbers coins))
-    read-all l = let q : i ≡ t = omega (arith, h .within) in rw (← q) (h .front)
+    pub read-all : t ≤ i → at + t ≤ length coins / 2 → d ≡ padded 8 (v ∷ take t (drop at (numbers coins)))
+    unfolding padded
+    read-all l room =
+        let q : i ≡ t = omega (arith, h .within) in
+        let long : length (v ∷ take t (drop at (numbers coins))) ≡ i + 1 = omega (arith, length-take-le t (drop at (numbers coins)) (rw (length-drop, numbers-length) (omega arith))) in
+        sym (take-append-drop (i + 1) d)
+        ∙ ap₂ _++_ (h .front ∙ ap (λ (k : ℕ). v ∷ take k (drop at (numbers coins))) q) (h .rest ∙ drop-zeros (i + 1) 8 ∙ ap (λ (k : ℕ). replicate (8 - k) 0) (sym long))
 
     pub coin-fits : length coins * 1 < 2 ^ 63 → at + t ≤ length coins / 2 → i < t → Fits w64 (at + i)
     coin-fits f room l = record { fits = omega arith }
@@ -95,10 +104,10 @@ module _ (p k n : ℕ) (f : List ℕ) where
       pub row-long : length (take (at + k - at) (drop at rows)) ≡ k
       row-long = ap length row-is ∙ length-powers p (getD (tab suc n) j 0) k
 
-      pub row-short : (g : List ℕ) → length g ≡ 8 → k ≤ 8 → length (take (at + k - at) (drop at rows)) ≤ length (take k g)
-      row-short g e m = omega (arith, row-long, length-take-le k g (omega arith))
+      pub row-short : (g : List ℕ) → length g ≡ k → length (take (at + k - at) (drop at rows)) ≤ length g
+      row-short g e = omega (arith, row-long)
 
-      pub row-small : k ≤ 8 → length (take (at + k - at) (drop at rows)) ≤ 65536
+      pub row-small : k ≤ 16 → length (take (at + k - at) (drop at rows)) ≤ 16
       row-small m = omega (arith, row-long)
 
       pub piece-next : (v : ℕ) → n ≤ 15 → length f ≡ k → Is p (dot p (take (at + k - at) (drop at rows)) f) v → Piecing p k n f (set d j v) (at + k) (j + 1)
@@ -107,10 +116,10 @@ module _ (p k n : ℕ) (f : List ℕ) where
           let q : v ≡ eval p f x = is .eq ∙ ap (λ (ws : List ℕ). dot p ws f) row-is ∙ rw (← e) (eval-powers p f x) in
           record { place = omega (arith, h .place, mul-suc k j, add-one j); fills = make-next _ n d j (h .fills) v m l q }
 
-pub first-long : (k : ℕ) (g : List ℕ) → length g ≡ 8 → k ≤ 8 → length (take k g) ≡ k
-first-long k g e m = length-take-le k g (omega arith)
+pub ready-above : (p : ℕ) → Ready p → 1 < p
+ready-above p r = r .prime .above
 
-pub ruleset piecing = (needs, piece-none, pieces-made, row-within, row-end-fits, row-start-fits, row-below, row-short, row-small, piece-next, first-long)
+pub ruleset piecing = (needs, ready-above, piece-none, pieces-made, row-within, row-end-fits, row-start-fits, row-below, row-short, row-small, piece-next)
 
 -- ---- a column weighed and summed
 module _ (grid : List (List ℕ)) (j m : ℕ) where
@@ -140,13 +149,55 @@ module _ (ws : List ℕ) (grid : List (List ℕ)) (j : ℕ) where
         let long : length (take (length ws) (column grid j)) ≡ length ws = length-take-le (length ws) (column grid j) (rw length-map (omega arith)) in
         rw (← column-entry grid j (length ws) d l) (sum-more ws (take (length ws) (column grid j)) p sum d r hw hv (omega arith) s l)
 
-    pub weigh-fits : length ws ≤ 15 → d < length ws → sum + getD ws d 0 * getD (getD grid d []) j 0 < 2 ^ 64
-    weigh-fits m l = rw (← column-entry grid j (length ws) d l) (sum-fits ws (take (length ws) (column grid j)) p sum d r hw hv (omega arith) s)
-
-    pub weight-fits : d < length ws → getD ws d 0 * getD (getD grid d []) j 0 < 2 ^ 64
-    weight-fits l = rw (← column-entry grid j (length ws) d l) (term-fits ws (take (length ws) (column grid j)) p sum d r hw hv)
-
     pub weighed : length ws ≤ d → Is p (dot p ws (column grid j)) (sum % p)
     weighed l = rw (← dot-first p ws (column grid j)) (sum-whole ws (take (length ws) (column grid j)) p sum d r l s)
 
-pub ruleset weighing = (needs, weigh-none, weigh-next, weigh-fits, weight-fits, weighed)
+    -- at most 15 products
+    pub weighed-small : length ws ≤ 15 → sum < 16 * (p * p) + 1
+    weighed-small m = omega (arith, s .whole, plain-bound p ws (take (length ws) (column grid j)) r hw hv, mul-le-mul-right (p * p) m)
+
+-- ---- a row weighed and added to the sums, and the sums' remainders
+-- each sum is one of at most 16 products
+module _ (p : ℕ) (r : Ready p) (f : ℕ → ℕ) (d₀ d : List ℕ) (j : ℕ) (h : Changing f d₀ d j) (small : allBelow (16 * (p * p) + 1) d₀ ≡ true) (l : j < length d) where
+  sum-here : getD d j 0 ≤ 16 * (p * p)
+  sum-here = rw (unchanged-at f d₀ d j h) (omega (arith, allBelow-at (16 * (p * p) + 1) d₀ j small (omega (arith, h .filled .long))))
+
+  pub sum-reducible : (m : ℕ) → m ≡ reciprocal p → Reducible p m (getD d j 0)
+  sum-reducible m e = record { above = r .prime .above; small = r .small; by = e; sum = sum-here }
+
+  module _ (w : ℕ) (row : List ℕ) (lw : w < p) (b : allBelow p (take (length d₀) row) ≡ true) where
+    entry-small : getD row j 0 < p
+    entry-small = rw (getD-take (length d₀) row j 0 (omega (arith, h .filled .long))) at (entry-below p (take (length d₀) row) j r b)
+
+    pub weight-below : Below2 p w (getD row j 0)
+    weight-below = record { above = r .prime .above; small = r .small; left = lw; right = entry-small }
+
+    pub sum-fits : (y : ℕ) → y ≡ w * getD row j 0 → getD d j 0 + y < 2 ^ 64
+    sum-fits y e =
+        omega (arith, sum-here, r .small, word p p (r .small) (r .small), word w (getD row j 0) (omega (arith, r .small)) (omega (arith, r .small, entry-small)))
+
+module _ (w : ℕ) (row d₀ d : List ℕ) (j : ℕ) (h : Changing (addedAt w row d₀) d₀ d j) where
+  pub add-next : (y : ℕ) → j < length d → y ≡ w * getD row j 0 → Changing (addedAt w row d₀) d₀ (set d j (getD d j 0 + y)) (j + 1)
+  unfolding addedAt
+  add-next y l e = change-next (addedAt w row d₀) d₀ d j h (getD d j 0 + y) l (ap₂ _+_ (unchanged-at (addedAt w row d₀) d₀ d j h) e)
+
+  pub all-added : length d ≤ j → d ≡ added w row d₀
+  unfolding added
+  all-added l = changed (addedAt w row d₀) d₀ d j h l
+
+pub ruleset weighing = (needs, change-none, sum-fits, weight-below, add-next, all-added)
+
+-- the remainder of entry j
+unfoldable pub restAt : ℕ → List ℕ → ℕ → ℕ
+restAt p sums j = getD sums j 0 % p
+
+module _ (p : ℕ) (d₀ d : List ℕ) (j : ℕ) (h : Changing (restAt p d₀) d₀ d j) where
+  pub rest-next : (v : ℕ) → j < length d → Is p (getD d j 0 % p) v → Changing (restAt p d₀) d₀ (set d j v) (j + 1)
+  unfolding restAt
+  rest-next v l e = change-next (restAt p d₀) d₀ d j h v l (e .eq ∙ ap (λ (x : ℕ). x % p) (unchanged-at (restAt p d₀) d₀ d j h))
+
+  pub all-rests : length d ≤ j → d ≡ rests p d₀
+  unfolding restAt rests
+  all-rests l = changed (restAt p d₀) d₀ d j h l ∙ sym (map-tab (λ x. x % p) d₀)
+
+pub ruleset resting = (needs, ready-above, change-none, sum-reducible, rest-next, all-rests)

@@ -122,10 +122,10 @@ standing-row p n g w table s l = record {
 
 -- ---- what is prepared
 module _ (h : Header) (rows ws : List ℕ) (prepared : Prepared h rows ws) where
-  pub powered : Powered (h .field .p) (h .t + 1) (tab suc (h .n)) rows
+  pub powered : Powered (h .field .p) 8 (tab suc (h .n)) rows
   powered = record {
     room = rw (length-tab suc (h .n)) (prepared .room);
-    front = ap (λ (n : ℕ). take ((h .t + 1) * n) rows) (length-tab suc (h .n)) ∙ prepared .powers;
+    front = ap (λ (n : ℕ). take (8 * n) rows) (length-tab suc (h .n)) ∙ prepared .powers;
   }
 
   pub weights-stand : h .t + h .t + 1 ≤ length ws

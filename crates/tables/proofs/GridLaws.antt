@@ -1,34 +1,38 @@
 -- The grid of pieces of a multiply gate.
 --     sharing-at, length-sharings      the polynomial of one dealing
 --     Gridding, gridding               the loop over the dealers
---     reducing                         the loop over the receivers
+--     Weighing, reducing               the loop over the rows that are weighed and summed
 -- Assumes nothing.
 use mathlib.Core.Path.{_≡_, refl, sym, ap, ap₂, _∙_}
 use mathlib.Core.Bool.{Bool, true, false}
-use mathlib.Core.List.{List, [], _∷_, map}
-use Prim.Native.Nat.{ℕ, zero, suc, _+_, _*_, _/_, _^_, _<_, _≤_}
+use mathlib.Core.List.{List, [], _∷_, _++_, map}
+use Prim.Native.Nat.{ℕ, zero, suc, _+_, _*_, _/_, _%_, _^_, _<_, _≤_}
 use native.Mathlib.Numerals.{add-one}
 use native.Mathlib.Nat.{mul-suc, mul-zero, add-zero}
 use native.Mathlib.Omega.{arith}
 use borrow.Author.Needs.{needs}
 use borrow.Author.Tests.{lt-ltb, eqb-true, eqb-false}
 use lib.Dec.{eqb}
-use lib.ListN.{length, take, drop, set, getD, length-set, length-map, List·getD-map}
-use lib.Seq.{getD-set-same, getD-set-other, getD-take, drop-drop, ext-getD, length-take-le}
+use lib.ListN.{length, take, drop, set, getD, replicate, length-set, length-map, length-take, length-drop, length-append, length-replicate, getD-replicate, List·getD-append, List·getD-map}
+use lib.Seq.{getD-set-same, getD-set-other, getD-take, take-at, drop-drop, ext-getD, length-take-le}
 use mir.Syntax.{w64}
 use mir.Val.{Fits}
 use Rattle.numbers.specs.Tables.{tab}
 use Rattle.numbers.specs.Bytes.{numbers, allBelow}
-use Rattle.numbers.proofs.Tables.{length-tab, getD-tab}
-use Rattle.numbers.proofs.Below.{allBelow-at, allBelow-take, allBelow-drop}
+use Rattle.numbers.proofs.Tables.{length-tab, getD-tab, tab-ext}
+use Rattle.numbers.proofs.Below.{allBelow-at, at-allBelow, allBelow-take, allBelow-drop}
 use Rattle.numbers.proofs.Bytes.{numbers-length}
-use Rattle.polynomials.specs.Poly.{eval}
+use Rattle.polynomials.specs.Poly.{eval, padded}
+use Rattle.polynomials.specs.Interp.{dot}
+use Rattle.field.proofs.Inverse.{pos}
 use Rattle.field.specs.Field.{Ready}
-use Rattle.sharing.proofs.Coding.{map-tab}
+use Rattle.sharing.proofs.Coding.{entry-below, map-tab}
+use Rattle.polynomials.proofs.Polys.{values-padded}
+use Rattle.polynomials.proofs.Elements.{padded-below}
 use Rattle.protocol.specs.Shares.{sharings}
-use Rattle.tables.specs.Rows.{column, Coined, Dealt, Elements}
-use Rattle.tables.proofs.RowLaws.{making, part-front, row-room}
-use Rattle.tables.proofs.DealLaws.{column-entry}
+use Rattle.tables.specs.Rows.{column, addedAt, added, rests, Coined, Dealt, Elements}
+use Rattle.tables.proofs.RowLaws.{part-front, row-room}
+use Rattle.tables.proofs.DealLaws.{column-entry, Weighed, weigh-none, weigh-next, weighed, weighed-small}
 
 -- ---- the polynomials of dealings
 pub length-sharings : (t : ℕ) (ss cs : List ℕ) → length (sharings t ss cs) ≡ length ss
@@ -85,12 +89,12 @@ module _ (p t n m : ℕ) (ss coins : List ℕ) (at : ℕ) where
       pub place-fits : length coins < 2 ^ 64 → Fits w64 (place + t)
       place-fits f = record { fits = omega (arith, grid-coins) }
 
-      pub polynomial-below : (f : List ℕ) → Ready p → allBelow p (take m ss) ≡ true → length ss ≡ 15 → m ≤ 15 → take (t + 1) f ≡ getD ss d 0 ∷ take t (drop place (numbers coins)) → allBelow p (take (t + 1) f) ≡ true
+      pub polynomial-below : (f : List ℕ) → Ready p → allBelow p (take m ss) ≡ true → length ss ≡ 15 → m ≤ 15 → f ≡ padded 8 (getD ss d 0 ∷ take t (drop place (numbers coins))) → allBelow p f ≡ true
       polynomial-below f r b e le is =
           let v : getD ss d 0 < p = rw (getD-take m ss d 0 l) at (allBelow-at p (take m ss) d b (rw (length-take-le m ss (omega arith)) l)) in
-          rw (is, h .coins) (below-cons p (getD ss d 0) _ v (coins-below p t m at (numbers coins) c d l))
+          rw (is, h .coins) (padded-below p (pos (r .prime)) 8 _ (below-cons p (getD ss d 0) _ v (coins-below p t m at (numbers coins) c d l)))
 
-    pub grid-next : (f row : List ℕ) → d < m → m ≤ 15 → take (t + 1) f ≡ getD ss d 0 ∷ take t (drop place (numbers coins)) → take n row ≡ map (eval p (take (t + 1) f)) (tab suc n)
+    pub grid-next : (f row : List ℕ) → d < m → m ≤ 15 → f ≡ padded 8 (getD ss d 0 ∷ take t (drop place (numbers coins))) → take n row ≡ map (eval p f) (tab suc n)
         → Gridding p t n m ss (numbers coins) at (set grid d row) (place + t) (d + 1)
     grid-next f row l le is dealt = record {
       within = omega arith;
@@ -100,7 +104,7 @@ module _ (p t n m : ℕ) (ss coins : List ℕ) (at : ℕ) where
     }
       where
         last : take n row ≡ map (eval p (getD ss d 0 ∷ take t (drop (at + t * d) (numbers coins)))) (tab suc n)
-        last = rw (← h .coins, ← is) dealt
+        last = rw (← h .coins) (dealt ∙ ap (λ (g : List ℕ). map (eval p g) (tab suc n)) is ∙ values-padded p 8 _ (tab suc n))
 
         by : (i : ℕ) → i < d + 1 → (b : Bool) → eqb i d ≡ b → take n (getD (set grid d row) i []) ≡ map (eval p (getD ss i 0 ∷ take t (drop (at + t * i) (numbers coins)))) (tab suc n)
         by i lt true e = rw (eqb-true i d e, getD-set-same grid d row [] (omega (arith, h .long))) last
@@ -141,24 +145,80 @@ module _ (p t n m : ℕ) (ss coins : List ℕ) (at : ℕ) where
             let lm : i < m = omega arith in
             column-entry grid j (length fs) i (omega (arith, same)) ∙ entry j lt i lm ∙ sym (List·getD-map (λ (f : List ℕ). eval p f x) fs i []))
 
--- t is small, and so are the counts of coefficients and of dealers
+-- t is small, and so is the count of dealers
 module _ (t n : ℕ) (l : 2 * t < n) (le : n ≤ 15) where
   pub dealers-few : t + t + 1 ≤ 15
   dealers-few = omega arith
 
-  pub coefficients-few : t + 1 ≤ 8
-  coefficients-few = omega arith
-
   pub coins-few : t < 8
   coins-few = omega arith
 
-pub ruleset gridding = (needs, dealers-few, coefficients-few, coins-few, grid-none, grid-coins, place-fits, polynomial-below, grid-next, gridded)
+pub ruleset gridding = (needs, dealers-few, coins-few, grid-none, grid-coins, place-fits, polynomial-below, grid-next, gridded)
 
--- ---- the loop over the receivers
-pub elements-at : (p n m : ℕ) (grid : List (List ℕ)) (j : ℕ) → Elements p n m grid → j < n → allBelow p (take m (column grid j)) ≡ true
-elements-at p n m grid j e l = e .each j l
+-- ---- the loop over the rows: d of them are summed for each of n receivers
+pub record Weighing (n : ℕ) (ws : List ℕ) (grid : List (List ℕ)) (sums : List ℕ) (d : ℕ) : Type 0 where
+  pub within : d ≤ length ws
+  pub long : length sums ≡ 15
+  pub each : (j : ℕ) → j < n → Weighed ws grid j (getD sums j 0) d
 
-pub below-15 : (j n : ℕ) → j < n → n ≤ 15 → j < 15
-below-15 j n l le = omega arith
+pub weigh-start : (n : ℕ) (ws : List ℕ) (grid : List (List ℕ)) → n ≤ 15 → Weighing n ws grid (replicate 15 0) 0
+weigh-start n ws grid le = record {
+  within = omega arith;
+  long = length-replicate {A = ℕ} 15 0;
+  each = λ j l. rw (getD-replicate {A = ℕ} 15 j 0 0 (omega arith)) (weigh-none ws grid j);
+}
 
-pub ruleset reducing = (making, elements-at, below-15)
+module _
+    (p n : ℕ) (ws : List ℕ) (grid : List (List ℕ)) (r : Ready p) (hw : allBelow p ws ≡ true) (el : Elements p n (length ws) grid) (le : n ≤ 15) (few : length ws ≤ 15)
+    (sums : List ℕ) (d : ℕ) (h : Weighing n ws grid sums d) where
+  pub front-short : length (take n sums) ≤ 15
+  front-short = omega (arith, length-take n sums)
+
+  front-long : length (take n sums) ≡ n
+  front-long = length-take-le n sums (omega (arith, h .long))
+
+  pub front-counted : n ≡ length (take n sums)
+  front-counted = sym front-long
+
+  pub sums-small : allBelow (16 * (p * p) + 1) (take n sums) ≡ true
+  sums-small =
+      at-allBelow (16 * (p * p) + 1) (take n sums)
+      (λ j l. let m : j < n = rw front-long at l in rw (getD-take n sums j 0 m) (weighed-small ws grid j p (getD sums j 0) d r hw (el .each j m) (h .each j m) few))
+
+  module _ (long : length grid ≡ 15) (l : d < length ws) where
+    pub row-elements : allBelow p (take (length (take n sums)) (getD grid d [])) ≡ true
+    row-elements =
+        rw front-long
+        (at-allBelow p (take n (getD grid d []))
+        (λ j m.
+        let k : j < n = omega (arith, length-take n (getD grid d [])) in
+        let c : length (take (length ws) (column grid j)) ≡ length ws = length-take-le (length ws) (column grid j) (rw length-column (omega arith)) in
+        rw (getD-take n (getD grid d []) j 0 k, ← column-entry grid j (length ws) d l) (allBelow-at p (take (length ws) (column grid j)) d (el .each j k) (rw c l))))
+
+    pub row-weighed : (ys : List ℕ) → ys ≡ added (getD ws d 0) (getD grid d []) (take n sums) → Weighing n ws grid (ys ++ drop n sums) (d + 1)
+    unfolding added addedAt
+    row-weighed ys to =
+        let wide : length ys ≡ n = ap length to ∙ length-tab _ (length (take n sums)) ∙ front-long in
+        record {
+          within = omega arith;
+          long = length-append ys (drop n sums) ∙ omega (arith, h .long, length-drop n sums);
+          each =
+              λ j k.
+              let m : j < length ys = omega (arith, wide) in
+              let at : getD (ys ++ drop n sums) j 0 ≡ getD sums j 0 + getD ws d 0 * getD (getD grid d []) j 0 =
+              List·getD-append ys (drop n sums) 0 j m
+              ∙ ap (λ (l : List ℕ). getD l j 0) to
+              ∙ getD-tab _ (length (take n sums)) j 0 (rw front-long k)
+              ∙ rw (getD-take n sums j 0 k) in
+              rw at (weigh-next ws grid j p (getD sums j 0) d r hw (el .each j k) (h .each j k) long few l);
+        }
+
+  pub shares-reduced : (zs : List ℕ) → length ws ≤ d → zs ≡ rests p (take n sums) → take n (zs ++ drop n sums) ≡ tab (λ j. dot p ws (column grid j)) n
+  unfolding rests
+  shares-reduced zs l to =
+      let rows : zs ≡ tab (λ j. getD (take n sums) j 0 % p) n = to ∙ map-tab (λ x. x % p) (take n sums) ∙ ap (tab (λ j. getD (take n sums) j 0 % p)) front-long in
+      take-at zs (drop n sums) n (ap length rows ∙ length-tab _ n)
+      ∙ rows
+      ∙ tab-ext _ _ n (λ j k. rw (getD-take n sums j 0 k) (weighed ws grid j p (getD sums j 0) d r hw (el .each j k) (h .each j k) l .eq))
+
+pub ruleset reducing = (needs, entry-below, weigh-start, front-short, front-counted, sums-small, row-elements, row-weighed)

@@ -1,6 +1,7 @@
 -- Rows one after the other, and loops that fill a row.
 --     flat-length, flat-part, flat-snoc        rows of k entries, as a flatMap
 --     Making, making                           a loop that fills an array's first n entries
+--     Changing                                 a loop that changes each entry of a slice
 -- Assumes nothing.
 use mathlib.Core.Path.{_≡_, refl, sym, ap, _∙_}
 use mathlib.Core.List.{List, [], _∷_, _++_, flatMap, append-assoc, append-nil}
@@ -15,6 +16,7 @@ use mir.Syntax.{w64}
 use mir.Val.{Fits}
 use Rattle.numbers.specs.Tables.{tab}
 use Rattle.numbers.proofs.Tables.{tab-next, tab-zero}
+use Rattle.numbers.proofs.Fills.{Filled, fill-none, fill-next, filled}
 use Rattle.numbers.proofs.Below.{allBelow-at}
 use Rattle.field.specs.Mod.{mul}
 use Rattle.field.specs.Field.{Is}
@@ -53,7 +55,7 @@ part-front l m a k le = take-drop l a k ∙ ap (drop a) (sym (take-take (a + k) 
 pub row-room : (k j n : ℕ) → j < n → k * j + k ≤ k * n
 row-room k j n l = omega (arith, mul-suc k j, mul-le-mul-left {m = suc j} {n = n} k (omega arith))
 
-drop-zeros : (n m : ℕ) → drop n (replicate {A = ℕ} m 0) ≡ replicate (m - n) 0
+pub drop-zeros : (n m : ℕ) → drop n (replicate {A = ℕ} m 0) ≡ replicate (m - n) 0
 drop-zeros zero m = let e : m - zero ≡ m = omega arith in rw e
 drop-zeros (suc n) zero = let e : zero - suc n ≡ zero = omega arith in rw e
 drop-zeros (suc n) (suc m) = let e : suc m - suc n ≡ m - n = omega arith in rw e (drop-zeros n m)
@@ -88,6 +90,36 @@ module _ (f : ℕ → ℕ) (n : ℕ) where
     unmade l = let q : j ≡ n = omega (arith, h .within) in rw (← q) (h .rest ∙ drop-zeros j 15)
 
 pub ruleset making = (needs, make-none, make-next, make-next-is, made, unmade)
+
+-- ---- a loop that changes each entry of a slice, which was d₀, by a rule
+pub record Changing (f : ℕ → ℕ) (d₀ d : List ℕ) (j : ℕ) : Type 0 where
+  pub filled : Filled f d₀ d j
+  pub rest : drop j d ≡ drop j d₀
+
+module _ (f : ℕ → ℕ) (d₀ : List ℕ) where
+  pub change-none : Changing f d₀ d₀ 0
+  change-none = record { filled = record { within = omega arith; long = refl; front = fill-none f d₀ }; rest = refl }
+
+  module _ (d : List ℕ) (j : ℕ) (h : Changing f d₀ d j) where
+    -- what stands at j is what stood there
+    pub unchanged-at : getD d j 0 ≡ getD d₀ j 0
+    unchanged-at =
+        let e : j + 0 ≡ j = omega arith in
+        let at : (l : List ℕ) → getD l j 0 ≡ getD (drop j l) 0 0 = λ l. ap (λ (k : ℕ). getD l k 0) (sym e) ∙ sym (getD-drop j l 0 0) in
+        at d ∙ ap (λ (l : List ℕ). getD l 0 0) (h .rest) ∙ sym (at d₀)
+
+    pub change-next : (v : ℕ) → j < length d → v ≡ f j → Changing f d₀ (set d j v) (j + 1)
+    change-next v l e = record {
+      filled = record {
+        within = omega (arith, h .filled .long);
+        long = length-set d j v ∙ h .filled .long;
+        front = fill-next f j d v l e (h .filled .front);
+      };
+      rest = drop-set-lt (j + 1) d j v (omega arith) ∙ sym (drop-drop 1 j d) ∙ ap (drop 1) (h .rest) ∙ drop-drop 1 j d₀;
+    }
+
+    pub changed : length d ≤ j → d ≡ tab f (length d₀)
+    changed l = filled f d₀ d j l (h .filled)
 
 -- ---- reading a row of the table
 module _ (p n w : ℕ) (table : List ℕ) (r : Rowed p n w table) where

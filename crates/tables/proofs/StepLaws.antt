@@ -23,10 +23,11 @@ use Rattle.numbers.proofs.Bytes.{numbers-length}
 use Rattle.field.specs.Mod.{mul}
 use Rattle.field.proofs.Solve.{canon-lt, mul-canon}
 use Rattle.field.proofs.Inverse.{pos}
-use Rattle.polynomials.specs.Poly.{eval}
+use Rattle.polynomials.specs.Poly.{eval, padded}
 use Rattle.polynomials.specs.Interp.{dot, weights}
 use Rattle.field.specs.Field.{Ready}
-use Rattle.polynomials.proofs.Polys.{eval-canon}
+use Rattle.polynomials.proofs.Polys.{eval-canon, values-padded}
+use Rattle.polynomials.proofs.Elements.{padded-below}
 use Rattle.sharing.proofs.Coding.{map-tab}
 use Rattle.plan.specs.declared.Gate.{Gate}
 use Rattle.plan.specs.declared.Gate.the-variants.{Input, Add, Scale, Offset, Multiply}
@@ -41,7 +42,7 @@ use Rattle.protocol.specs.Shares.{sharings, coinsTaken}
 use Rattle.tables.specs.Rows.{powerRows, productsOf, mixedAt, Sized, Prepared, column, Coined, Dealt, Elements}
 use Rattle.protocol.proofs.Below.{map-below}
 use Rattle.tables.proofs.DealLaws.{dot-first}
-use Rattle.tables.proofs.GridLaws.{length-sharings, coefficients-few, coins-few, below-cons}
+use Rattle.tables.proofs.GridLaws.{length-sharings, coins-few, below-cons}
 
 -- ---- what a plan's contents give
 pub planned-ready : (bs : List ℕ) (h : Header) → Planned bs h → Ready (h .field .p)
@@ -130,16 +131,16 @@ module _ (p t n at : ℕ) (coins : List ℕ) (c : Coined p t 1 at (numbers coins
   pub one-dealing : at + t ≤ length coins / 2
   one-dealing = omega (arith, c .room, numbers-length coins)
 
-  pub input-below : (x : ℕ) (f : List ℕ) → x < p → take (t + 1) f ≡ x ∷ take t (drop at (numbers coins)) → allBelow p (take (t + 1) f) ≡ true
+  pub input-below : (x : ℕ) (f : List ℕ) → x < p → f ≡ padded 8 (x ∷ take t (drop at (numbers coins))) → allBelow p f ≡ true
   input-below x f l is =
       let e : t ≡ t * 1 = omega arith in
       let b : allBelow p (take t (drop at (numbers coins))) ≡ true = rw e (c .below) in
-      rw is (below-cons p x (take t (drop at (numbers coins))) l b)
+      rw is (padded-below p (omega arith) 8 _ (below-cons p x (take t (drop at (numbers coins))) l b))
 
-pub input-row : (p n : ℕ) (f g row : List ℕ) → f ≡ g → take n row ≡ map (eval p f) (tab suc n) → take n row ≡ map (eval p g) (tab suc n)
-input-row p n f g row e is = rw (← e) is
+pub input-row : (p n : ℕ) (f g row : List ℕ) → f ≡ padded 8 g → take n row ≡ map (eval p f) (tab suc n) → take n row ≡ map (eval p g) (tab suc n)
+input-row p n f g row e is = is ∙ ap (λ (f : List ℕ). map (eval p f) (tab suc n)) e ∙ values-padded p 8 g (tab suc n)
 
-pub ruleset inputs = (needs, coefficients-few, coins-few, one-dealing, input-below, input-row)
+pub ruleset inputs = (needs, coins-few, one-dealing, input-below, input-row)
 
 -- ---- a multiply's row
 pub dealers-within : (t n : ℕ) → 2 * t < n → t + t + 1 ≤ n
@@ -199,18 +200,18 @@ pub ruleset multiplying = (needs, dealers-within, products-below, pieces-element
 
 -- ---- what is worked out once for a plan
 module _ (h : Header) (s : Sized h) where
-  powers-few : (h .t + 1) * h .n ≤ 120
-  powers-few = omega (arith, s .many, s .majority, mul-le-mul {n₁ = h .t + 1} {m₁ = h .n} {n₂ = 8} {m₂ = 15} (omega (arith, s .many, s .majority)) (s .many))
+  powers-few : 8 * h .n ≤ 120
+  powers-few = omega (arith, s .many)
 
-  pub powers-fit : Fits w64 ((h .t + 1) * h .n)
+  pub powers-fit : Fits w64 (8 * h .n)
   powers-fit = record { fits = omega (arith, powers-few) }
 
   module _ (rows : List ℕ) (room : 120 ≤ length rows) where
-    pub powers-within : (h .t + 1) * h .n ≤ length rows
+    pub powers-within : 8 * h .n ≤ length rows
     powers-within = omega (arith, powers-few)
 
-    pub powers-count : (h .t + 1) * h .n ≡ length (take ((h .t + 1) * h .n) rows)
-    powers-count = sym (length-take-le ((h .t + 1) * h .n) rows powers-within)
+    pub powers-count : 8 * h .n ≡ length (take (8 * h .n) rows)
+    powers-count = sym (length-take-le (8 * h .n) rows powers-within)
 
   module _ (ws : List ℕ) (wide : 15 ≤ length ws) where
     pub weights-within : h .t + h .t + 1 ≤ length ws
@@ -238,28 +239,28 @@ module _ (h : Header) (s : Sized h) where
       dealers-below = rw first (allBelow-take (h .field .p) (h .t + h .t + 1) (take (h .n) ps) points-below)
 
       module _ (rows ws : List ℕ) (room : 120 ≤ length rows) (wide : 15 ≤ length ws) where
-        pub powers-long : length (take ((h .t + 1) * h .n) rows) ≡ (h .t + 1) * length (take (h .n) ps)
-        powers-long = sym (powers-count rows room) ∙ ap (λ (n : ℕ). (h .t + 1) * n) points-count
+        pub powers-long : length (take (8 * h .n) rows) ≡ 8 * length (take (h .n) ps)
+        powers-long = sym (powers-count rows room) ∙ ap (λ (n : ℕ). 8 * n) points-count
 
         pub weights-long : length (take (h .t + h .t + 1) ws) ≡ length (take (h .t + h .t + 1) ps)
         weights-long = sym (weights-count ws wide) ∙ dealers-count
 
-        pub prepared : (ys zs : List ℕ) → length ys ≡ length (take ((h .t + 1) * h .n) rows) → ys ≡ powerRows (h .field .p) (h .t + 1) (take (h .n) ps)
+        pub prepared : (ys zs : List ℕ) → length ys ≡ length (take (8 * h .n) rows) → ys ≡ powerRows (h .field .p) 8 (take (h .n) ps)
             → length zs ≡ length (take (h .t + h .t + 1) ws) → zs ≡ weights (h .field .p) 0 (take (h .t + h .t + 1) ps)
-            → Prepared h (ys ++ drop ((h .t + 1) * h .n) rows) (zs ++ drop (h .t + h .t + 1) ws)
+            → Prepared h (ys ++ drop (8 * h .n) rows) (zs ++ drop (h .t + h .t + 1) ws)
         prepared ys zs ly ey lz ez =
-            let a : length ys ≡ (h .t + 1) * h .n = ly ∙ sym (powers-count rows room) in
+            let a : length ys ≡ 8 * h .n = ly ∙ sym (powers-count rows room) in
             let b : length zs ≡ h .t + h .t + 1 = lz ∙ sym (weights-count ws wide) in
             record {
-              room = rw (length-append ys (drop ((h .t + 1) * h .n) rows)) (omega arith);
-              powers = take-at ys (drop ((h .t + 1) * h .n) rows) ((h .t + 1) * h .n) a ∙ ey ∙ ap (powerRows (h .field .p) (h .t + 1)) is;
+              room = rw (length-append ys (drop (8 * h .n) rows)) (omega arith);
+              powers = take-at ys (drop (8 * h .n) rows) (8 * h .n) a ∙ ey ∙ ap (powerRows (h .field .p) 8) is;
               wide = rw (length-append zs (drop (h .t + h .t + 1) ws)) (omega arith);
               weighs = take-at zs (drop (h .t + h .t + 1) ws) (h .t + h .t + 1) b ∙ ez ∙ ap (weights (h .field .p) 0) (first ∙ ap (take (h .t + h .t + 1)) is);
             }
 
 module _ (h : Header) (s : Sized h) where
-  pub powers-kept : (rows ys : List ℕ) → 120 ≤ length rows → length ys ≡ length (take ((h .t + 1) * h .n) rows) → drop ((h .t + 1) * h .n) (ys ++ drop ((h .t + 1) * h .n) rows) ≡ drop ((h .t + 1) * h .n) rows
-  powers-kept rows ys room e = drop-at ys (drop ((h .t + 1) * h .n) rows) ((h .t + 1) * h .n) (e ∙ sym (powers-count h s rows room))
+  pub powers-kept : (rows ys : List ℕ) → 120 ≤ length rows → length ys ≡ length (take (8 * h .n) rows) → drop (8 * h .n) (ys ++ drop (8 * h .n) rows) ≡ drop (8 * h .n) rows
+  powers-kept rows ys room e = drop-at ys (drop (8 * h .n) rows) (8 * h .n) (e ∙ sym (powers-count h s rows room))
 
   pub weights-kept : (ws zs : List ℕ) → 15 ≤ length ws → length zs ≡ length (take (h .t + h .t + 1) ws) → drop (h .t + h .t + 1) (zs ++ drop (h .t + h .t + 1) ws) ≡ drop (h .t + h .t + 1) ws
   weights-kept ws zs wide e = drop-at zs (drop (h .t + h .t + 1) ws) (h .t + h .t + 1) (e ∙ sym (weights-count h s ws wide))

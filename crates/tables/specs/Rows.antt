@@ -1,5 +1,5 @@
 -- The table of shares as the code keeps it: a row for each wire, in it each party's share. The code deals by powers of the points.
-use Prim.Native.Nat.{ℕ, zero, suc, _+_, _*_, _≤_, _<_}
+use Prim.Native.Nat.{ℕ, zero, suc, _+_, _*_, _%_, _≤_, _<_}
 use mathlib.Core.Path.{_≡_}
 use mathlib.Core.Bool.{true}
 use mathlib.Core.List.{List, [], _∷_, _++_, map, flatMap}
@@ -44,6 +44,17 @@ mixedAt p ws fs x = dot p ws (map (λ f. eval p f x) fs)
 unfoldable pub column : List (List ℕ) → ℕ → List ℕ
 column grid j = map (λ row. getD row j 0) grid
 
+-- sums with w times a row added, entry by entry
+unfoldable pub addedAt : ℕ → List ℕ → List ℕ → ℕ → ℕ
+addedAt w row sums j = getD sums j 0 + w * getD row j 0
+
+unfoldable pub added : ℕ → List ℕ → List ℕ → List ℕ
+added w row sums = tab (addedAt w row sums) (length sums)
+
+-- the sums' remainders
+unfoldable pub rests : ℕ → List ℕ → List ℕ
+rests p sums = map (λ x. x % p) sums
+
 -- the bounds of a plan's contents
 pub record Sized (h : Header) : Type 0 where
   pub ready : Ready (h .field .p)
@@ -51,10 +62,10 @@ pub record Sized (h : Header) : Type 0 where
   pub majority : 2 * h .t < h .n
   pub small : h .n < h .field .p
 
--- what is worked out once for a plan: the powers of all parties' points, and the weights at 0 of the dealers'
+-- what is worked out once for a plan: eight powers of all parties' points, and the weights at 0 of the dealers'
 pub record Prepared (h : Header) (rows ws : List ℕ) : Type 0 where
-  pub room : (h .t + 1) * h .n ≤ length rows
-  pub powers : take ((h .t + 1) * h .n) rows ≡ powerRows (h .field .p) (h .t + 1) (tab suc (h .n))
+  pub room : 8 * h .n ≤ length rows
+  pub powers : take (8 * h .n) rows ≡ powerRows (h .field .p) 8 (tab suc (h .n))
   pub wide : h .t + h .t + 1 ≤ length ws
   pub weighs : take (h .t + h .t + 1) ws ≡ weights (h .field .p) 0 (take (h .t + h .t + 1) (tab suc (h .n)))
 

@@ -12,13 +12,13 @@ ghost use Rattle.numbers.specs.Tables.{tab};
 ghost use Rattle.numbers.specs.Bytes.{numbers, allBelow};
 ghost use Rattle.field.specs.Mod.{add, mul};
 ghost use Rattle.field.specs.Field.{Is, Ready};
-ghost use Rattle.polynomials.specs.Poly.{eval};
+ghost use Rattle.polynomials.specs.Poly.{eval, padded};
 ghost use Rattle.polynomials.specs.Interp.{dot};
 ghost use Rattle.plan.specs.Planned.{Planned};
 ghost use Rattle.plan.specs.File.{planOf, gateAt};
 ghost use Rattle.protocol.specs.Ideal.{inputsTaken};
 ghost use Rattle.protocol.specs.Shares.{sharings, coinsTaken, shareTable};
-ghost use Rattle.tables.specs.Rows.{rowsOf, powers, powerRows, productsOf, mixedAt, column, Sized, Prepared, Powered, Coined, Dealt, Elements, Rowed, Standing, Taking, Worked, Stepped, Given};
+ghost use Rattle.tables.specs.Rows.{rowsOf, powers, powerRows, productsOf, mixedAt, column, added, rests, Sized, Prepared, Powered, Coined, Dealt, Elements, Rowed, Standing, Taking, Worked, Stepped, Given};
 
 // ---- what is worked out once for a plan
 
@@ -68,57 +68,58 @@ fn points(n: usize) -> [u64; 15]
     row
 }
 
-// The power rows of all parties' points and the weights at 0 of the dealers', for all dealings of a plan.
+// The power rows of all parties' points, eight powers each, and the weights at 0 of the dealers', for all dealings of a plan.
 pub fn prepare(h: Header, rows: &mut [u64], weights: &mut [u64])
     requires { ⌜ Sized h ⌝ }
     requires { ⌜ 120 ≤ length (now rows) ⌝ }
     requires { ⌜ 15 ≤ length (now weights) ⌝ }
     ensures { λ _. ⌜ Prepared h (now (rows .exit)) (now (weights .exit)) ⌝ }
-    ensures { λ _. ⌜ drop ((h .t + 1) * h .n) (now (rows .exit)) ≡ drop ((h .t + 1) * h .n) (now (rows .entry)) ⌝ }
+    ensures { λ _. ⌜ drop (8 * h .n) (now (rows .exit)) ≡ drop (8 * h .n) (now (rows .entry)) ⌝ }
     ensures { λ _. ⌜ drop (h .t + h .t + 1) (now (weights .exit)) ≡ drop (h .t + h .t + 1) (now (weights .entry)) ⌝ }
 {
     let f = h.field;
     let n = h.n;
-    let k = h.t + 1;
     let m = h.t + h.t + 1;
-    let e = k * n;
+    let e = 8 * n;
     let points = points(n);
-    power_rows(f, k, &points[..n], &mut rows[..e]);
+    power_rows(f, 8, &points[..n], &mut rows[..e]);
     sharing::weights(f, 0, &points[..m], &mut weights[..m]);
 }
 
 // ---- dealings
 
-// The polynomial of a dealing: the dealt value, then t coins from one place of the list on.
+// The polynomial of a dealing: the dealt value, then t coins from one place of the list on. It has eight coefficients, as many as any
+// plan's, so that the loop over them is unrolled; those above the coins are 0.
 fn coefficients(value: u64, coins: &[u8], at: usize, t: usize) -> [u64; 8]
     requires { ⌜ t < 8 ⌝ }
     requires { ⌜ at + t ≤ length (now coins) / 2 ⌝ }
-    ensures { λ r. ⌜ take (t + 1) r ≡ value ∷ take t (drop at (numbers (now (coins .entry)))) ⌝ }
+    ensures { λ r. ⌜ r ≡ padded 8 (value ∷ take t (drop at (numbers (now (coins .entry))))) ⌝ }
 {
     let mut polynomial = [0u64; 8];
     polynomial[0] = value;
     let mut i: usize = 0;
     while i < t {
-        polynomial[i + 1] = numbers::read(coins, at + i);
+        polynomial[i + 1] = numbers::number(coins, at + i);
         i += 1;
     }
     polynomial
 }
 
 // The pieces of a dealing: the polynomial's values at the points of all n parties, by the power rows.
-fn dealing(f: Field, n: usize, k: usize, rows: &[u64], polynomial: [u64; 8]) -> [u64; 15]
+fn dealing(f: Field, n: usize, rows: &[u64], polynomial: [u64; 8]) -> [u64; 15]
     requires { ⌜ Ready (f .p) ⌝ }
-    requires { ⌜ (n ≤ 15) × (k ≤ 8) ⌝ }
-    requires { ⌜ Powered (f .p) k (tab suc n) (now rows) ⌝ }
-    requires { ⌜ allBelow (f .p) (take k polynomial) ≡ true ⌝ }
-    ensures { λ r. ⌜ take n r ≡ map (eval (f .p) (take k polynomial)) (tab suc n) ⌝ }
+    requires { ⌜ n ≤ 15 ⌝ }
+    requires { ⌜ Powered (f .p) 8 (tab suc n) (now rows) ⌝ }
+    requires { ⌜ allBelow (f .p) polynomial ≡ true ⌝ }
+    ensures { λ r. ⌜ take n r ≡ map (eval (f .p) polynomial) (tab suc n) ⌝ }
 {
+    let m = f.reciprocal();
     let mut row = [0u64; 15];
     let mut at: usize = 0;
     let mut j: usize = 0;
     while j < n {
-        let e = at + k;
-        row[j] = sharing::dot(f, &rows[at..e], &polynomial[..k]);
+        let e = at + 8;
+        row[j] = sharing::dot_by(f, m, &rows[at..e], &polynomial);
         at = e;
         j += 1;
     }
@@ -216,7 +217,7 @@ fn pieces(
 ) -> [[u64; 15]; 15]
     requires { ⌜ Ready (f .p) ⌝ }
     requires { ⌜ (2 * t < n) × (n ≤ 15) ⌝ }
-    requires { ⌜ Powered (f .p) (t + 1) (tab suc n) (now rows) ⌝ }
+    requires { ⌜ Powered (f .p) 8 (tab suc n) (now rows) ⌝ }
     requires { ⌜ allBelow (f .p) (take (t + t + 1) products) ≡ true ⌝ }
     requires { ⌜ Coined (f .p) t (t + t + 1) at (numbers (now coins)) ⌝ }
     ensures { λ r. ⌜ Dealt (f .p) (tab suc n) (sharings t (take (t + t + 1) products) (drop at (numbers (now (coins .entry))))) r ⌝ }
@@ -227,32 +228,44 @@ fn pieces(
     let mut d: usize = 0;
     while d < dealers {
         let polynomial = coefficients(products[d], coins, place, t);
-        grid[d] = dealing(f, n, t + 1, rows, polynomial);
+        grid[d] = dealing(f, n, rows, polynomial);
         place += t;
         d += 1;
     }
     grid
 }
 
-// One column of a grid, weighed and summed, with one remainder.
-pub fn column_sum(f: Field, weights: &[u64], grid: [[u64; 15]; 15], j: usize) -> u64
+// Adds w times a row to the sums, which are of at most 16 products each.
+fn weigh(f: Field, w: u64, row: [u64; 15], sums: &mut [u64])
     requires { ⌜ Ready (f .p) ⌝ }
-    requires { ⌜ j < 15 ⌝ }
-    requires { ⌜ length (now weights) ≤ 15 ⌝ }
-    requires { ⌜ allBelow (f .p) (now weights) ≡ true ⌝ }
-    requires { ⌜ allBelow (f .p) (take (length (now weights)) (column grid j)) ≡ true ⌝ }
-    ensures { λ r. ⌜ Is (f .p) (dot (f .p) (now (weights .entry)) (column grid j)) r ⌝ }
+    requires { ⌜ w < f .p ⌝ }
+    requires { ⌜ length (now sums) ≤ 15 ⌝ }
+    requires { ⌜ allBelow (f .p) (take (length (now sums)) row) ≡ true ⌝ }
+    requires { ⌜ allBelow (16 * (f .p * f .p) + 1) (now sums) ≡ true ⌝ }
+    ensures { λ _. ⌜ now (sums .exit) ≡ added w row (now (sums .entry)) ⌝ }
 {
-    let mut sum: u64 = 0;
-    let mut d: usize = 0;
-    while d < weights.len() {
-        sum += weights[d] * grid[d][j];
-        d += 1;
+    let mut j: usize = 0;
+    while j < sums.len() {
+        sums[j] += f.product(w, row[j]);
+        j += 1;
     }
-    sum % f.p
 }
 
-// Every receiver's share: the sum of its column.
+// The remainders of the sums, in place of them.
+fn remainders(f: Field, sums: &mut [u64])
+    requires { ⌜ Ready (f .p) ⌝ }
+    requires { ⌜ allBelow (16 * (f .p * f .p) + 1) (now sums) ≡ true ⌝ }
+    ensures { λ _. ⌜ now (sums .exit) ≡ rests (f .p) (now (sums .entry)) ⌝ }
+{
+    let m = f.reciprocal();
+    let mut j: usize = 0;
+    while j < sums.len() {
+        sums[j] = f.reduced(m, sums[j]);
+        j += 1;
+    }
+}
+
+// Every receiver's share: the sum of its column, weighed. All columns are summed at once, row by row, with one remainder each.
 fn reduce(f: Field, n: usize, weights: &[u64], grid: [[u64; 15]; 15]) -> [u64; 15]
     requires { ⌜ Ready (f .p) ⌝ }
     requires { ⌜ n ≤ 15 ⌝ }
@@ -261,13 +274,14 @@ fn reduce(f: Field, n: usize, weights: &[u64], grid: [[u64; 15]; 15]) -> [u64; 1
     requires { ⌜ Elements (f .p) n (length (now weights)) grid ⌝ }
     ensures { λ r. ⌜ take n r ≡ tab (λ j. dot (f .p) (now (weights .entry)) (column grid j)) n ⌝ }
 {
-    let mut row = [0u64; 15];
-    let mut j: usize = 0;
-    while j < n {
-        row[j] = column_sum(f, weights, grid, j);
-        j += 1;
+    let mut sums = [0u64; 15];
+    let mut d: usize = 0;
+    while d < weights.len() {
+        weigh(f, weights[d], grid[d], &mut sums[..n]);
+        d += 1;
     }
-    row
+    remainders(f, &mut sums[..n]);
+    sums
 }
 
 // A multiply gate's row: the dealers' products are dealt, and each receiver's pieces weighed and summed.
@@ -285,7 +299,7 @@ fn multiply_row(
 ) -> [u64; 15]
     requires { ⌜ Ready (f .p) ⌝ }
     requires { ⌜ (2 * t < n) × (n ≤ 15) ⌝ }
-    requires { ⌜ Powered (f .p) (t + 1) (tab suc n) (now rows) ⌝ }
+    requires { ⌜ Powered (f .p) 8 (tab suc n) (now rows) ⌝ }
     requires { ⌜ (length (now weights) ≡ t + t + 1) × (allBelow (f .p) (now weights) ≡ true) ⌝ }
     requires { ⌜ Coined (f .p) t (t + t + 1) at (numbers (now coins)) ⌝ }
     requires { ⌜ Rowed (f .p) n a (now table) ⌝ }
@@ -311,13 +325,13 @@ fn input_row(
 ) -> [u64; 15]
     requires { ⌜ Ready (f .p) ⌝ }
     requires { ⌜ (2 * t < n) × (n ≤ 15) ⌝ }
-    requires { ⌜ Powered (f .p) (t + 1) (tab suc n) (now rows) ⌝ }
+    requires { ⌜ Powered (f .p) 8 (tab suc n) (now rows) ⌝ }
     requires { ⌜ x < f .p ⌝ }
     requires { ⌜ Coined (f .p) t 1 at (numbers (now coins)) ⌝ }
     ensures { λ r. ⌜ take n r ≡ map (eval (f .p) (x ∷ take t (drop at (numbers (now (coins .entry)))))) (tab suc n) ⌝ }
 {
     let polynomial = coefficients(x, coins, at, t);
-    dealing(f, n, t + 1, rows, polynomial)
+    dealing(f, n, rows, polynomial)
 }
 
 // The row of gate g's wire, from the rows of the wires below it.

@@ -16,11 +16,11 @@ array-write-polynomial c = search reading
 loop-holds : tie.Need-loop-holds Inv-loop μ-loop
 loop-holds c = search reading
 
-add-read : tie.Need-add-read Inv-loop μ-loop
-add-read c = search reading
+add-number : tie.Need-add-number Inv-loop μ-loop
+add-number c = search reading
 
-read-requires : tie.Need-read-requires Inv-loop μ-loop
-read-requires c κs = search reading
+number-requires : tie.Need-number-requires Inv-loop μ-loop
+number-requires c κs = search reading
 
 add-polynomial : tie.Need-add-polynomial Inv-loop μ-loop
 add-polynomial c = search reading
@@ -51,8 +51,8 @@ coefficients-spec =
     μ-loop
     array-write-polynomial
     loop-holds
-    add-read
-    read-requires
+    add-number
+    number-requires
     add-polynomial
     mul-polynomial
     array-write-polynomial-2

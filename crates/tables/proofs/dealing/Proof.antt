@@ -1,14 +1,16 @@
 use Prim.Native.Nat.{_-_}
-use lib.ListN.{take}
 use Rattle.tables.proofs.DealLaws.{Piecing, piecing}
 use Rattle.tables.proofs.dealing.Statement.{statement}
 use Rattle.tables.proofs.dealing.Tie as tie
 
 abbrev Inv-loop : tie.InvT-loop
-Inv-loop f n k rows polynomial row₀ at₀ j₀ row at j = Piecing (f .p) k n (take k polynomial) row at j
+Inv-loop f n rows polynomial m row₀ at₀ j₀ row at j = Piecing (f .p) 8 n polynomial row at j
 
 abbrev μ-loop : tie.MeasureT-loop
-μ-loop f n k rows polynomial row₀ at₀ j₀ row at j = n - j
+μ-loop f n rows polynomial m row₀ at₀ j₀ row at j = n - j
+
+reciprocal-requires : tie.Need-reciprocal-requires Inv-loop μ-loop
+reciprocal-requires c κs = search piecing
 
 loop-holds : tie.Need-loop-holds Inv-loop μ-loop
 loop-holds c = search piecing
@@ -16,26 +18,23 @@ loop-holds c = search piecing
 add-e : tie.Need-add-e Inv-loop μ-loop
 add-e c = search piecing
 
-mul-dot : tie.Need-mul-dot Inv-loop μ-loop
-mul-dot c = search piecing
+mul-dot-by : tie.Need-mul-dot-by Inv-loop μ-loop
+mul-dot-by c = search piecing
 
-sub-dot : tie.Need-sub-dot Inv-loop μ-loop
-sub-dot c = search piecing
+sub-dot-by : tie.Need-sub-dot-by Inv-loop μ-loop
+sub-dot-by c = search piecing
 
-part-dot-start : tie.Need-part-dot-start Inv-loop μ-loop
-part-dot-start c = search piecing
+part-dot-by-start : tie.Need-part-dot-by-start Inv-loop μ-loop
+part-dot-by-start c = search piecing
 
-part-dot-end : tie.Need-part-dot-end Inv-loop μ-loop
-part-dot-end c = search piecing
+part-dot-by-end : tie.Need-part-dot-by-end Inv-loop μ-loop
+part-dot-by-end c = search piecing
 
-array-share-prefix-polynomial : tie.Need-array-share-prefix-polynomial Inv-loop μ-loop
-array-share-prefix-polynomial c = search piecing
+slice-aggregate-dot-by : tie.Need-slice-aggregate-dot-by Inv-loop μ-loop
+slice-aggregate-dot-by c = search piecing
 
-slice-aggregate-dot : tie.Need-slice-aggregate-dot Inv-loop μ-loop
-slice-aggregate-dot c = search piecing
-
-dot-requires : tie.Need-dot-requires Inv-loop μ-loop
-dot-requires c κs = (search piecing, (search piecing, (search piecing, (search piecing, search piecing))))
+dot-by-requires : tie.Need-dot-by-requires Inv-loop μ-loop
+dot-by-requires c κs = (search piecing, (search piecing, (search piecing, (search piecing, (search piecing, search piecing)))))
 
 mul-row : tie.Need-mul-row Inv-loop μ-loop
 mul-row c = search piecing
@@ -61,15 +60,15 @@ dealing-spec =
     (tie.spec
     Inv-loop
     μ-loop
+    reciprocal-requires
     loop-holds
     add-e
-    mul-dot
-    sub-dot
-    part-dot-start
-    part-dot-end
-    array-share-prefix-polynomial
-    slice-aggregate-dot
-    dot-requires
+    mul-dot-by
+    sub-dot-by
+    part-dot-by-start
+    part-dot-by-end
+    slice-aggregate-dot-by
+    dot-by-requires
     mul-row
     array-write-row
     add-j

@@ -1,13 +1,9 @@
 use Rattle.tables.proofs.StepLaws.{inputs}
-use borrow.Author.Needs.{needs}
 use Rattle.tables.proofs.input_row.Statement.{statement}
 use Rattle.tables.proofs.input_row.Tie as tie
 
 coefficients-requires : tie.Need-coefficients-requires
 coefficients-requires c κs = search inputs
-
-add-dealing : tie.Need-add-dealing
-add-dealing c = search needs
 
 dealing-requires : tie.Need-dealing-requires
 dealing-requires c κs = (search inputs, (search inputs, (search inputs, search inputs)))
@@ -16,4 +12,4 @@ returns : tie.Need-returns
 returns c = search inputs
 
 pub input-row-spec : {M : Type 1} → statement M
-input-row-spec = tie.close (tie.spec coefficients-requires add-dealing dealing-requires returns)
+input-row-spec = tie.close (tie.spec coefficients-requires dealing-requires returns)

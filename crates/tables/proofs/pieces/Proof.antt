@@ -29,9 +29,6 @@ array-read-coefficients c = search gridding
 coefficients-requires : tie.Need-coefficients-requires Inv-loop μ-loop
 coefficients-requires c κs = search gridding
 
-add-dealing : tie.Need-add-dealing Inv-loop μ-loop
-add-dealing c = search gridding
-
 dealing-requires : tie.Need-dealing-requires Inv-loop μ-loop
 dealing-requires c κs = (search gridding, (search gridding, (search gridding, search gridding)))
 
@@ -74,7 +71,6 @@ pieces-spec =
     mul-coefficients
     array-read-coefficients
     coefficients-requires
-    add-dealing
     dealing-requires
     mul-grid
     array-set-from-grid

@@ -2,9 +2,6 @@ use Rattle.tables.proofs.StepLaws.{preparing}
 use Rattle.tables.proofs.prepare.Statement.{statement}
 use Rattle.tables.proofs.prepare.Tie as tie
 
-add-k : tie.Need-add-k
-add-k c = search preparing
-
 add-m : tie.Need-add-m
 add-m c = search preparing
 
@@ -60,7 +57,6 @@ pub prepare-spec : {M : Type 1} → statement M
 prepare-spec =
     tie.close
     (tie.spec
-    add-k
     add-m
     add-m-2
     mul-e
