@@ -24,8 +24,9 @@ use Rattle.polynomials.specs.Interp.{All, Distinct}
 use Rattle.plan.specs.declared.Header.{Header}
 use Rattle.plan.specs.File.{planOf}
 use Rattle.plan.specs.Planned.{Planned}
-use Rattle.plan.proofs.Planned.{both-true, plan-n, plan-t}
+use Rattle.plan.proofs.Planned.{plan-n, plan-t}
 use Rattle.coalition.specs.Coalitions.{inSet, membersFrom, members, setFits, setOk}
+use Rattle.numbers.proofs.Truth.{both-true}
 
 -- ---- one bit
 -- a bit at or above n of a number below 2 ^ n is none

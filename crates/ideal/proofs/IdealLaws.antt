@@ -1,18 +1,15 @@
 -- What each way through the code of the plan's values says of its definition.
---     plan-ready, gate-kept     a plan that passes, as the code asks it
 --     taking, valuing           the inputs that a gate takes, and its value
 --     next-taken                the number of the next input
 --     Worked, working           the values of all wires
 -- Assumes nothing.
 use mathlib.Core.Path.{_≡_, refl, sym, ap, _∙_}
-use mathlib.Core.Bool.{true, cond, _&&_}
+use mathlib.Core.Bool.{true, cond}
 use mathlib.Core.List.{List}
 use Prim.Native.Nat.{ℕ, _+_, _<_, _≤_}
 use native.Mathlib.Numerals.{add-one}
 use native.Mathlib.Omega.{arith}
 use borrow.Author.Needs.{needs}
-use borrow.Author.Tests.{ltb-true}
-use lib.Dec.{ltb}
 use lib.ListN.{length, getD, take, set, length-set, List·getD-eq-default}
 use lib.Seq.{take-suc, take-suc-set, take-all, length-take-le}
 use Rattle.numbers.specs.Tables.{countWhere}
@@ -26,36 +23,15 @@ use Rattle.plan.specs.declared.Gate.{Gate}
 use Rattle.plan.specs.declared.Gate.the-variants.{Input, Add, Scale, Offset, Multiply}
 use Rattle.plan.specs.declared.Header.{Header}
 use Rattle.plan.specs.Plans.{isInput}
-use Rattle.plan.specs.File.{gateAt, gateOk, planOf}
+use Rattle.plan.specs.File.{gateAt, planOf}
 use Rattle.plan.specs.Planned.{Planned}
-use Rattle.plan.proofs.Planned.{both-true, plan-p, plan-n, plan-gates, plan-gate}
-use Rattle.plan.proofs.Valid.{valid}
+use Rattle.plan.proofs.Planned.{plan-p, plan-gates, plan-gate}
+use Rattle.plan.proofs.Valid.{valid, planned-ready, gate-kept, scale-constant, offset-constant}
 use Rattle.protocol.specs.Ideal.{inputsTaken, gateValue, values}
 use Rattle.protocol.proofs.Wires.{values-length, values-gate}
 use Rattle.protocol.proofs.Below.{value-below}
 
--- ---- a plan that passes
-module _ (bs : List ℕ) (h : Header) (k : Planned bs h) where
-  pub plan-ready : Ready (h .field .p)
-  plan-ready = record { prime = rw (← plan-p k) (valid bs (k .passes) .prime); small = k .p-high }
-
-  pub gate-kept : (g : ℕ) (gate : Gate) → g < h .gates → gate ≡ gateAt bs g → gateOk (h .n) (h .field .p) g gate ≡ true
-  gate-kept g gate l e =
-      rw (e, ← plan-n k, ← plan-p k, ← plan-gate k g l) (valid bs (k .passes) .gates g (rw (plan-gates k) l))
-
 -- ---- a gate by its kind
-both-below : (a g b p : ℕ) → (ltb a g && ltb b p) ≡ true → (a < g) × (b < p)
-both-below a g b p h = let t = both-true (ltb a g) (ltb b p) h in (ltb-true a g (t .0), ltb-true b p (t .1))
-
-module _ (n p g : ℕ) (gate : Gate) (ok : gateOk n p g gate ≡ true) where
-  pub scale-constant : (a c : ℕ) → gate ≡ Scale a c → c < p
-  unfolding gateOk
-  scale-constant a c e = both-below a g c p (rw e at ok) .1
-
-  pub offset-constant : (a c : ℕ) → gate ≡ Offset a c → c < p
-  unfolding gateOk
-  offset-constant a c e = both-below a g c p (rw e at ok) .1
-
 module _ (gate : Gate) where
   pub takes-input : (s : ℕ) → gate ≡ Input s → 1 ≡ inputsTaken gate
   unfolding inputsTaken
@@ -133,7 +109,7 @@ next-taken bs h next g t gate k e l eg et =
     rw (countWhere-take-suc isInput (planOf bs .gates) g (Input 0) (rw (plan-gates k) l), plan-gate k g l, ← eg, ← taken-is gate, ← et, e)
 
 pub input-below : (bs : List ℕ) (h : Header) (xs : List ℕ) (i x : ℕ) → Planned bs h → allBelow (h .field .p) xs ≡ true → x ≡ getD xs i 0 → x < h .field .p
-input-below bs h xs i x k b e = wire-below (h .field .p) xs i x (plan-ready bs h k) b e
+input-below bs h xs i x k b e = wire-below (h .field .p) xs i x (planned-ready bs h k) b e
 
 module _ (bs : List ℕ) (h : Header) (xs d₀ : List ℕ) where
   pub work-none : h .gates ≤ length d₀ → Worked bs h xs d₀ d₀ 0 0
@@ -181,4 +157,4 @@ module _ (bs : List ℕ) (h : Header) (xs d₀ : List ℕ) where
         let e : g ≡ h .gates = omega (arith, w .within) in
         ap (λ (n : ℕ). take n d) (sym e) ∙ w .front ∙ take-all g (values (planOf bs) xs) (omega (arith, values-length (planOf bs) xs, plan-gates k))
 
-pub ruleset working = (needs, input-below, plan-ready, work-none, work-room, front-long, front-below, gate-kept, work-next, work-done)
+pub ruleset working = (needs, input-below, planned-ready, work-none, work-room, front-long, front-below, gate-kept, work-next, work-done)

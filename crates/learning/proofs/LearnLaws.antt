@@ -1,5 +1,4 @@
 -- What each way through the code of a call's learning says of its definition, with a ruleset for the needs of each function.
---     planned-ready, gate-kept       what a plan that passes gives
 --     working                        a gate worked on the shares
 --     Worked, going-on               the gates up to the next multiply
 --     learning-one                   a wire of a party's inputs
@@ -9,15 +8,14 @@
 --     learning                       a call
 -- Assumes nothing.
 use mathlib.Core.Path.{_≡_, refl, sym, ap, _∙_}
-use mathlib.Core.Bool.{Bool, true, false, cond, _&&_}
+use mathlib.Core.Bool.{Bool, true, false, cond}
 use mathlib.Core.List.{List, [], _∷_, _++_, flatMap}
 use Prim.Native.Nat.{ℕ, zero, suc, _+_, _-_, _*_, _<_, _≤_}
 use native.Mathlib.Nat.{mod-eq-of-lt}
 use native.Mathlib.Numerals.{add-one}
 use native.Mathlib.Omega.{arith}
 use borrow.Author.Needs.{needs}
-use borrow.Author.Tests.{ltb-true, lt-ltb, le-ltb}
-use lib.Dec.{ltb}
+use borrow.Author.Tests.{lt-ltb, le-ltb}
 use lib.ListN.{length, getD, take, drop, set, drop-of-length-le}
 use lib.Seq.{length-take-le, take-take, drop-cons, drop-drop, getD-drop, set-getD}
 use Rattle.numbers.specs.Tables.{tab, countWhere}
@@ -38,23 +36,15 @@ use Rattle.plan.specs.declared.Gate.{Gate}
 use Rattle.plan.specs.declared.Gate.the-variants.{Input, Add, Scale, Offset, Multiply}
 use Rattle.plan.specs.declared.Header.{Header}
 use Rattle.plan.specs.Plans.{Plan, parties, dealerCount, dealerPoints, isInputOf, isMultiply, multiplies, multiplyWire, wiresFrom, wiresWhere, inputWires, ownInputCount}
-use Rattle.plan.specs.File.{gateAt, gateOk, planOf}
+use Rattle.plan.specs.File.{gateAt, planOf}
 use Rattle.plan.specs.Planned.{Planned}
 use Rattle.plan.proofs.Planned.{plan-p, plan-t, plan-n, plan-points, plan-gates, plan-gate}
-use Rattle.plan.proofs.Valid.{valid}
+use Rattle.plan.proofs.Valid.{planned-ready, gate-kept, scale-constant, offset-constant}
 use Rattle.learning.specs.Lent.{Holds, Dealers}
 use Rattle.messages.specs.Messages.{workGate, workFrom, setAll, wiresByParty, reduced, learn}
 
 -- ---- a plan that passes
 module _ (bs : List ℕ) (h : Header) (k : Planned bs h) where
-  pub planned-ready : Ready (h .field .p)
-  planned-ready = record { prime = rw (plan-p k) at (valid bs (k .passes) .prime); small = k .p-high }
-
-  pub gate-kept : (g : ℕ) (gate : Gate) → g < h .gates → gate ≡ gateAt bs g → gateOk (h .n) (h .field .p) g gate ≡ true
-  gate-kept g gate l e =
-      let m : g < length (planOf bs .gates) = rw (plan-gates k) l in
-      rw (e, ← plan-gate k g l, ← plan-n k, ← plan-p k) (valid bs (k .passes) .gates g m)
-
   -- its gates from g on
   gates-from : (g : ℕ) → g < h .gates → drop g (planOf bs .gates) ≡ gateAt bs g ∷ drop (suc g) (planOf bs .gates)
   gates-from g l = rw (drop-cons (planOf bs .gates) g (Input 0) (rw (plan-gates k) l), plan-gate k g l)
@@ -87,19 +77,6 @@ pub written-below : (p : ℕ) (s d : List ℕ) (i v : ℕ) → p < 65536 → all
 written-below p s d i v m h l e = written-holds p s d (set (numbers s) i v) i v m h l e refl .below
 
 -- ---- a gate
-last-true : (a b : Bool) → (a && b) ≡ true → b ≡ true
-last-true true b h = h
-last-true false b h = let z : _≡_ {A = ℕ} 0 1 = cc in absurd (omega arith)
-
-module _ (n p g : ℕ) (gate : Gate) (ok : gateOk n p g gate ≡ true) where
-  pub scale-constant : (a c : ℕ) → gate ≡ Scale a c → c < p
-  unfolding gateOk
-  scale-constant a c e = ltb-true c p (last-true (ltb a g) (ltb c p) (rw e at ok))
-
-  pub offset-constant : (a c : ℕ) → gate ≡ Offset a c → c < p
-  unfolding gateOk
-  offset-constant a c e = ltb-true c p (last-true (ltb a g) (ltb c p) (rw e at ok))
-
 module _ (p g : ℕ) (gate : Gate) (xs : List ℕ) (r : ℕ) where
   pub work-input : (s : ℕ) → gate ≡ Input s → r ≡ getD xs g 0 → set xs g r ≡ workGate p g gate xs
   unfolding workGate

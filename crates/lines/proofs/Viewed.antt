@@ -5,7 +5,7 @@
 --     view-back                                   a view that is lent as bytes
 -- Assumes nothing.
 use mathlib.Core.Path.{_≡_, refl, sym, ap, ap₂, _∙_}
-use mathlib.Core.Bool.{Bool, true, false, cond, _&&_}
+use mathlib.Core.Bool.{Bool, true, false, cond}
 use mathlib.Core.List.{List, [], _∷_, _++_, append-assoc, flatMap, List·Memᴰ}
 use Prim.Native.Nat.{ℕ, zero, suc, _+_, _-_, _<_, _≤_}
 use native.Mathlib.Omega.{arith}
@@ -16,6 +16,7 @@ use lib.Seq.{take-at, drop-at, getD-drop, getD-append-add, getD-append-seam}
 use Rattle.numbers.specs.Tables.{tab}
 use Rattle.numbers.specs.Bytes.{numbers, bytesOf, allBelow}
 use Rattle.numbers.proofs.Tables.{tab-ext}
+use Rattle.numbers.proofs.Truth.{both-true}
 use Rattle.polynomials.specs.Interp.{All}
 use Rattle.plan.specs.declared.Output.{Output}
 use Rattle.plan.specs.Plans.{Plan, partyCount, multiplies, ownOutCount, coinCount, mailCount, ownInputs, ownCoins, outWires, outWiresOf}
@@ -77,14 +78,6 @@ own-before seen x outs =
       length-append (outWiresOf (x .party) seen) (outWiresOf (x .party) (x ∷ outs)),
       ap length (own-out x outs),
     )
-
-and-left : (a b : Bool) → (a && b) ≡ true → a ≡ true
-and-left true b e = refl
-and-left false b e = e
-
-and-right : (a b : Bool) → (a && b) ≡ true → b ≡ true
-and-right true b e = e
-and-right false b e = let z : _≡_ {A = ℕ} 0 1 = cc in absurd (omega arith)
 
 module _ (plan : Plan) (valid : Valid plan) (xs cs : List ℕ) (full : length cs ≡ coinCount plan) where
   -- ---- one member
@@ -196,13 +189,13 @@ module _ (plan : Plan) (valid : Valid plan) (xs cs : List ℕ) (full : length cs
           inside = omega (arith, ap length e, length-append seen (x ∷ outs))
 
           party : between 1 (partyCount plan) (x .party) ≡ true
-          party = and-left (between 1 (partyCount plan) (x .party)) (ltb (x .wire) (length (plan .gates))) (rw at at (valid .outs (length seen) inside))
+          party = both-true (between 1 (partyCount plan) (x .party)) (ltb (x .wire) (length (plan .gates))) (rw at at (valid .outs (length seen) inside)) .0
 
           low : 1 ≤ x .party
-          low = leb-true 1 (x .party) (and-left (leb 1 (x .party)) (leb (x .party) (partyCount plan)) party)
+          low = leb-true 1 (x .party) (both-true (leb 1 (x .party)) (leb (x .party) (partyCount plan)) party .0)
 
           high : x .party ≤ partyCount plan
-          high = leb-true (x .party) (partyCount plan) (and-right (leb 1 (x .party)) (leb (x .party) (partyCount plan)) party)
+          high = leb-true (x .party) (partyCount plan) (both-true (leb 1 (x .party)) (leb (x .party) (partyCount plan)) party .1)
 
           before : length (outWiresOf (x .party) seen) < length (outWiresOf (x .party) (plan .outs))
           before = rw (← e) (own-before seen x outs)

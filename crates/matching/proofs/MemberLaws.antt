@@ -25,6 +25,7 @@ use Rattle.polynomials.specs.Interp.{All, delta}
 use Rattle.polynomials.specs.Sharing.{matched}
 use Rattle.polynomials.proofs.Deltas.{length-delta}
 use Rattle.polynomials.proofs.Elements.{padded-below, delta-below}
+use Rattle.polynomials.proofs.Alls.{all-take, all-drop}
 use Rattle.plan.specs.declared.Header.{Header}
 use Rattle.plan.specs.Plans.{Plan, pointOf}
 use Rattle.plan.specs.File.{planOf}
@@ -35,7 +36,7 @@ use Rattle.plan.proofs.Valid.{Valid}
 use Rattle.privacy.specs.Matching.{isMember, matchedBlocks}
 use Rattle.moves.specs.Moves.{moved, changeOf, movedBlocks}
 use Rattle.matching.specs.MatchSteps.{deltaTail}
-use Rattle.privacy.proofs.Blocks.{all-take, all-drop, matchedBlock, blocks-cons, block-member, block-other}
+use Rattle.privacy.proofs.Blocks.{matchedBlock, blocks-cons, block-member, block-other}
 use Rattle.privacy.proofs.SetMembers.{member-in, set-few, set-parties}
 
 -- ---- members by their bits

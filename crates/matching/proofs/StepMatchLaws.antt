@@ -19,11 +19,13 @@ use Rattle.numbers.specs.Bytes.{numbers, allBelow}
 use Rattle.numbers.proofs.Tables.{tab-ext}
 use Rattle.numbers.proofs.Bytes.{numbers-length}
 use Rattle.numbers.proofs.Below.{allBelow-append, allBelow-take, allBelow-drop}
+use Rattle.numbers.proofs.Truth.{both-true}
 use Rattle.field.specs.Mod.{mul}
 use Rattle.field.proofs.Inverse.{pos}
 use Rattle.polynomials.specs.Interp.{All}
 use Rattle.sharing.proofs.Coding.{map-tab}
 use Rattle.polynomials.proofs.Elements.{scale-below, sum-below}
+use Rattle.polynomials.proofs.Alls.{all-tab}
 use Rattle.plan.specs.declared.Gate.{Gate}
 use Rattle.plan.specs.declared.Gate.the-variants.{Input, Add, Scale, Offset, Multiply}
 use Rattle.plan.specs.declared.Header.{Header}
@@ -31,18 +33,16 @@ use Rattle.plan.specs.Plans.{Plan, partyCount, dealerCount, dealerPoints, deale
 use Rattle.plan.specs.File.{planOf, gateAt, gateOk}
 use Rattle.plan.specs.Planned.{Planned}
 use Rattle.coalition.specs.Coalitions.{members}
-use Rattle.plan.proofs.Planned.{both-true, between-true, plan-n, plan-t, plan-p, plan-dealers}
-use Rattle.plan.proofs.Valid.{Valid, valid}
+use Rattle.plan.proofs.Planned.{between-true, plan-n, plan-t, plan-p, plan-dealers}
+use Rattle.plan.proofs.Valid.{Valid, valid, gate-kept}
 use Rattle.protocol.specs.Shares.{wireAt, dealtAt, gateShare, coinsTaken}
 use Rattle.tables.specs.Rows.{rowsOf, productsOf, Sized, Standing, Taking, Stepped}
-use Rattle.protocol.proofs.Lists.{all-tab}
 use Rattle.tables.proofs.StepLaws.{planned-sized}
 use Rattle.tables.proofs.GateLaws.{entry-of-wire}
 use Rattle.privacy.specs.Matching.{matchedBlocks, matchedAt}
 use Rattle.moves.specs.Moves.{moved, movedBlocks, dealersIn, dealtIn, Lent, Advanced}
 use Rattle.matching.specs.MatchSteps.{deltaTail, Equipped, Turn, NewCoins, Matched}
 use Rattle.privacy.proofs.Blocks.{below-canon, share-prefix}
-use Rattle.ideal.proofs.IdealLaws.{gate-kept}
 use Rattle.matching.proofs.MemberLaws.{length-tail, tail-below, blocks-are}
 
 -- ---- who deals at a gate, and what

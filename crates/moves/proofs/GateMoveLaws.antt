@@ -16,6 +16,7 @@ use Rattle.numbers.specs.Tables.{tab}
 use Rattle.numbers.specs.Bytes.{allBelow}
 use Rattle.numbers.proofs.Tables.{length-tab}
 use Rattle.numbers.proofs.Below.{allBelow-tab, allBelow-take, allBelow-drop}
+use Rattle.numbers.proofs.Truth.{both-true}
 use Rattle.field.specs.Mod.{mul}
 use Rattle.field.proofs.Solve.{canon-lt, mul-canon}
 use Rattle.field.proofs.Inverse.{pos}
@@ -24,7 +25,6 @@ use Rattle.plan.specs.declared.Gate.{Gate}
 use Rattle.plan.specs.declared.Gate.the-variants.{Input, Add, Scale, Offset, Multiply}
 use Rattle.plan.specs.declared.Header.{Header}
 use Rattle.plan.specs.File.{gateOk}
-use Rattle.plan.proofs.Planned.{both-true}
 use Rattle.tables.specs.Rows.{productsOf, Rowed, Standing}
 use Rattle.tables.proofs.RowLaws.{part-front, row-room}
 use Rattle.moves.specs.Moves.{movedBlocks, dealersIn, dealtIn, Lent, Advanced}

@@ -5,3 +5,4 @@ pub mod Bytes
 pub mod Below
 pub mod Fills
 pub mod Ways
+pub mod Truth

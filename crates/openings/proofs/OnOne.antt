@@ -3,15 +3,14 @@
 --     dealing-opens     the opening of a polynomial's values is its value at 0
 --     dealing-on        and the check finds nothing
 -- Assumes nothing.
-use mathlib.Core.Path.{_≡_, refl, sym, ap, ap₂, _∙_}
-use mathlib.Core.Logic.{_≢_, _↔_}
+use mathlib.Core.Path.{_≡_, refl, sym, ap, _∙_}
+use mathlib.Core.Logic.{_↔_}
 use mathlib.Core.Bool.{true}
 use mathlib.Core.List.{List, [], _∷_, map}
-use Prim.Native.Nat.{ℕ, zero, suc, _+_, _%_, _≤_, _<_}
+use Prim.Native.Nat.{ℕ, zero, suc, _+_, _≤_, _<_}
 use native.Mathlib.Omega.{arith}
 use borrow.Author.Tests.{eqb-true, eq-eqb}
 use lib.ListN.{length, take, getD, length-map}
-use Rattle.numbers.specs.Tables.{tab}
 use Rattle.numbers.specs.Bytes.{allBelow}
 use Rattle.numbers.specs.declared.Found.the-variants.{Nothing}
 use Rattle.numbers.proofs.Tables.{is-tab, getD-tab}
@@ -27,22 +26,13 @@ use Rattle.sharing.proofs.Coding.{map-tab, values-below}
 use Rattle.openings.proofs.Rows.{agrees, length-weights, length-first, take-below}
 use Rattle.polynomials.proofs.Interpolation.{interpolation}
 use Rattle.polynomials.proofs.Shares.{lies-on}
+use Rattle.polynomials.proofs.Alls.{distinct-take}
 
 -- ---- the first entries of lists
 map-take : (f : ℕ → ℕ) (k : ℕ) (xs : List ℕ) → map f (take k xs) ≡ take k (map f xs)
 map-take f zero xs = refl
 map-take f (suc k) [] = refl
 map-take f (suc k) (x ∷ xs) = ap (λ (l : List ℕ). f x ∷ l) (map-take f k xs)
-
-all-take : (P : ℕ → Type 0) (k : ℕ) (xs : List ℕ) → All P xs → All P (take k xs)
-all-take P zero xs h = tt
-all-take P (suc k) [] h = tt
-all-take P (suc k) (x ∷ xs) h = (h .0, all-take P k xs (h .1))
-
-pub distinct-take : (p k : ℕ) (xs : List ℕ) → Distinct p xs → Distinct p (take k xs)
-distinct-take p zero xs d = tt
-distinct-take p (suc k) [] d = tt
-distinct-take p (suc k) (x ∷ xs) d = (all-take (λ y. y % p ≢ x % p) k xs (d .0), distinct-take p k xs (d .1))
 
 pub below-canon : (p : ℕ) (xs : List ℕ) → allBelow p xs ≡ true → All (Canon p) xs
 below-canon p [] h = tt

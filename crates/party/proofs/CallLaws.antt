@@ -20,6 +20,7 @@ use mir.Val.{Fits}
 use Rattle.numbers.specs.Bytes.{numbers, bytesOf, stored, allBelow}
 use Rattle.numbers.proofs.Bytes.{EachBelow, fits-below, numbers-drop, holds-length, take-stored, drop-stored, bytes-of-numbers}
 use Rattle.numbers.proofs.Below.{firstOver-nothing}
+use Rattle.numbers.proofs.Truth.{both-true}
 use Rattle.plan.specs.declared.Header.{Header}
 use Rattle.plan.specs.declared.Reading.{Reading}
 use Rattle.plan.specs.declared.Reading.the-variants as reading
@@ -32,7 +33,7 @@ use Rattle.plan.specs.Plans.{Plan, partyCount, multiplies, ownInputCount, ownCo
 use Rattle.plan.specs.File.{planChecks, planCheck, planOf}
 use Rattle.plan.specs.Planned.{Planned, ReadAs}
 use Rattle.plan.proofs.Refusals.{andThen-passed, andThen-refused, firstOf-append, passed-both, passed-need, passed-found}
-use Rattle.plan.proofs.Planned.{planned-read, refused-read, both-true, between-true, plan-p}
+use Rattle.plan.proofs.Planned.{planned-read, refused-read, between-true, plan-p}
 use Rattle.messages.specs.Messages.{learn, callWith, call}
 use Rattle.messages.specs.Calls.{partyChecks, callChecks, callAnswer, written, unlessRefused, calledOn, stateAfter, outAfter}
 use Rattle.learning.specs.Lent.{Holds}

@@ -4,7 +4,7 @@
 --     party-count .. out-of-plan    the plan's parts, by its contents
 -- Assumes nothing.
 use mathlib.Core.Path.{_≡_, refl, sym, ap, _∙_}
-use mathlib.Core.Bool.{Bool, true, false, _&&_}
+use mathlib.Core.Bool.{Bool, true, _&&_}
 use mathlib.Core.List.{List}
 use Prim.Native.Nat.{ℕ, suc, _+_, _*_, _<_, _≤_}
 use native.Mathlib.Omega.{arith}
@@ -15,6 +15,7 @@ use Rattle.numbers.specs.Tables.{tab, firstFailing}
 use Rattle.numbers.specs.Bytes.{wordAt}
 use Rattle.numbers.specs.declared.Found.the-variants.{Nothing}
 use Rattle.numbers.proofs.Tables.{length-tab, getD-tab}
+use Rattle.numbers.proofs.Truth.{both-true}
 use Rattle.field.specs.Prime.{isPrime}
 use Rattle.plan.specs.declared.Gate.the-variants.{Input}
 use Rattle.plan.specs.declared.Header.{Header}
@@ -60,10 +61,6 @@ passing bs h =
     }
 
 -- ---- its bounds
-pub both-true : (a b : Bool) → (a && b) ≡ true → (a ≡ true) × (b ≡ true)
-both-true true b h = (refl, h)
-both-true false b h = let z : _≡_ {A = ℕ} 0 1 = cc in absurd (omega arith)
-
 pub between-true : (a b x : ℕ) → between a b x ≡ true → (a ≤ x) × (x ≤ b)
 unfolding between
 between-true a b x h = let t = both-true (leb a x) (leb x b) h in (leb-true a x (t .0), leb-true x b (t .1))

@@ -1,5 +1,5 @@
 -- What the proofs use of a plan that passes.
-use Prim.Native.Nat.{ℕ, zero, suc, _+_, _*_, _%_, _<_}
+use Prim.Native.Nat.{ℕ, suc, _+_, _*_, _%_, _<_}
 use native.Mathlib.Nat.{mod-eq-of-lt}
 use native.Mathlib.Omega.{arith}
 use mathlib.Core.Path.{_≡_, sym, subst}
@@ -9,18 +9,23 @@ use mathlib.Core.List.{List}
 use borrow.Author.Tests.{ltb-true}
 use lib.Dec.{T, ltb}
 use lib.ListN.{length, getD}
-use Rattle.numbers.specs.Tables.{tab}
 use Rattle.numbers.proofs.Tables.{length-tab, getD-tab}
 use Rattle.numbers.proofs.Searches.{nothing-passes}
+use Rattle.numbers.proofs.Truth.{both-true}
 use Rattle.field.specs.Prime.{isPrime, Prime}
+use Rattle.field.specs.Field.{Ready}
 use Rattle.field.proofs.Primes.{prime-sound}
 use Rattle.polynomials.specs.Interp.{All, Distinct}
 use Rattle.polynomials.proofs.Shares.{points-distinct}
+use Rattle.polynomials.proofs.Alls.{all-tab}
 use Rattle.plan.specs.declared.Checked.the-variants.{Passed}
-use Rattle.plan.specs.declared.Gate.the-variants.{Input}
+use Rattle.plan.specs.declared.Gate.{Gate}
+use Rattle.plan.specs.declared.Gate.the-variants.{Input, Scale, Offset}
+use Rattle.plan.specs.declared.Header.{Header}
 use Rattle.plan.specs.Plans.{Plan, partyCount}
 use Rattle.plan.specs.File.{nAt, tAt, pAt, gateCountAt, outCountAt, gateAt, outAt, gateOk, outOk, gateKept, outKept, planCheck, planOf}
-use Rattle.plan.proofs.Planned.{Passing, passing, both-true}
+use Rattle.plan.specs.Planned.{Planned}
+use Rattle.plan.proofs.Planned.{Passing, passing, plan-p, plan-n, plan-gates, plan-gate}
 
 pub record Valid (plan : Plan) : Type 0 where
   pub prime : Prime (plan .p)
@@ -31,11 +36,6 @@ pub record Valid (plan : Plan) : Type 0 where
   pub small : All (λ x. x < plan .p) (plan .points)
   pub gates : (g : ℕ) → g < length (plan .gates) → gateOk (partyCount plan) (plan .p) g (getD (plan .gates) g (Input 0)) ≡ true
   pub outs : (o : ℕ) → o < length (plan .outs) → outOk (partyCount plan) (length (plan .gates)) (getD (plan .outs) o (record { party = 0; wire = 0 })) ≡ true
-
-all-tab : (P : ℕ → Type 0) (f : ℕ → ℕ) (n : ℕ) → ((i : ℕ) → i < n → P (f i)) → All P (tab f n)
-unfolding tab
-all-tab P f zero h = tt
-all-tab P f (suc n) h = (h 0 (omega arith), all-tab P (λ k. f (suc k)) n (λ i l. h (suc i) (omega arith)))
 
 module _ (bs : List ℕ) (h : planCheck bs ≡ Passed) where
   checks : Passing bs
@@ -76,3 +76,22 @@ module _ (bs : List ℕ) (h : planCheck bs ≡ Passed) where
             rw (length-tab suc (nAt bs), length-tab (gateAt bs) (gateCountAt bs), getD-tab (outAt bs) (outCountAt bs) o (record { party = 0; wire = 0 }) k)
             (outs-kept o k);
       }
+
+-- ---- as the code asks it
+module _ (bs : List ℕ) (h : Header) (k : Planned bs h) where
+  pub planned-ready : Ready (h .field .p)
+  planned-ready = record { prime = rw (← plan-p k) (valid bs (k .passes) .prime); small = k .p-high }
+
+  pub gate-kept : (g : ℕ) (gate : Gate) → g < h .gates → gate ≡ gateAt bs g → gateOk (h .n) (h .field .p) g gate ≡ true
+  gate-kept g gate l e =
+      rw (e, ← plan-n k, ← plan-p k, ← plan-gate k g l) (valid bs (k .passes) .gates g (rw (plan-gates k) l))
+
+-- a gate's constant is an element
+module _ (n p g : ℕ) (gate : Gate) (ok : gateOk n p g gate ≡ true) where
+  pub scale-constant : (a c : ℕ) → gate ≡ Scale a c → c < p
+  unfolding gateOk
+  scale-constant a c e = ltb-true c p (both-true (ltb a g) (ltb c p) (rw e at ok) .1)
+
+  pub offset-constant : (a c : ℕ) → gate ≡ Offset a c → c < p
+  unfolding gateOk
+  offset-constant a c e = ltb-true c p (both-true (ltb a g) (ltb c p) (rw e at ok) .1)

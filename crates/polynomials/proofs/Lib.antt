@@ -5,3 +5,4 @@ pub mod Deltas
 pub mod Shares
 pub mod Worked
 pub mod Elements
+pub mod Alls

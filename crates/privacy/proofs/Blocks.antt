@@ -9,7 +9,7 @@
 use mathlib.Core.Path.{_≡_, refl, sym, ap, ap₂, _∙_, fun-ext}
 use mathlib.Core.Bool.{Bool, true, false, cond}
 use mathlib.Core.List.{List, [], _∷_, _++_, map, flatMap, append-assoc}
-use Prim.Native.Nat.{ℕ, zero, suc, _+_, _*_, _≤_, _<_}
+use Prim.Native.Nat.{ℕ, suc, _+_, _*_, _≤_, _<_}
 use native.Mathlib.Nat.{mul-zero}
 use native.Mathlib.Omega.{arith}
 use borrow.Author.Tests.{ltb-true, lt-ltb}
@@ -26,6 +26,7 @@ use Rattle.polynomials.specs.Poly.{eval}
 use Rattle.polynomials.specs.Interp.{All, weights, dot}
 use Rattle.polynomials.specs.Sharing.{matched}
 use Rattle.polynomials.proofs.Shares.{length-matched, matched-canon, matched-back}
+use Rattle.polynomials.proofs.Alls.{all-append, all-take, all-drop}
 use Rattle.plan.specs.declared.Gate.{Gate}
 use Rattle.plan.specs.declared.Gate.the-variants.{Input, Add, Scale, Offset, Multiply}
 use Rattle.plan.specs.Plans.{Plan, partyCount, dealerCount, dealerPoints, pointOf, dealersOf, dealings, coinCount}
@@ -33,21 +34,6 @@ use Rattle.plan.proofs.Valid.{Valid}
 use Rattle.protocol.specs.Ideal.{inputsTaken}
 use Rattle.protocol.specs.Shares.{dealtAt, sharings, piecesAt, gateShare, coinsTaken, sharesFrom}
 use Rattle.privacy.specs.Matching.{isMember, matchedBlocks, matchedAt, matchFrom, matchedCoins}
-
--- ---- lists of remainders
-pub all-append : (P : ℕ → Type 0) (xs ys : List ℕ) → All P xs → All P ys → All P (xs ++ ys)
-all-append P [] ys h k = k
-all-append P (x ∷ xs) ys h k = (h .0, all-append P xs ys (h .1) k)
-
-pub all-take : (P : ℕ → Type 0) (n : ℕ) (xs : List ℕ) → All P xs → All P (take n xs)
-all-take P zero xs h = tt
-all-take P (suc n) [] h = tt
-all-take P (suc n) (x ∷ xs) h = (h .0, all-take P n xs (h .1))
-
-pub all-drop : (P : ℕ → Type 0) (n : ℕ) (xs : List ℕ) → All P xs → All P (drop n xs)
-all-drop P zero xs h = h
-all-drop P (suc n) [] h = tt
-all-drop P (suc n) (x ∷ xs) h = all-drop P n xs (h .1)
 
 both : (a b : Bool) → cond a b false ≡ true → (a ≡ true) × (b ≡ true)
 both true b h = (refl, h)

@@ -22,11 +22,12 @@ use Rattle.field.specs.Mod.{add, mul, sub}
 use Rattle.field.proofs.Solve.{Canon, #, quote, solve}
 use Rattle.field.proofs.Inverse.{pos}
 use Rattle.polynomials.specs.Poly.{eval}
-use Rattle.polynomials.specs.Interp.{All, weights, dot, interpolate, delta}
+use Rattle.polynomials.specs.Interp.{weights, dot, interpolate, delta}
 use Rattle.polynomials.specs.Sharing.{matched}
 use Rattle.polynomials.proofs.Polys.{eval-canon}
 use Rattle.polynomials.proofs.Deltas.{delta-at}
 use Rattle.polynomials.proofs.Shares.{matched-all, product-interpolation}
+use Rattle.polynomials.proofs.Alls.{all-at}
 use Rattle.plan.specs.declared.Gate.{Gate}
 use Rattle.plan.specs.declared.Gate.the-variants.{Input, Add, Scale, Offset, Multiply}
 use Rattle.plan.specs.Plans.{Plan, partyCount, dealerCount, dealerPoints, pointOf, dealersOf, dealings, coinCount, ownInputsOf, ownInputs}
@@ -36,12 +37,6 @@ use Rattle.protocol.specs.Shares.{wireAt, dealtAt, sharings, piecesAt, gateShar
 use Rattle.protocol.proofs.Sound.{Shared, none-shared, after-shared, dealers-distinct, dealers-length, input-below}
 use Rattle.privacy.specs.Matching.{isMember, matchedBlocks, matchedAt, matchFrom, matchedCoins}
 use Rattle.privacy.proofs.Blocks.{matchedBlock, blocks-cons, block-member, block-other, length-block, length-dealt, length-dealers, coinsOf, coins-cons, after, newAt, matched-run}
-
--- ---- members' points
-pub all-at : (P : ℕ → Type 0) (xs : List ℕ) → All P xs → (k : ℕ) → k < length xs → P (getD xs k 0)
-all-at P [] h k lt = absurd (omega arith)
-all-at P (x ∷ xs) h zero lt = h .0
-all-at P (x ∷ xs) h (suc k) lt = all-at P xs (h .1) k (omega arith)
 
 pub member-point : (plan : Plan) (ms : List ℕ) (i : ℕ) → isMember i ms ≡ true → List·Memᴰ (pointOf plan i) (map (pointOf plan) ms)
 unfolding isMember
@@ -56,7 +51,7 @@ member-point plan (j ∷ ms) i m = pick (eqb i j) refl m (member-point plan ms i
 
 pub party-point : (plan : Plan) → Valid plan → (i : ℕ) → i ≤ partyCount plan → pointOf plan i % plan .p ≢ 0
 unfolding pointOf partyCount
-party-point plan valid i le = all-at (λ x. x % plan .p ≢ 0) (plan .points) (valid .nonzero) (i - 1) (omega (arith, valid .majority))
+party-point plan valid i le = all-at (λ x. x % plan .p ≢ 0) (plan .points) (i - 1) (valid .nonzero) (omega (arith, valid .majority))
 
 -- the dealers' points are those of parties 1 to 2t + 1
 pub dealers-points : (plan : Plan) → Valid plan → dealerPoints plan ≡ map (pointOf plan) (tab suc (dealerCount plan))

@@ -4,7 +4,7 @@
 --     view-same, views-same        a member's view of the table, and the coalition's
 -- Assumes nothing.
 use mathlib.Core.Path.{_≡_, refl, sym, ap, ap₂, _∙_, subst, fun-ext}
-use mathlib.Core.Bool.{Bool, true, false, cond, _&&_}
+use mathlib.Core.Bool.{Bool, true, false, cond}
 use mathlib.Core.List.{List, [], _∷_, _++_, map, flatMap, head-eq-of-cons-eq, tail-eq-of-cons-eq}
 use Prim.Native.Nat.{ℕ, zero, suc, _+_, _*_, _≤_, _<_}
 use native.Mathlib.Nat.{mul-zero}
@@ -14,6 +14,7 @@ use lib.Dec.{ltb}
 use lib.ListN.{length, take, drop, getD, length-append, List·getD-append}
 use lib.Seq.{drop-drop}
 use Rattle.numbers.specs.Bytes.{allBelow}
+use Rattle.numbers.proofs.Truth.{both-true}
 use Rattle.field.specs.Mod.{mul}
 use Rattle.polynomials.specs.Sharing.{opened}
 use Rattle.plan.specs.declared.Gate.{Gate}
@@ -47,10 +48,6 @@ dealt-by-wires :
     → dealtAt plan (Multiply a b) T u ≡ dealtAt plan (Multiply a b) env v
 unfolding dealtAt
 dealt-by-wires plan a b u v env T ea eb = ap₂ (λ (f h : ℕ → ℕ). map (λ x. mul (plan .p) (f x) (h x)) (dealerPoints plan)) ea eb
-
-both-true : (a b : Bool) → (a && b) ≡ true → (a ≡ true) × (b ≡ true)
-both-true true b h = (refl, h)
-both-true false b h = let z : _≡_ {A = ℕ} 0 1 = cc in absurd (omega arith)
 
 multiply-wires : (n p k a b : ℕ) → gateOk n p k (Multiply a b) ≡ true → (a < k) × (b < k)
 unfolding gateOk

@@ -1,9 +1,9 @@
 -- The members that a set names are parties, and few, if the set passes.
 --     set-few, set-parties     what the laws of this crate ask of the list of members
 -- Assumes nothing.
-use mathlib.Core.Path.{_≡_, refl, sym, ap, _∙_}
-use mathlib.Core.Bool.{Bool, true, false, cond, _&&_}
-use mathlib.Core.List.{List, [], _∷_}
+use mathlib.Core.Path.{_≡_, refl, ap, _∙_}
+use mathlib.Core.Bool.{Bool, true, false, cond}
+use mathlib.Core.List.{_∷_}
 use Prim.Native.Nat.{ℕ, zero, suc, _-_, _/_, _%_, _^_, _≤_, _<_}
 use native.Mathlib.Decide.{decLe}
 use native.Mathlib.Nat.{pow-le-pow-right, div-eq-of-lt}
@@ -14,10 +14,7 @@ use lib.ListN.{length}
 use Rattle.plan.specs.Plans.{Plan, partyCount}
 use Rattle.coalition.specs.Coalitions.{inSet, membersFrom, members, setOk}
 use Rattle.privacy.specs.Matching.{isMember}
-
-both-true : (a b : Bool) → (a && b) ≡ true → (a ≡ true) × (b ≡ true)
-both-true true b h = (refl, h)
-both-true false b h = let z : _≡_ {A = ℕ} 0 1 = cc in absurd (omega arith)
+use Rattle.numbers.proofs.Truth.{both-true}
 
 -- a member's bit is set
 pub member-in : (set k i j : ℕ) → isMember i (membersFrom set j k) ≡ true → inSet set i ≡ true

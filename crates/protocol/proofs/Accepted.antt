@@ -21,6 +21,7 @@ use Rattle.numbers.proofs.Below.{allBelow-at, at-allBelow, nothing-firstOver}
 use Rattle.field.proofs.Inverse.{pos}
 use Rattle.polynomials.specs.Interp.{All}
 use Rattle.polynomials.specs.Sharing.{firstOff}
+use Rattle.polynomials.proofs.Alls.{all-append, all-take, all-drop, all-at}
 use Rattle.plan.specs.declared.Checked.{Checked}
 use Rattle.plan.specs.declared.Checked.the-variants.{Passed, Refused}
 use Rattle.plan.specs.declared.Refusal.{Refusal}
@@ -33,7 +34,7 @@ use Rattle.messages.specs.Messages.{wiresByParty, sharesOfOut}
 use Rattle.messages.specs.Calls.{nothingFound, openingCheck, partyChecks}
 use Rattle.protocol.specs.Rounds.{fresh, callOf, mailTo, round, stateIn, mailIn}
 use Rattle.protocol.specs.Shares.{shareTable, wireAt}
-use Rattle.protocol.proofs.Lists.{length-map, all-append, all-take, all-drop, all-getD, all-at, at-all, all-mapped}
+use Rattle.protocol.proofs.Lists.{length-map, all-getD, at-all, all-mapped}
 use Rattle.protocol.proofs.Blocks.{inputAt, own-inputs, length-ownBlocks, count-dealings}
 use Rattle.protocol.proofs.States.{getD-zeros, Known}
 use Rattle.protocol.proofs.Carried.{sharesAt, state-is, mail-inputs, mail-product, out-mail, shares-of-out, known-after, known-all, shares-last}

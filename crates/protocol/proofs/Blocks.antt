@@ -17,11 +17,12 @@ use Rattle.numbers.specs.Tables.{tab, countWhere}
 use Rattle.numbers.proofs.Tables.{tab-append, tab-cons, length-tab}
 use Rattle.numbers.proofs.Counts.{countWhere-append}
 use Rattle.polynomials.specs.Interp.{All}
+use Rattle.polynomials.proofs.Alls.{all-tab}
 use Rattle.plan.specs.declared.Gate.{Gate}
 use Rattle.plan.specs.declared.Gate.the-variants.{Input, Add, Scale, Offset, Multiply}
 use Rattle.plan.specs.Plans.{Plan, dealerCount, isInput, isInputOf, dealersOf, deals, dealings, wiresFrom, coinCount, dealingsBelow, ownInputsOf, ownInputs, inputWires, wiresWhere, ownBlocks, ownCoins, coinsAt}
 use Rattle.protocol.specs.Shares.{coinsBelow}
-use Rattle.protocol.proofs.Lists.{all-tab, flatMap-append}
+use Rattle.protocol.proofs.Lists.{flatMap-append}
 
 -- ---- of coins in blocks, a dealer's own
 block-append : (b : Bool) (h u r s : List ℕ) → u ≡ r ++ s → cond b (h ++ u) u ≡ cond b (h ++ r) r ++ s

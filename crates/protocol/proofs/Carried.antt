@@ -16,10 +16,12 @@ use lib.ListN.{length, getD, take, drop, set, replicate}
 use lib.Seq.{drop-drop, getD-take, length-take-le}
 use Rattle.numbers.specs.Tables.{tab}
 use Rattle.numbers.proofs.Tables.{tab-ext, tab-map, tab-append, tab-cons, tab-snoc, length-tab, getD-tab, list-tab}
+use Rattle.numbers.proofs.Truth.{both-true}
 use Rattle.field.specs.Mod.{mul}
 use Rattle.polynomials.specs.Poly.{eval}
 use Rattle.polynomials.specs.Interp.{All, weights, dot}
 use Rattle.polynomials.specs.Sharing.{opened}
+use Rattle.polynomials.proofs.Alls.{all-tab}
 use Rattle.plan.specs.declared.Gate.{Gate}
 use Rattle.plan.specs.declared.Gate.the-variants.{Input, Add, Scale, Offset, Multiply}
 use Rattle.plan.specs.declared.Output.{Output}
@@ -29,9 +31,9 @@ use Rattle.plan.proofs.Valid.{Valid}
 use Rattle.messages.specs.Messages.{Called, callWith, call, setAll, wiresByParty, reduced, learn, dealTo, nothing, inputPolys, sendInputs, productAt, sendProduct, sendOuts, send, sharesOfOut, resultsOf}
 use Rattle.protocol.specs.Rounds.{fresh, noCall, callOf, mailTo, round, mailIn, results, mails, viewOf, view}
 use Rattle.protocol.specs.Shares.{wireAt, dealtAt, sharings, piecesAt, gateShare, shareTable, coinsBelow, pieces, tableMails, tableResults, tableViewOf}
-use Rattle.protocol.proofs.Lists.{map-all, flatMap-all, flatMap-tabs, flatMap-nil, flatMap-single, flatMap-append, flatMap-map, map-flatMap, length-map, getD-map-in, getD-rows, all-tab, all-map, all-cond, in-tab, in-flatMap}
+use Rattle.protocol.proofs.Lists.{map-all, flatMap-all, flatMap-tabs, flatMap-nil, flatMap-single, flatMap-append, flatMap-map, map-flatMap, length-map, getD-map-in, getD-rows, all-map, all-cond, in-tab, in-flatMap}
 use Rattle.protocol.proofs.Blocks.{inputAt, own-inputs, own-coins-input, own-coins-product}
-use Rattle.protocol.proofs.States.{both, wires-all, wires-in, Known, start-known, learn-known, gate-reads, table-gate, work-from-known, horizon, horizon-multiply, horizon-next, horizon-first, horizon-end, length-multiplies, Multiplied, multiplied}
+use Rattle.protocol.proofs.States.{wires-all, wires-in, Known, start-known, learn-known, gate-reads, table-gate, work-from-known, horizon, horizon-multiply, horizon-next, horizon-first, horizon-end, length-multiplies, Multiplied, multiplied}
 
 -- ---- the parties, and what a list has for each
 module _ (plan : Plan) where
@@ -132,7 +134,7 @@ is-input-of i (Multiply a b) h = let q : _≡_ {A = ℕ} 0 1 = cc in absurd (ome
 -- an input gate's party
 is-input : (n p g : ℕ) (x : Gate) → isInput x ≡ true → gateOk n p g x ≡ true → (s : ℕ) × (isInputOf s x ≡ true) × (1 ≤ s) × (s ≤ n)
 unfolding isInput gateOk isInputOf between
-is-input n p g (Input s) h ok = (s, eq-eqb s s refl, leb-true 1 s (both (leb 1 s) (leb s n) ok .0), leb-true s n (both (leb 1 s) (leb s n) ok .1))
+is-input n p g (Input s) h ok = (s, eq-eqb s s refl, leb-true 1 s (both-true (leb 1 s) (leb s n) ok .0), leb-true s n (both-true (leb 1 s) (leb s n) ok .1))
 is-input n p g (Add a b) h ok = let q : _≡_ {A = ℕ} 0 1 = cc in absurd (omega arith)
 is-input n p g (Scale a c) h ok = let q : _≡_ {A = ℕ} 0 1 = cc in absurd (omega arith)
 is-input n p g (Offset a c) h ok = let q : _≡_ {A = ℕ} 0 1 = cc in absurd (omega arith)
@@ -144,7 +146,7 @@ unfolding outWiresOf outOk
 outs-within n gates i [] h = tt
 outs-within n gates i (o ∷ os) h =
     all-cond (λ w. w < gates) (eqb i (o .party)) (o .wire) (outWiresOf i os)
-    (λ e. ltb-true (o .wire) gates (both (between 1 n (o .party)) (ltb (o .wire) gates) (h 0 (omega arith)) .1))
+    (λ e. ltb-true (o .wire) gates (both-true (between 1 n (o .party)) (ltb (o .wire) gates) (h 0 (omega arith)) .1))
     (outs-within n gates i os (λ k l. h (suc k) (omega arith)))
 
 module _ (plan : Plan) (valid : Valid plan) where

@@ -16,9 +16,11 @@ use lib.Dec.{eqb, leb, ltb}
 use lib.ListN.{length, getD, take, drop, length-append}
 use Rattle.numbers.specs.Tables.{tab, countWhere}
 use Rattle.numbers.proofs.Tables.{tab-append, length-tab}
+use Rattle.numbers.proofs.Truth.{both-true}
 use Rattle.polynomials.specs.Poly.{eval}
 use Rattle.polynomials.specs.Interp.{All}
 use Rattle.polynomials.specs.Sharing.{opened}
+use Rattle.polynomials.proofs.Alls.{all-tab}
 use Rattle.plan.specs.declared.Gate.{Gate}
 use Rattle.plan.specs.declared.Gate.the-variants.{Input, Add, Scale, Offset, Multiply}
 use Rattle.plan.specs.declared.Output.{Output}
@@ -29,9 +31,9 @@ use Rattle.messages.specs.Messages.{Called, callWith, wiresByParty, dealTo, not
 use Rattle.messages.specs.Calls.{written}
 use Rattle.protocol.specs.Rounds.{callOf, mailTo, round, results, sentIn, sentBefore, sentAll}
 use Rattle.protocol.specs.Shares.{shareTable, wireAt, coinsBelow, tableResults}
-use Rattle.protocol.proofs.Lists.{length-map, length-rows, flatMap-map, flatMap-nil, all-tab, all-every}
+use Rattle.protocol.proofs.Lists.{length-map, length-rows, flatMap-map, flatMap-nil, all-every}
 use Rattle.protocol.proofs.Blocks.{count-dealers}
-use Rattle.protocol.proofs.States.{both, length-wires, Multiplied, multiplied}
+use Rattle.protocol.proofs.States.{length-wires, Multiplied, multiplied}
 use Rattle.protocol.proofs.Carried.{each-party, length-parties, called, round-called, call-at, sentBy, sharesAt, mail-inputs, product-of, pieces-tab, mail-product, out-mail, results-table}
 
 -- ---- sums over a list
@@ -112,7 +114,7 @@ one-party s n l m =
 module _ (plan : Plan) (valid : Valid plan) where
   input-once : (n p g : ℕ) (x : Gate) → gateOk n p g x ≡ true → total (λ i. cond (isInputOf i x) 1 0) (tab suc n) ≡ cond (isInput x) 1 0
   unfolding gateOk isInputOf isInput between
-  input-once n p g (Input s) ok = one-party s n (leb-true 1 s (both (leb 1 s) (leb s n) ok .0)) (leb-true s n (both (leb 1 s) (leb s n) ok .1))
+  input-once n p g (Input s) ok = one-party s n (leb-true 1 s (both-true (leb 1 s) (leb s n) ok .0)) (leb-true s n (both-true (leb 1 s) (leb s n) ok .1))
   input-once n p g (Add a b) ok = total-const 0 (tab suc n) ∙ mul-zero (length (tab suc n))
   input-once n p g (Scale a c) ok = total-const 0 (tab suc n) ∙ mul-zero (length (tab suc n))
   input-once n p g (Offset a c) ok = total-const 0 (tab suc n) ∙ mul-zero (length (tab suc n))
@@ -150,8 +152,8 @@ module _ (plan : Plan) (valid : Valid plan) where
   out-once : (n gates : ℕ) (o : Output) → outOk n gates o ≡ true → total (λ i. cond (eqb i (o .party)) 1 0) (tab suc n) ≡ 1
   unfolding outOk between
   out-once n gates o ok =
-      let q : ((leb 1 (o .party) && leb (o .party) n) ≡ true) × (ltb (o .wire) gates ≡ true) = both (leb 1 (o .party) && leb (o .party) n) (ltb (o .wire) gates) ok in
-      let r : (leb 1 (o .party) ≡ true) × (leb (o .party) n ≡ true) = both (leb 1 (o .party)) (leb (o .party) n) (q .0) in
+      let q : ((leb 1 (o .party) && leb (o .party) n) ≡ true) × (ltb (o .wire) gates ≡ true) = both-true (leb 1 (o .party) && leb (o .party) n) (ltb (o .wire) gates) ok in
+      let r : (leb 1 (o .party) ≡ true) × (leb (o .party) n ≡ true) = both-true (leb 1 (o .party)) (leb (o .party) n) (q .0) in
       one-party (o .party) n (leb-true 1 (o .party) (r .0)) (leb-true (o .party) n (r .1))
 
   pub total-outs : total (ownOutCount plan) (parties plan) ≡ length (plan .outs)

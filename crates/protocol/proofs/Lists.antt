@@ -1,6 +1,6 @@
 -- Laws of lists: maps and concatenations that agree entry by entry, rows laid end to end, and statements on every entry.
 --     map-all, flatMap-all, flatMap-tabs, flatMap-append, flatMap-map, map-flatMap     maps and concatenations
---     all-tab, all-every, all-append, all-flatMap, all-map, all-take, all-drop, at-all  on every entry
+--     all-every, all-flatMap, all-map, at-all  on every entry
 --     in-tab, in-flatMap                                                               membership
 --     getD-map-in, getD-rows, length-rows                                              entries of maps and of rows
 -- Assumes nothing.
@@ -10,10 +10,11 @@ use mathlib.Core.List.{List, [], _∷_, _++_, map, flatMap, append-assoc, List·
 use Prim.Native.Nat.{ℕ, zero, suc, _+_, _*_, _<_}
 use native.Mathlib.Nat.{mul-zero, zero-mul, suc-mul, mul-suc}
 use native.Mathlib.Omega.{arith}
-use lib.ListN.{length, getD, take, drop, length-append, List·getD-append}
+use lib.ListN.{length, getD, length-append, List·getD-append}
 use lib.Seq.{getD-append-add}
 use Rattle.numbers.specs.Tables.{tab}
 use Rattle.polynomials.specs.Interp.{All}
+use Rattle.polynomials.proofs.Alls.{all-append}
 
 -- ---- maps and concatenations
 module _ {B : Type 0} where
@@ -75,19 +76,9 @@ module _ {A B C : Type 0} where
   map-flatMap g f [] = refl
   map-flatMap g f (x ∷ xs) = map-append g (f x) (flatMap f xs) ∙ ap (λ (l : List C). map g (f x) ++ l) (map-flatMap g f xs)
 
--- ---- on every entry
-pub all-tab : (P : ℕ → Type 0) (f : ℕ → ℕ) (n : ℕ) → ((k : ℕ) → k < n → P (f k)) → All P (tab f n)
-unfolding tab
-all-tab P f zero h = tt
-all-tab P f (suc n) h = (h 0 (omega arith), all-tab P (λ k. f (suc k)) n (λ k l. h (suc k) (omega arith)))
-
 pub all-every : (P : ℕ → Type 0) (xs : List ℕ) → ((x : ℕ) → P x) → All P xs
 all-every P [] h = tt
 all-every P (x ∷ xs) h = (h x, all-every P xs h)
-
-pub all-append : (P : ℕ → Type 0) (xs ys : List ℕ) → All P xs → All P ys → All P (xs ++ ys)
-all-append P [] ys a b = b
-all-append P (x ∷ xs) ys a b = (a .0, all-append P xs ys (a .1) b)
 
 pub all-flatMap : (P : ℕ → Type 0) (f : ℕ → List ℕ) (xs : List ℕ) → All (λ x. All P (f x)) xs → All P (flatMap f xs)
 unfolding flatMap
@@ -102,16 +93,6 @@ pub all-mapped : {A : Type 0} (P : ℕ → Type 0) (f : A → ℕ) (xs : List A)
 all-mapped P f [] h = tt
 all-mapped P f (x ∷ xs) h = (h x, all-mapped P f xs h)
 
-pub all-take : (P : ℕ → Type 0) (n : ℕ) (xs : List ℕ) → All P xs → All P (take n xs)
-all-take P zero xs a = tt
-all-take P (suc n) [] a = tt
-all-take P (suc n) (x ∷ xs) a = (a .0, all-take P n xs (a .1))
-
-pub all-drop : (P : ℕ → Type 0) (n : ℕ) (xs : List ℕ) → All P xs → All P (drop n xs)
-all-drop P zero xs a = a
-all-drop P (suc n) [] a = tt
-all-drop P (suc n) (x ∷ xs) a = all-drop P n xs (a .1)
-
 pub all-getD : (P : ℕ → Type 0) (xs : List ℕ) (i d : ℕ) → P d → All P xs → P (getD xs i d)
 all-getD P [] i d h a = h
 all-getD P (x ∷ xs) zero d h a = a .0
@@ -125,11 +106,6 @@ at-all P (x ∷ xs) h = (h 0 (omega arith), at-all P xs (λ i l. h (suc i) (omeg
 pub all-cond : (P : ℕ → Type 0) (b : Bool) (x : ℕ) (xs : List ℕ) → (b ≡ true → P x) → All P xs → All P (cond b (x ∷ xs) xs)
 all-cond P true x xs h a = (h refl, a)
 all-cond P false x xs h a = a
-
-pub all-at : (P : ℕ → Type 0) (xs : List ℕ) (i : ℕ) → All P xs → i < length xs → P (getD xs i 0)
-all-at P [] i a l = absurd (omega arith)
-all-at P (x ∷ xs) zero a l = a .0
-all-at P (x ∷ xs) (suc i) a l = all-at P xs i (a .1) (omega arith)
 
 -- ---- membership
 pub in-tab : (x : ℕ) (f : ℕ → ℕ) (n k : ℕ) → k < n → x ≡ f k → List·Memᴰ x (tab f n)

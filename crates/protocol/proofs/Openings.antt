@@ -21,11 +21,12 @@ use Rattle.field.specs.Prime.{Prime}
 use Rattle.polynomials.specs.Interp.{Distinct, weight, weights, dot, interpolate}
 use Rattle.polynomials.specs.Sharing.{opened, firstOff}
 use Rattle.polynomials.proofs.Interpolation.{interpolation}
+use Rattle.polynomials.proofs.Alls.{distinct-take}
 use Rattle.plan.specs.Plans.{Plan, partyCount, outWires}
 use Rattle.plan.proofs.Valid.{Valid}
 use Rattle.protocol.specs.Ideal.{values, granted}
 use Rattle.protocol.specs.Shares.{wireAt, shareTable, tableResults}
-use Rattle.protocol.proofs.Sound.{Shared, take-distinct, shared}
+use Rattle.protocol.proofs.Sound.{Shared, shared}
 
 -- ---- what a list longer than the weights adds counts for nothing
 dot-first : (p : ℕ) (ws : List ℕ) (h : ℕ → ℕ) (k : ℕ) (xs : List ℕ) → length ws ≤ k → dot p ws (map h xs) ≡ dot p ws (map h (take k xs))
@@ -52,7 +53,7 @@ module _ {p : ℕ} (prime : Prime p) (t : ℕ) (xs : List ℕ) (distinct : Disti
   interpolated z =
       interpolate-first p z (t + 1) xs h enough
       ∙ ap (λ (g : ℕ → ℕ). interpolate p z (take (t + 1) xs) (map g (take (t + 1) xs))) (fun-ext (s .value))
-      ∙ interpolation prime z (take (t + 1) xs) (s .poly) (take-distinct p (t + 1) xs distinct) (omega (arith, s .small, length-take-le (t + 1) xs enough))
+      ∙ interpolation prime z (take (t + 1) xs) (s .poly) (distinct-take p (t + 1) xs distinct) (omega (arith, s .small, length-take-le (t + 1) xs enough))
       ∙ sym (s .value z)
 
   pub shared-opened : opened p t xs (map h xs) ≡ v

@@ -4,7 +4,6 @@
 --     shared-from, shared         these gates, and every wire of the table
 -- Assumes nothing.
 use mathlib.Core.Path.{_≡_, refl, sym, ap, ap₂, _∙_, fun-ext}
-use mathlib.Core.Logic.{_≢_}
 use mathlib.Core.Bool.{true}
 use mathlib.Core.List.{List, [], _∷_, _++_, map}
 use Prim.Native.Nat.{ℕ, zero, suc, _+_, _%_, _≤_, _<_}
@@ -23,6 +22,7 @@ use Rattle.polynomials.specs.Interp.{All, Distinct, weights, dot}
 use Rattle.polynomials.specs.Sharing.{mixture}
 use Rattle.polynomials.proofs.Polys.{eval-sum, eval-scale, length-sum, length-scale}
 use Rattle.polynomials.proofs.Shares.{eval-mixture, Every, length-mixture, reduction}
+use Rattle.polynomials.proofs.Alls.{distinct-take}
 use Rattle.plan.specs.declared.Gate.{Gate}
 use Rattle.plan.specs.declared.Gate.the-variants.{Input, Add, Scale, Offset, Multiply}
 use Rattle.plan.specs.Plans.{Plan, partyCount, dealerCount, dealerPoints}
@@ -36,17 +36,6 @@ pub record Shared (p t : ℕ) (h : ℕ → ℕ) (v : ℕ) : Type 0 where
   pub small : length poly ≤ suc t
   pub value : (x : ℕ) → h x ≡ eval p poly x
   pub secret : eval p poly 0 ≡ v
-
--- ---- some of distinct points are distinct
-pub take-all-of : (P : ℕ → Type 0) (k : ℕ) (xs : List ℕ) → All P xs → All P (take k xs)
-take-all-of P zero xs h = tt
-take-all-of P (suc k) [] h = tt
-take-all-of P (suc k) (x ∷ xs) h = (h .0, take-all-of P k xs (h .1))
-
-pub take-distinct : (p k : ℕ) (xs : List ℕ) → Distinct p xs → Distinct p (take k xs)
-take-distinct p zero xs h = tt
-take-distinct p (suc k) [] h = tt
-take-distinct p (suc k) (x ∷ xs) h = (take-all-of (λ y. y % p ≢ x % p) k xs (h .0), take-distinct p k xs (h .1))
 
 -- ---- polynomials of a gate's wire
 constant : (p v : ℕ) (coins : List ℕ) → eval p (v ∷ coins) 0 ≡ v % p
@@ -110,7 +99,7 @@ module _ (plan : Plan) (valid : Valid plan) where
 
   pub dealers-distinct : Distinct p (dealerPoints plan)
   unfolding dealerPoints
-  dealers-distinct = take-distinct p (dealerCount plan) (plan .points) (valid .distinct)
+  dealers-distinct = distinct-take p (dealerCount plan) (plan .points) (valid .distinct)
 
   pub dealers-length : length (dealerPoints plan) ≡ t + t + 1
   unfolding dealerPoints dealerCount partyCount

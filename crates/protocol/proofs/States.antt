@@ -6,7 +6,7 @@
 -- Assumes nothing.
 use mathlib.Core.Path.{_≡_, refl, sym, ap, ap₂, subst, _∙_}
 use mathlib.Core.Logic.{_≢_, _⊎_, inl, inr}
-use mathlib.Core.Bool.{Bool, true, false, cond, _&&_}
+use mathlib.Core.Bool.{Bool, true, false, cond}
 use mathlib.Core.List.{List, [], _∷_, _++_, map, flatMap, List·Memᴰ, List·Memᴰ·head, List·Memᴰ·tail}
 use Prim.Native.Nat.{ℕ, zero, suc, _+_, _*_, _<_, _≤_}
 use native.Mathlib.Nat.{mul-zero, mul-add}
@@ -16,6 +16,7 @@ use lib.Dec.{eqb, ltb}
 use lib.ListN.{length, getD, take, drop, set, replicate, length-append, length-set, length-drop, length-replicate, List·getD-append, List·getD-eq-default}
 use lib.Seq.{drop-cons, drop-drop, getD-drop, getD-append-seam, getD-set-same, getD-set-other, set-out}
 use Rattle.numbers.specs.Tables.{countWhere}
+use Rattle.numbers.proofs.Truth.{both-true}
 use Rattle.field.specs.Mod.{add, mul}
 use Rattle.polynomials.specs.Interp.{All, weights, dot}
 use Rattle.plan.specs.declared.Gate.{Gate}
@@ -37,17 +38,13 @@ Reads g (Scale a c) = a < g
 Reads g (Offset a c) = a < g
 Reads g (Multiply a b) = (a < g) × (b < g)
 
-pub both : (a b : Bool) → (a && b) ≡ true → (a ≡ true) × (b ≡ true)
-both true b h = (refl, h)
-both false b h = let z : _≡_ {A = ℕ} 0 1 = cc in absurd (omega arith)
-
 pub reads-below : (n p g : ℕ) (x : Gate) → gateOk n p g x ≡ true → Reads g x
 unfolding gateOk
 reads-below n p g (Input s) h = tt
-reads-below n p g (Add a b) h = (ltb-true a g (both (ltb a g) (ltb b g) h .0), ltb-true b g (both (ltb a g) (ltb b g) h .1))
-reads-below n p g (Scale a c) h = ltb-true a g (both (ltb a g) (ltb c p) h .0)
-reads-below n p g (Offset a c) h = ltb-true a g (both (ltb a g) (ltb c p) h .0)
-reads-below n p g (Multiply a b) h = (ltb-true a g (both (ltb a g) (ltb b g) h .0), ltb-true b g (both (ltb a g) (ltb b g) h .1))
+reads-below n p g (Add a b) h = (ltb-true a g (both-true (ltb a g) (ltb b g) h .0), ltb-true b g (both-true (ltb a g) (ltb b g) h .1))
+reads-below n p g (Scale a c) h = ltb-true a g (both-true (ltb a g) (ltb c p) h .0)
+reads-below n p g (Offset a c) h = ltb-true a g (both-true (ltb a g) (ltb c p) h .0)
+reads-below n p g (Multiply a b) h = (ltb-true a g (both-true (ltb a g) (ltb b g) h .0), ltb-true b g (both-true (ltb a g) (ltb b g) h .1))
 
 -- ---- the table
 module _ (plan : Plan) where

@@ -5,7 +5,7 @@
 --     values-length, take-values, values-gate, values-wire    the same for the values
 -- Assumes nothing.
 use mathlib.Core.Path.{_≡_, refl, sym, ap, ap₂, _∙_, fun-ext}
-use mathlib.Core.Bool.{Bool, true, false, _&&_}
+use mathlib.Core.Bool.{Bool, true, _&&_}
 use mathlib.Core.List.{List, [], _∷_, _++_, flatMap}
 use Prim.Native.Nat.{ℕ, suc, _+_, _*_, _≤_, _<_}
 use native.Mathlib.Nat.{add-zero, mul-zero}
@@ -15,6 +15,7 @@ use lib.Dec.{ltb}
 use lib.ListN.{length, take, drop, getD, length-append, take-append-drop}
 use lib.Seq.{length-take-le, take-length, drop-cons, take-take, take-append-seam, getD-append-seam, getD-take, getD-drop, drop-drop}
 use Rattle.numbers.specs.Tables.{countWhere}
+use Rattle.numbers.proofs.Truth.{both-true}
 use Rattle.field.specs.Mod.{add, mul}
 use Rattle.polynomials.specs.Poly.{eval}
 use Rattle.plan.specs.declared.Gate.{Gate}
@@ -176,19 +177,11 @@ module _ (plan : Plan) (xs : List ℕ) where
       ∙ ap (gateValue (plan .p) (getD (plan .gates) g (Input 0)) (take g (values plan xs))) (next-input xs _ _ (total-inputs (take g (plan .gates))))
 
 -- ---- a valid plan's gates read wires below their own
-and-left : (a b : Bool) → (a && b) ≡ true → a ≡ true
-and-left true b e = refl
-and-left false b e = e
-
-and-right : (a b : Bool) → (a && b) ≡ true → b ≡ true
-and-right true b e = e
-and-right false b e = let z : _≡_ {A = ℕ} 0 1 = cc in absurd (omega arith)
-
 first-below : (a g : ℕ) (b : Bool) → (ltb a g && b) ≡ true → a < g
-first-below a g b e = ltb-true a g (and-left (ltb a g) b e)
+first-below a g b e = ltb-true a g (both-true (ltb a g) b e .0)
 
 second-below : (a b g : ℕ) → (ltb a g && ltb b g) ≡ true → b < g
-second-below a b g e = ltb-true b g (and-right (ltb a g) (ltb b g) e)
+second-below a b g e = ltb-true b g (both-true (ltb a g) (ltb b g) e .1)
 
 take-wire : (g a : ℕ) (env : List (ℕ → ℕ)) → a < g → wireAt (take g env) a ≡ wireAt env a
 unfolding wireAt

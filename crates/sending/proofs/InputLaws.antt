@@ -15,7 +15,7 @@ use lib.ListN.{length, getD, take, drop, take-append-drop}
 use lib.Seq.{take-suc, take-all, drop-drop, getD-drop, length-take-le}
 use Rattle.numbers.specs.Tables.{tab, countWhere}
 use Rattle.numbers.specs.Bytes.{numbers, stored}
-use Rattle.field.specs.Field.{Is, Ready}
+use Rattle.field.specs.Field.{Is}
 use Rattle.numbers.proofs.Bytes.{numbers-length}
 use Rattle.numbers.proofs.Tables.{length-tab, getD-tab, tab-map, tab-ext}
 use Rattle.numbers.proofs.Counts.{countWhere-append, countWhere-le-length, countWhere-take-suc, Counted, count-none, count-next}
@@ -28,7 +28,7 @@ use Rattle.plan.specs.Plans.{Plan, partyCount, ownInputCount, isInputOf, deals,
 use Rattle.plan.specs.File.{gateAt, planOf}
 use Rattle.plan.specs.Planned.{Planned}
 use Rattle.plan.proofs.Planned.{plan-t, plan-p, plan-n, plan-points, plan-gates, plan-gate}
-use Rattle.plan.proofs.Valid.{valid}
+use Rattle.plan.proofs.Valid.{planned-ready}
 use Rattle.messages.specs.Messages.{inputPolys, dealTo, sendInputs}
 use Rattle.sending.specs.Sending.{Sent, Dealing, Own, coinsFrom, inputShares}
 use Rattle.sending.proofs.SendLaws.{sent-none, sent-more, sent-unless, sent-where, flat, Rows, rows-none, rows-next, rows-all, rows-length}
@@ -50,9 +50,6 @@ small-prime p t s cs at d = d .ready .small
 pub ruleset input-sending = (needs, gate-unless, gate-where, small-prime)
 
 -- the field of a plan that passes
-pub prime-of : {bs : List ℕ} {h : Header} → Planned bs h → Ready (h .field .p)
-prime-of {bs} {h} w = record { prime = rw (← plan-p w) (valid bs (w .passes) .prime); small = w .p-high }
-
 one-long : (b : Bool) (v : ℕ) → length (cond b (v ∷ []) []) ≤ 1
 one-long true v = omega arith
 one-long false v = omega arith
@@ -225,10 +222,10 @@ module _ (bs : List ℕ) (i : ℕ) (inputs coins : List ℕ) (x at : ℕ) where
 
     pub inputs-dealing : (s : ℕ) → s ≡ getD (numbers inputs) (place - at) 0 → Dealing (h .field .p) (h .t) s (numbers coins) (h .t * k)
     inputs-dealing s es = record {
-      ready = prime-of w;
+      ready = planned-ready _ _ w;
       few = omega (arith, w .majority, w .n-high);
       near = omega (arith, few-coins);
-      secret = rw es (entry-below (h .field .p) (numbers inputs) (place - at) (prime-of w) (rw (← plan-p w) (own .inputs-below)));
+      secret = rw es (entry-below (h .field .p) (numbers inputs) (place - at) (planned-ready _ _ w) (rw (← plan-p w) (own .inputs-below)));
       coins = rw (← plan-p w) (own .coined .below);
     }
 

@@ -17,12 +17,13 @@ use lib.Seq.{take-suc, take-all}
 use Rattle.numbers.specs.Tables.{tab}
 use Rattle.numbers.specs.Bytes.{numbers, stored}
 use Rattle.numbers.proofs.Tables.{tab-map, tab-ext}
+use Rattle.numbers.proofs.Truth.{both-true}
 use Rattle.plan.specs.declared.Output.{Output}
 use Rattle.plan.specs.declared.Header.{Header}
 use Rattle.plan.specs.Plans.{partyCount, parties, outWiresOf, outWires}
 use Rattle.plan.specs.File.{between, outAt, outOk, planOf}
 use Rattle.plan.specs.Planned.{Planned}
-use Rattle.plan.proofs.Planned.{plan-n, plan-outs, plan-out, both-true, between-true}
+use Rattle.plan.proofs.Planned.{plan-n, plan-outs, plan-out, between-true}
 use Rattle.plan.proofs.Valid.{valid}
 use Rattle.messages.specs.Messages.{sendOuts}
 use Rattle.sending.specs.Sending.{Sent, outShares}

@@ -30,11 +30,12 @@ use Rattle.plan.specs.Plans.{Plan, partyCount, dealerCount, isMultiply, deals, 
 use Rattle.plan.specs.File.{gateAt, planOf}
 use Rattle.plan.specs.Planned.{Planned}
 use Rattle.plan.proofs.Planned.{plan-t, plan-p, plan-n, plan-points, plan-gate, plan-dealers}
+use Rattle.plan.proofs.Valid.{planned-ready}
 use Rattle.messages.specs.Messages.{productAt, dealTo, nothing, sendProduct}
 use Rattle.sending.specs.Sending.{Dealing, Coined, coinsFrom}
 use Rattle.sending.proofs.SendLaws.{flat}
 use Rattle.sending.proofs.DealLaws.{coefficients-long, dealing-below}
-use Rattle.sending.proofs.InputLaws.{prime-of, coins-at}
+use Rattle.sending.proofs.InputLaws.{coins-at}
 
 -- ---- the product
 module _ (p : ℕ) (g : Gate) (shares : List ℕ) (r : Ready p) where
@@ -178,7 +179,7 @@ module _ (bs : List ℕ) (h : Header) (w : Planned bs h) (i k : ℕ) where
 
   pub product-dealing : (d s v : ℕ) (coins : List ℕ) → d ≤ 1024 → Is (h .field .p) v s → Coined (planOf bs) i coins → Dealing (h .field .p) (h .t) s (numbers coins) (h .t * d)
   product-dealing d s v coins l is c = record {
-    ready = prime-of w;
+    ready = planned-ready _ _ w;
     few = omega (arith, w .majority, w .n-high);
     near = omega (arith, few-coins d l);
     secret = is .lt;
@@ -219,4 +220,4 @@ module _ (bs : List ℕ) (h : Header) (w : Planned bs h) (i k : ℕ) where
             (rw (dealer, at, cs, plan-p w, plan-points w, ← es .eq)
             (flat-ones (eval (h .field .p) (s ∷ coinsFrom (h .t) (h .t * d) (numbers coins))) (tab suc (h .n))))
 
-pub ruleset product-sending = (needs, prime-of, product-none, product-shares, product-fits, product-dealing, product-room, product-done)
+pub ruleset product-sending = (needs, planned-ready, product-none, product-shares, product-fits, product-dealing, product-room, product-done)

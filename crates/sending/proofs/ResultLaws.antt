@@ -5,8 +5,8 @@
 -- Assumes nothing.
 use mathlib.Core.Path.{_≡_, refl, sym, ap, ap₂, _∙_}
 use mathlib.Core.Bool.{true}
-use mathlib.Core.List.{List, [], _++_}
-use Prim.Native.Nat.{ℕ, suc, _+_, _-_, _*_, _/_, _^_, _<_, _≤_}
+use mathlib.Core.List.{List, _++_}
+use Prim.Native.Nat.{ℕ, suc, _+_, _*_, _/_, _^_, _<_, _≤_}
 use native.Mathlib.Nat.{mul-le-mul}
 use native.Mathlib.Numerals.{add-one}
 use native.Mathlib.Omega.{arith}
@@ -27,10 +27,10 @@ use Rattle.plan.specs.declared.Header.{Header}
 use Rattle.plan.specs.File.{planOf}
 use Rattle.plan.specs.Planned.{Planned}
 use Rattle.plan.proofs.Planned.{plan-t, plan-p, plan-n, plan-points}
+use Rattle.plan.proofs.Valid.{planned-ready}
 use Rattle.messages.specs.Messages.{sharesOfOut}
 use Rattle.sending.specs.Sending.{Openings, openedBy, openedOuts}
 use Rattle.messages.proofs.PointLaws.{first-points, first-points-below}
-use Rattle.sending.proofs.InputLaws.{prime-of}
 
 -- ---- the shares of an out
 -- the invariant: the first i of n stand
@@ -162,10 +162,10 @@ module _ (bs : List ℕ) (h : Header) (w : Planned bs h) (pts : List ℕ) (e : p
 
     pub weights-open : (mail : List ℕ) → allBelow (planOf bs .p) (numbers mail) ≡ true → Openings h (take (h .t + 1) (ys ++ drop (h .t + 1) d)) mail
     weights-open mail m = record {
-      ready = prime-of w;
+      ready = planned-ready _ _ w;
       few = w .n-high;
       short = omega (arith, weights-long, w .majority);
-      weights-below = rw (front, is) (weights-below (prime-of w .prime) 0 (take (h .t + 1) pts));
+      weights-below = rw (front, is) (weights-below (planned-ready _ _ w .prime) 0 (take (h .t + 1) pts));
       mail-below = rw (← plan-p w) m;
     }
 
@@ -178,4 +178,4 @@ module _ (bs : List ℕ) (h : Header) (w : Planned bs h) (pts : List ℕ) (e : p
         (ap (λ (n : ℕ). tab (λ j. dot (planOf bs .p) (weights (planOf bs .p) 0 (take (planOf bs .t + 1) (planOf bs .points))) (sharesOfOut n own j mail)) own) (plan-n w)
         ∙ ap₂ (λ (p t : ℕ). tab (λ j. dot p (weights p 0 (take (t + 1) (planOf bs .points))) (sharesOfOut (h .n) own j mail)) own) (plan-p w) (plan-t w))
 
-pub ruleset resulting = (needs, prime-of, firsts-long, firsts-below, zero-below, room-long, room-sized, weights-in, weights-long, weights-open, results-are)
+pub ruleset resulting = (needs, planned-ready, firsts-long, firsts-below, zero-below, room-long, room-sized, weights-in, weights-long, weights-open, results-are)

@@ -36,7 +36,7 @@ use Rattle.plan.specs.File.{planOf, gateAt}
 use Rattle.plan.specs.Planned.{Planned}
 use Rattle.plan.proofs.Planned.{plan-t, plan-p, plan-n, plan-gates, plan-gate}
 use Rattle.counts.proofs.Counts.{dealings-le}
-use Rattle.plan.proofs.Valid.{Valid, valid}
+use Rattle.plan.proofs.Valid.{Valid, valid, planned-ready}
 use Rattle.messages.specs.Messages.{reduced}
 use Rattle.protocol.specs.Ideal.{inputsTaken}
 use Rattle.protocol.specs.Shares.{wireAt, sharings, dealtAt, piecesAt, gateShare, coinsTaken, shareTable, coinsBelow}
@@ -44,7 +44,7 @@ use Rattle.tables.specs.Rows.{rowsOf, column, Standing, Taking, Worked, 
 use Rattle.protocol.proofs.Below.{append-below, map-below, share-below}
 use Rattle.protocol.proofs.Wires.{table-length, table-gate}
 use Rattle.tables.proofs.RowLaws.{flat-snoc, take-drop, part-front, row-room}
-use Rattle.tables.proofs.StepLaws.{planned-ready, planned-sized}
+use Rattle.tables.proofs.StepLaws.{planned-sized}
 use Rattle.tables.proofs.GateLaws.{rows-row, entry-of-wire}
 
 -- ---- a step over one gate

@@ -17,6 +17,7 @@ use Rattle.numbers.specs.Tables.{tab}
 use Rattle.numbers.specs.Bytes.{allBelow}
 use Rattle.numbers.proofs.Tables.{length-tab, tab-ext}
 use Rattle.numbers.proofs.Below.{allBelow-take, allBelow-drop}
+use Rattle.numbers.proofs.Truth.{both-true}
 use Rattle.field.specs.Mod.{add, mul}
 use Rattle.polynomials.specs.Poly.{eval}
 use Rattle.polynomials.specs.Interp.{weights}
@@ -28,13 +29,13 @@ use Rattle.plan.specs.declared.Header.{Header}
 use Rattle.plan.specs.Plans.{Plan, partyCount, dealerCount, dealerPoints}
 use Rattle.plan.specs.File.{planOf, gateAt, gateOk}
 use Rattle.plan.specs.Planned.{Planned}
-use Rattle.plan.proofs.Planned.{both-true, plan-t, plan-p, plan-points, plan-n, plan-gates, plan-gate}
-use Rattle.plan.proofs.Valid.{valid}
+use Rattle.plan.proofs.Planned.{plan-t, plan-p, plan-points, plan-n, plan-gates, plan-gate}
+use Rattle.plan.proofs.Valid.{valid, planned-ready, scale-constant, offset-constant}
 use Rattle.protocol.specs.Shares.{wireAt, sharings, piecesAt, dealtAt, gateShare, coinsTaken}
 use Rattle.tables.specs.Rows.{rowsOf, productsOf, mixedAt, Prepared, Powered, Coined, Rowed, Standing, Taking, Worked}
 use Rattle.tables.proofs.RowLaws.{flat-length, flat-part, part-front, row-room}
 use Rattle.tables.proofs.GridLaws.{getD-values}
-use Rattle.tables.proofs.StepLaws.{planned-ready, coins-of-input, coins-of-multiply}
+use Rattle.tables.proofs.StepLaws.{coins-of-input, coins-of-multiply}
 
 -- ---- the rows of a table
 cancel : (n a b : ℕ) → 1 ≤ n → n * a ≡ n * b → a ≡ b

@@ -1,5 +1,5 @@
 -- One gate of a run: its row, and the table with it.
---     planned-ready, planned-sized      what a plan's contents give
+--     planned-sized      what a plan's contents give
 --     Pasting, pasting                  the loop that writes a row
 --     takings                           what a gate takes
 -- Assumes nothing.
@@ -35,8 +35,8 @@ use Rattle.plan.specs.declared.Header.{Header}
 use Rattle.plan.specs.Plans.{dealersOf, dealerCount}
 use Rattle.plan.specs.File.{planOf}
 use Rattle.plan.specs.Planned.{Planned}
-use Rattle.plan.proofs.Planned.{plan-t, plan-p}
-use Rattle.plan.proofs.Valid.{valid}
+use Rattle.plan.proofs.Planned.{plan-t}
+use Rattle.plan.proofs.Valid.{planned-ready}
 use Rattle.protocol.specs.Ideal.{inputsTaken}
 use Rattle.protocol.specs.Shares.{sharings, coinsTaken}
 use Rattle.tables.specs.Rows.{powerRows, productsOf, mixedAt, Sized, Prepared, column, Coined, Dealt, Elements}
@@ -45,9 +45,6 @@ use Rattle.tables.proofs.DealLaws.{dot-first}
 use Rattle.tables.proofs.GridLaws.{length-sharings, coins-few, below-cons}
 
 -- ---- what a plan's contents give
-pub planned-ready : (bs : List ℕ) (h : Header) → Planned bs h → Ready (h .field .p)
-planned-ready bs h k = record { prime = rw (← plan-p k) (valid bs (k .passes) .prime); small = k .p-high }
-
 pub planned-sized : (bs : List ℕ) (h : Header) → Planned bs h → Sized h
 planned-sized bs h k = record { ready = planned-ready bs h k; many = k .n-high; majority = k .majority; small = k .p-low }
 

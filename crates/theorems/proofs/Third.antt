@@ -11,7 +11,6 @@ use Rattle.polynomials.specs.Interp.{All}
 use Rattle.plan.specs.Plans.{Plan, partyCount}
 use Rattle.plan.specs.File.{planOf}
 use Rattle.coalition.specs.Coalitions.{inSet, members, membersFrom, setOk}
-use Rattle.plan.proofs.Planned.{both-true}
 use Rattle.plan.proofs.Valid.{Valid, valid}
 use Rattle.protocol.specs.Rounds.{view}
 use Rattle.protocol.specs.Shares.{tableViewOf}
@@ -22,6 +21,7 @@ use Rattle.privacy.proofs.Back.{one-to-one, onto, keeps}
 use Rattle.privacy.proofs.Private.{views-same}
 use Rattle.privacy.proofs.SetMembers.{set-few, set-parties, in-below}
 use Rattle.theorems.specs.Demands.{Coins, Private, Demand3}
+use Rattle.numbers.proofs.Truth.{both-true}
 
 -- a set that passes has only parties of the plan
 members-from : (P : ℕ → Type 0) (set : ℕ) → ((i : ℕ) → 1 ≤ i → inSet set i ≡ true → P i) → (k i : ℕ) → 1 ≤ i → All P (membersFrom set i k)

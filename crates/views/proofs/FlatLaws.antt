@@ -21,6 +21,7 @@ use Rattle.field.specs.Mod.{mul}
 use Rattle.polynomials.specs.Poly.{eval}
 use Rattle.polynomials.specs.Interp.{All}
 use Rattle.polynomials.specs.Sharing.{opened}
+use Rattle.polynomials.proofs.Alls.{all-tab}
 use Rattle.plan.specs.declared.Gate.{Gate}
 use Rattle.plan.specs.declared.Gate.the-variants.{Input, Add, Scale, Offset, Multiply}
 use Rattle.plan.specs.declared.Header.{Header}
@@ -36,7 +37,7 @@ use Rattle.protocol.specs.Shares.{wireAt, shareTable, coinsBelow, pieces, table
 use Rattle.tables.specs.Rows.{rowsOf}
 use Rattle.views.specs.ViewCounts.{viewCountOf, viewCount}
 use Rattle.views.specs.Flat.{shareIn, rowIn, firstIn, outsIn, openedIn, pieceIn, piecesIn, middleIn, mailIn, viewIn}
-use Rattle.protocol.proofs.Lists.{map-all, flatMap-all, flatMap-map, map-flatMap, getD-map-in, length-map, length-rows, getD-rows, all-tab, all-every}
+use Rattle.protocol.proofs.Lists.{map-all, flatMap-all, flatMap-map, map-flatMap, getD-map-in, length-map, length-rows, getD-rows, all-every}
 use Rattle.protocol.proofs.Blocks.{length-ownBlocks, count-dealings, own-inputs, inputAt}
 use Rattle.protocol.proofs.States.{wires-all, length-multiplies, gate-reads}
 use Rattle.protocol.proofs.Carried.{each-party, length-parties, out-wires-within, product-of, pieces-tab}

@@ -24,11 +24,13 @@ use Rattle.numbers.specs.Tables.{tab}
 use Rattle.numbers.specs.Bytes.{stored, allBelow}
 use Rattle.numbers.proofs.Tables.{length-tab, getD-tab}
 use Rattle.numbers.proofs.Below.{allBelow-take, allBelow-drop}
+use Rattle.numbers.proofs.Truth.{both-true}
 use Rattle.field.specs.Mod.{add, mul}
 use Rattle.field.specs.Field.{Is, Ready}
 use Rattle.field.proofs.Products.{word}
 use Rattle.polynomials.specs.Poly.{eval}
 use Rattle.polynomials.specs.Sharing.{opened}
+use Rattle.polynomials.proofs.Alls.{all-tab}
 use Rattle.openings.specs.Openable.{Openable}
 use Rattle.sharing.proofs.Coding.{entry-below, step-value, Valued, value-none, value-more, value-whole, product-fits}
 use Rattle.plan.specs.declared.Gate.{Gate}
@@ -38,7 +40,7 @@ use Rattle.plan.specs.declared.Header.{Header}
 use Rattle.plan.specs.Plans.{Plan, dealerCount, dealersOf, dealings, coinCount, ownBlocks, ownCoins, partyCount, parties, isInputOf, isMultiply, wiresFrom, wiresWhere, inputWires, outWiresOf, outWires, ownInputsOf, ownInputs}
 use Rattle.plan.specs.File.{between, gateAt, outAt, outOk, planOf}
 use Rattle.plan.specs.Planned.{Planned}
-use Rattle.plan.proofs.Planned.{both-true, plan-t, plan-n, plan-gates, plan-outs, plan-gate, plan-out}
+use Rattle.plan.proofs.Planned.{plan-t, plan-n, plan-gates, plan-outs, plan-gate, plan-out}
 use Rattle.plan.proofs.Valid.{valid}
 use Rattle.sending.specs.Sending.{coinsFrom}
 use Rattle.messages.proofs.PointLaws.{first-points, first-points-below}
@@ -47,7 +49,7 @@ use Rattle.protocol.specs.Ideal.{inputsTaken}
 use Rattle.protocol.specs.Shares.{coinsBelow}
 use Rattle.views.specs.Flat.{shareIn, rowIn, firstIn, outsIn, openedIn, pieceIn, piecesIn, middleIn, coinsIn, ownAt, Running}
 use Rattle.views.specs.Writing.{Wrote}
-use Rattle.protocol.proofs.Lists.{flatMap-append, all-tab}
+use Rattle.protocol.proofs.Lists.{flatMap-append}
 use Rattle.protocol.proofs.Blocks.{ownBlocks-append, ownBlocks-none, own-dealing}
 use Rattle.views.proofs.WriteLaws.{wrote-none, wrote-one, wrote-unwanted, Left, left-none, left-then, left-end}
 
