@@ -30,7 +30,7 @@ use Rattle.plan.specs.declared.Refusal.{Refusal}
 use Rattle.plan.specs.declared.Refusal.the-variants as refusal
 use Rattle.plan.specs.Refusals.{andThen, firstOf}
 use Rattle.plan.specs.Plans.{Plan, partyCount, multiplies, ownInputCount, ownCoinCount, mailCount, writtenCount}
-use Rattle.plan.specs.File.{planChecks, planCheck, planOf}
+use Rattle.plan.specs.File.{planChecks, planCheck, planOf, outcomeOf}
 use Rattle.plan.specs.Planned.{Planned, ReadAs}
 use Rattle.plan.proofs.Refusals.{andThen-passed, andThen-refused, firstOf-append, passed-both, passed-need, passed-found}
 use Rattle.plan.proofs.Planned.{planned-read, refused-read, between-true, plan-p}
@@ -38,7 +38,7 @@ use Rattle.messages.specs.Messages.{learn, callWith, call}
 use Rattle.messages.specs.Calls.{partyChecks, callChecks, callAnswer, written, unlessRefused, calledOn, stateAfter, outAfter}
 use Rattle.learning.specs.Lent.{Holds}
 use Rattle.sending.specs.Sending.{Lent}
-use Rattle.party.specs.Admitted.{Admitted, Whole, Learnt, Sendable, checkedOf, stateLeft, outLeft}
+use Rattle.party.specs.Admitted.{Admitted, Whole, Learnt, Sendable, stateLeft, outLeft}
 
 -- ---- a call that passes its checks
 below-finished : (k m : ℕ) (t : Bool) → t ≡ eqb k (m + 3) → leb k (m + 3) ≡ true → not t ≡ true → k ≤ m + 2
@@ -203,14 +203,6 @@ shares-here bs h pl s b = part-below (planOf bs .p) (h .field .p) s (plan-p pl) 
 pub ruleset working = (needs, below-here, shares-here, lent-parts, state-learnt, bytes-sent, admitted-whole, learnt-whole, learnt-sendable, state-left, out-left)
 
 -- ---- the call
-pub refused-passed : (r : Reading) (h : Header) → r ≡ reading.Passed h → Passed ≡ checkedOf r
-unfolding checkedOf
-refused-passed r h e = rw e
-
-pub refused-refused : (r : Reading) (q : Refusal) → r ≡ reading.Refused q → Refused q ≡ checkedOf r
-unfolding checkedOf
-refused-refused r q e = rw e
-
 module _ (bs : List ℕ) (i : ℕ) (inputs coins state mail : List ℕ) (room : ℕ) where
   answer-parts : callAnswer bs i inputs coins state mail room ≡ andThen (planCheck bs) (firstOf (partyChecks (planOf bs) i inputs coins state mail room))
   unfolding callAnswer callChecks planCheck
@@ -221,9 +213,9 @@ module _ (bs : List ℕ) (i : ℕ) (inputs coins state mail : List ℕ) (room : 
       plan-refused : callAnswer bs i inputs coins state mail room ≡ Refused q
       plan-refused = answer-parts ∙ andThen-refused (planCheck bs) _ q (refused-read bs r q read e)
 
-      pub refused-answer : (c : Checked) → c ≡ checkedOf r → c ≡ callAnswer bs i inputs coins state mail room
-      unfolding checkedOf
-      refused-answer c ec = ec ∙ ap checkedOf e ∙ sym plan-refused
+      pub refused-answer : (c : Checked) → c ≡ outcomeOf r → c ≡ callAnswer bs i inputs coins state mail room
+      unfolding outcomeOf
+      refused-answer c ec = ec ∙ ap outcomeOf e ∙ sym plan-refused
 
       pub refused-state : state ≡ stateAfter bs i inputs coins state mail room
       unfolding stateAfter unlessRefused
@@ -271,4 +263,4 @@ module _ (bs : List ℕ) (i : ℕ) (inputs coins state mail out : List ℕ) (r :
     pub passed-out : c ≡ Passed → (zs : List ℕ) → zs ≡ outLeft (planOf bs) i inputs coins state mail → zs ≡ outAfter bs i inputs coins state mail out
     passed-out f zs z = passed-buffer bs i inputs coins state mail (length out) r read h e c ec f out zs refl z
 
-pub ruleset calling = (needs, advance-to, refused-passed, refused-refused, planned-read, admitted-by, refused-answer, refused-state, refused-out, checked-answer, checked-state, checked-out, passed-answer, passed-state, passed-out)
+pub ruleset calling = (needs, advance-to, planned-read, admitted-by, refused-answer, refused-state, refused-out, checked-answer, checked-state, checked-out, passed-answer, passed-state, passed-out)

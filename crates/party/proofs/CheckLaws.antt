@@ -23,11 +23,9 @@ use Rattle.numbers.specs.declared.Found.the-variants.{At, Nothing}
 use Rattle.numbers.specs.Tables.{tab, firstFailing, countWhere}
 use Rattle.numbers.specs.Bytes.{numbers, holdsCount, firstOver, allBelow}
 use Rattle.numbers.proofs.Tables.{length-tab}
-use Rattle.numbers.proofs.Below.{allBelow-tab, firstOver-nothing}
+use Rattle.numbers.proofs.Below.{firstOver-nothing}
 use Rattle.numbers.proofs.Searches.{Seeking, begin, found, passed, nothing}
 use Rattle.polynomials.specs.Sharing.{firstOff, openingRow, openingRows}
-use Rattle.field.specs.Field.{Ready}
-use Rattle.sharing.proofs.Coding.{entry-below}
 use Rattle.openings.proofs.Rows.{length-row, length-rows}
 use Rattle.plan.specs.declared.Header.{Header}
 use Rattle.plan.specs.declared.Checked.{Checked}
@@ -40,11 +38,12 @@ use Rattle.plan.specs.File.{between, planOf}
 use Rattle.plan.specs.Planned.{Planned}
 use Rattle.plan.proofs.Refusals.{andThen-passed, andThen-refused, andThen-end, firstOf-nil, firstOf-cons, firstOf-append, need-true, need-false, found-at, found-nothing, passed-both, passed-found}
 use Rattle.plan.proofs.Planned.{plan-t, plan-p, plan-n, plan-points, plan-gates}
-use Rattle.plan.proofs.Valid.{valid}
+use Rattle.plan.proofs.Valid.{planned-ready}
 use Rattle.messages.specs.Messages.{sharesOfOut}
 use Rattle.messages.specs.Calls.{nothingFound, openingCheck, partyChecks}
 use Rattle.messages.proofs.PointLaws.{first-points, points-below}
 use Rattle.party.specs.Parts.{listChecks, ownChecks, stateChecks, mailChecks, outsCheck, outLies, OwnOuts}
+use Rattle.sending.proofs.ResultLaws.{shares-long, shares-below}
 
 -- ---- a lent list
 module _ (few : Refusal) (over : ℕ → Refusal) (p count : ℕ) (bs : List ℕ) (t : Bool) (et : t ≡ holdsCount count bs) where
@@ -88,15 +87,6 @@ module _ (p gates mults : ℕ) (bs : List ℕ) (t : Bool) (et : t ≡ holdsCount
       state-passed h e = rw (← et, ht, ← ek, le-leb k (mults + 3) hk, ← eb, h, ne-eqb k (mults + 3) e)
 
 pub ruleset stating = (needs, not-true, not-false, state-few, state-past, state-over, state-finished, state-passed)
-
--- ---- the search for an out whose shares don't lie on one polynomial
-shares-long : (n own j : ℕ) (mail : List ℕ) → length (sharesOfOut n own j mail) ≡ n
-unfolding sharesOfOut
-shares-long n own j mail = length-tab (λ i. getD mail (own * i + j) 0) n
-
-shares-below : (p n own j : ℕ) (mail : List ℕ) → Ready p → allBelow p mail ≡ true → allBelow p (sharesOfOut n own j mail) ≡ true
-unfolding sharesOfOut
-shares-below p n own j mail r b = allBelow-tab p (λ i. getD mail (own * i + j) 0) n (λ i l. entry-below p mail (own * i + j) r b)
 
 pub shares-count : (n own j : ℕ) (mail xs : List ℕ) → xs ≡ sharesOfOut n own j mail → n ≡ length xs
 shares-count n own j mail xs e = sym (ap length e ∙ shares-long n own j mail)
@@ -181,12 +171,8 @@ fifteen n xs e l = rw (e, length-tab suc 15) l
 
 pub ruleset rowing = (needs, used-fits, used-within, used-count, opened-below, points-over, used-rows, rows-within, rows-front, rows-count, first-count, fifteen, first-points)
 
--- ---- the checks in their order
-pub plan-ready : (bs : List ℕ) (h : Header) → Planned bs h → Ready (h .field .p)
-plan-ready bs h pl = record { prime = rw (plan-p pl) at (valid bs (pl .passes) .prime); small = pl .p-high }
-
 pub plan-own-outs : (bs : List ℕ) (h : Header) (own : ℕ) → Planned bs h → own ≤ 64 → OwnOuts h own
-plan-own-outs bs h own pl l = record { ready = plan-ready bs h pl; n-high = pl .n-high; majority = pl .majority; p-low = pl .p-low; own-high = l }
+plan-own-outs bs h own pl l = record { ready = planned-ready bs h pl; n-high = pl .n-high; majority = pl .majority; p-low = pl .p-low; own-high = l }
 
 search-off : ℕ → ℕ → List ℕ → ℕ → ℕ → List ℕ → Found
 search-off p t points n own mail = firstFailing (λ j. nothingFound (firstOff p t points (sharesOfOut n own j mail))) own

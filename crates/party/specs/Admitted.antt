@@ -5,10 +5,6 @@ use mathlib.Core.List.{List}
 use Prim.Native.Nat.{ℕ, _+_, _*_, _%_, _≤_}
 use lib.ListN.{length, drop, getD}
 use Rattle.numbers.specs.Bytes.{numbers, bytesOf, allBelow}
-use Rattle.plan.specs.declared.Reading.{Reading}
-use Rattle.plan.specs.declared.Reading.the-variants as reading
-use Rattle.plan.specs.declared.Checked.{Checked}
-use Rattle.plan.specs.declared.Checked.the-variants.{Passed, Refused}
 use Rattle.plan.specs.Plans.{Plan, partyCount, multiplies, ownInputCount, ownCoinCount, mailCount, writtenCount}
 use Rattle.messages.specs.Messages.{learn, call}
 use Rattle.messages.specs.Calls.{written}
@@ -27,11 +23,6 @@ pub record Admitted (plan : Plan) (i : ℕ) (inputs coins state mail : List ℕ)
   pub mail-long : length mail ≡ 2 * mailCount plan i (getD (numbers state) 0 0)
   pub mail-below : allBelow (plan .p) (numbers mail) ≡ true
   pub room-is : room ≡ 2 * writtenCount plan i (getD (numbers state) 0 0)
-
--- the answer to a plan's reading, where it was refused
-unfoldable pub checkedOf : Reading → Checked
-checkedOf (reading.Passed h) = Passed
-checkedOf (reading.Refused r) = Refused r
 
 -- bytes of whole numbers, one or more
 pub record Whole (bs : List ℕ) : Type 0 where

@@ -13,7 +13,7 @@ use Rattle.plan.specs.declared.Checked.{Checked}
 use Rattle.plan.specs.declared.Refusal.{Refusal}
 use Rattle.plan.specs.declared.Refusal.the-variants as refusal
 use Rattle.plan.specs.Refusals.{need, unlessFound}
-use Rattle.plan.specs.Plans.{Plan, partyCount, multiplies, ownInputCount, ownCoinCount, ownOutCount, mailCount, writtenCount}
+use Rattle.plan.specs.Plans.{Plan, partyCount, ownInputCount, ownCoinCount, ownOutCount, mailCount, writtenCount}
 use Rattle.plan.specs.File.{between}
 use Rattle.messages.specs.Messages.{sharesOfOut}
 use Rattle.messages.specs.Calls.{nothingFound, openingCheck}

@@ -1,4 +1,5 @@
 // Refusals 9 to 20 of a party's call, in their order.
+use counts::Tally;
 use numbers::Found;
 use plan::Checked;
 use plan::Header;
@@ -14,6 +15,7 @@ ghost use Rattle.plan.specs.declared.Refusal.the-variants as refusal;
 ghost use Rattle.plan.specs.Refusals.{firstOf};
 ghost use Rattle.plan.specs.File.{planOf};
 ghost use Rattle.plan.specs.Planned.{Planned};
+ghost use Rattle.counts.specs.Counts.{Tallied};
 ghost use Rattle.messages.specs.Calls.{partyChecks};
 ghost use Rattle.party.specs.Parts.{listChecks, ownChecks, stateChecks, mailChecks, outsCheck, outLies, OwnOuts};
 
@@ -143,8 +145,9 @@ fn check_outs(plan: &[u8], h: Header, i: usize, mail: &[u8]) -> Checked
 // ---- the checks in their order
 
 // Refusals 9 to 13.
-fn check_own(plan: &[u8], h: Header, i: usize, inputs: &[u8], coins: &[u8]) -> Checked
+fn check_own(plan: &[u8], h: Header, tally: Tally, i: usize, inputs: &[u8], coins: &[u8]) -> Checked
     requires { ⌜ Planned (now plan) h ⌝ }
+    requires { ⌜ Tallied (planOf (now plan)) i tally ⌝ }
     ensures { λ r. ⌜ r ≡ firstOf (ownChecks (planOf (now (plan .entry))) i (now (inputs .entry)) (now (coins .entry))) ⌝ }
 {
     if i < 1 {
@@ -153,27 +156,36 @@ fn check_own(plan: &[u8], h: Header, i: usize, inputs: &[u8], coins: &[u8]) -> C
     if h.n < i {
         return Checked::Refused(Refusal::Coalition);
     }
-    let c = check_inputs(inputs, counts::own_input_count(plan, h, i), h.field.p);
+    let c = check_inputs(inputs, tally.own, h.field.p);
     let Checked::Passed = c else {
         return c;
     };
-    let count = h.t * counts::own_dealing_count(plan, h, i);
+    let count = h.t * tally.dealings;
     check_coins(coins, count, h.field.p)
 }
 
 // Refusals 17 to 20 of call number k.
-fn check_mail(plan: &[u8], h: Header, i: usize, k: usize, mail: &[u8], room: usize) -> Checked
+fn check_mail(
+    plan: &[u8],
+    h: Header,
+    tally: Tally,
+    i: usize,
+    k: usize,
+    mail: &[u8],
+    room: usize,
+) -> Checked
     requires { ⌜ Planned (now plan) h ⌝ }
+    requires { ⌜ Tallied (planOf (now plan)) i tally ⌝ }
     ensures { λ r. ⌜ r ≡ firstOf (mailChecks (planOf (now (plan .entry))) i k (now (mail .entry)) room) ⌝ }
 {
-    let c = check_mail_list(mail, counts::mail_count(plan, h, i, k), h.field.p);
+    let c = check_mail_list(mail, counts::mail_by(plan, h, i, tally, k), h.field.p);
     let Checked::Passed = c else {
         return c;
     };
-    if room != 2 * counts::written_count(plan, h, i, k) {
+    if room != 2 * counts::written_by(plan, h, i, tally, k) {
         return Checked::Refused(Refusal::BufferLength);
     }
-    if k != counts::multiply_count(plan, h) + 2 {
+    if k != tally.multiplies + 2 {
         return Checked::Passed;
     }
     check_outs(plan, h, i, mail)
@@ -183,6 +195,7 @@ fn check_mail(plan: &[u8], h: Header, i: usize, k: usize, mail: &[u8], room: usi
 pub fn check(
     plan: &[u8],
     h: Header,
+    tally: Tally,
     i: usize,
     inputs: &[u8],
     coins: &[u8],
@@ -191,16 +204,17 @@ pub fn check(
     room: usize,
 ) -> Checked
     requires { ⌜ Planned (now plan) h ⌝ }
+    requires { ⌜ Tallied (planOf (now plan)) i tally ⌝ }
     ensures { λ r. ⌜ r ≡ firstOf (partyChecks (planOf (now (plan .entry))) i (now (inputs .entry)) (now (coins .entry)) (now (state .entry)) (now (mail .entry)) room) ⌝ }
 {
-    let own = check_own(plan, h, i, inputs, coins);
+    let own = check_own(plan, h, tally, i, inputs, coins);
     let Checked::Passed = own else {
         return own;
     };
-    let kept = check_state(state, h.gates, counts::multiply_count(plan, h), h.field.p);
+    let kept = check_state(state, h.gates, tally.multiplies, h.field.p);
     let Checked::Passed = kept else {
         return kept;
     };
     let k = numbers::read(state, 0);
-    check_mail(plan, h, i, k as usize, mail, room)
+    check_mail(plan, h, tally, i, k as usize, mail, room)
 }

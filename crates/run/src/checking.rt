@@ -18,11 +18,12 @@ pub fn view_count_of(plan: &[u8], h: Header, i: usize) -> usize
     requires { ⌜ Planned (now plan) h ⌝ }
     ensures { λ r. ⌜ record { eq : r ≡ viewCountOf (planOf (now (plan .entry))) i; le : r ≤ 25600 } ⌝ }
 {
-    let coins = h.t * counts::own_dealing_count(plan, h, i);
-    let pieces = counts::multiply_count(plan, h) * (h.t + h.t + 1);
+    let tally = counts::tally_of(plan, h, i);
+    let coins = h.t * tally.dealings;
+    let pieces = tally.multiplies * (h.t + h.t + 1);
     let outs = counts::own_out_count(plan, h, i);
-    let mail = counts::input_count(plan, h) + pieces + h.n * outs;
-    counts::own_input_count(plan, h, i) + (coins + (mail + outs))
+    let mail = tally.inputs + pieces + h.n * outs;
+    tally.own + (coins + (mail + outs))
 }
 
 // The same, where it is a member.

@@ -68,14 +68,14 @@ module _ (n own j : ℕ) (mail : List ℕ) where
 pub ruleset copying = (needs, copy-none, copy-next, copied, copy-fits, copy-place)
 
 -- ---- an opening
-shares-below : (p n own j : ℕ) (mail : List ℕ) → Ready p → allBelow p mail ≡ true → allBelow p (sharesOfOut n own j mail) ≡ true
+pub shares-below : (p n own j : ℕ) (mail : List ℕ) → Ready p → allBelow p mail ≡ true → allBelow p (sharesOfOut n own j mail) ≡ true
 unfolding sharesOfOut
 shares-below p n own j mail r h =
     at-allBelow p (sharesOfOut n own j mail) (λ i l.
     let m : i < n = omega (arith, length-tab (λ i. getD mail (own * i + j) 0) n) in
     rw (getD-tab (λ i. getD mail (own * i + j) 0) n i 0 m) (entry-below p mail (own * i + j) r h))
 
-shares-long : (n own j : ℕ) (mail : List ℕ) → length (sharesOfOut n own j mail) ≡ n
+pub shares-long : (n own j : ℕ) (mail : List ℕ) → length (sharesOfOut n own j mail) ≡ n
 unfolding sharesOfOut
 shares-long n own j mail = length-tab (λ i. getD mail (own * i + j) 0) n
 

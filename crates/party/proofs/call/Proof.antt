@@ -13,11 +13,14 @@ enum-known-r c = search calling
 enum-told : tie.Need-enum-told
 enum-told c = search calling
 
-refused-requires : tie.Need-refused-requires
-refused-requires c κs = search calling
+outcome-requires : tie.Need-outcome-requires
+outcome-requires c κs = search calling
 
 returns : tie.Need-returns
 returns c = (search calling, (search calling, search calling))
+
+tally-of-requires : tie.Need-tally-of-requires
+tally-of-requires c κs = search calling
 
 check-requires : tie.Need-check-requires
 check-requires c κs = search calling
@@ -35,7 +38,8 @@ returns-2 : tie.Need-returns-2
 returns-2 c = (search calling, (search calling, search calling))
 
 work-requires : tie.Need-work-requires
-work-requires c κs = (search planned-read, admitted-by _ _ _ _ _ _ _ _ (c .before .before .before .before .check .ensures) (search needs))
+work-requires c κs =
+    (search planned-read, (search needs, admitted-by _ _ _ _ _ _ _ _ (c .before .before .before .before .check .ensures) (search needs)))
 
 same-length-2 : tie.Need-same-length-2
 same-length-2 c = search calling
@@ -53,8 +57,9 @@ call-spec =
     read-requires
     enum-known-r
     enum-told
-    refused-requires
+    outcome-requires
     returns
+    tally-of-requires
     check-requires
     enum-told-2
     enum-told-3

@@ -12,7 +12,7 @@ part-learn-end : tie.Need-part-learn-end
 part-learn-end c = search working
 
 learn-requires : tie.Need-learn-requires
-learn-requires c κs = (search working, (search working, search working))
+learn-requires c κs = (search working, (search working, (search working, search working)))
 
 same-length : tie.Need-same-length
 same-length c = search working

@@ -12,7 +12,7 @@ part-send-end : tie.Need-part-send-end
 part-send-end c = search working
 
 send-requires : tie.Need-send-requires
-send-requires c κs = (search working, search working)
+send-requires c κs = (search working, (search working, search working))
 
 same-length : tie.Need-same-length
 same-length c = search working

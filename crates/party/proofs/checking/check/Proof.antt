@@ -14,9 +14,6 @@ enum-told-2 c = search ordering
 returns : tie.Need-returns
 returns c = search ordering
 
-multiply-count-requires : tie.Need-multiply-count-requires
-multiply-count-requires c κs = search ordering
-
 check-state-requires : tie.Need-check-state-requires
 check-state-requires c κs = search ordering
 
@@ -46,7 +43,6 @@ check-spec =
     enum-told
     enum-told-2
     returns
-    multiply-count-requires
     check-state-requires
     enum-told-3
     enum-told-4

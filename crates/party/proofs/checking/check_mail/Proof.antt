@@ -2,8 +2,8 @@ use Rattle.party.proofs.CheckLaws.{mailing}
 use Rattle.party.proofs.checking.check_mail.Statement.{statement}
 use Rattle.party.proofs.checking.check_mail.Tie as tie
 
-mail-count-requires : tie.Need-mail-count-requires
-mail-count-requires c κs = search mailing
+mail-by-requires : tie.Need-mail-by-requires
+mail-by-requires c κs = search mailing
 
 check-mail-list-requires : tie.Need-check-mail-list-requires
 check-mail-list-requires c κs = search mailing
@@ -17,17 +17,14 @@ enum-told-2 c = search mailing
 returns : tie.Need-returns
 returns c = search mailing
 
-written-count-requires : tie.Need-written-count-requires
-written-count-requires c κs = search mailing
+written-by-requires : tie.Need-written-by-requires
+written-by-requires c κs = search mailing
 
 mul-if1 : tie.Need-mul-if1
 mul-if1 c = search mailing
 
 returns-2 : tie.Need-returns-2
 returns-2 c = search mailing
-
-multiply-count-requires : tie.Need-multiply-count-requires
-multiply-count-requires c κs = search mailing
 
 add-if2 : tie.Need-add-if2
 add-if2 c = search mailing
@@ -45,15 +42,14 @@ pub check-mail-spec : {M : Type 1} → statement M
 check-mail-spec =
     tie.close
     (tie.spec
-    mail-count-requires
+    mail-by-requires
     check-mail-list-requires
     enum-told
     enum-told-2
     returns
-    written-count-requires
+    written-by-requires
     mul-if1
     returns-2
-    multiply-count-requires
     add-if2
     returns-3
     check-outs-requires

@@ -8,9 +8,6 @@ returns c = search owning
 returns-2 : tie.Need-returns-2
 returns-2 c = search owning
 
-own-input-count-requires : tie.Need-own-input-count-requires
-own-input-count-requires c κs = search owning
-
 check-inputs-requires : tie.Need-check-inputs-requires
 check-inputs-requires c κs = search owning
 
@@ -22,9 +19,6 @@ enum-told-2 c = search owning
 
 returns-3 : tie.Need-returns-3
 returns-3 c = search owning
-
-own-dealing-count-requires : tie.Need-own-dealing-count-requires
-own-dealing-count-requires c κs = search owning
 
 mul-count : tie.Need-mul-count
 mul-count c = search coins-fit
@@ -41,12 +35,10 @@ check-own-spec =
     (tie.spec
     returns
     returns-2
-    own-input-count-requires
     check-inputs-requires
     enum-told
     enum-told-2
     returns-3
-    own-dealing-count-requires
     mul-count
     check-coins-requires
     returns-4)
