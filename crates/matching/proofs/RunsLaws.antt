@@ -38,10 +38,10 @@ use Rattle.plan.proofs.Planned.{plan-t, plan-p, plan-gates, plan-gate}
 use Rattle.plan.proofs.Valid.{valid, planned-ready}
 use Rattle.protocol.specs.Ideal.{inputsTaken}
 use Rattle.protocol.specs.Shares.{gateShare, coinsTaken, coinsBelow}
-use Rattle.tables.specs.Rows.{rowsOf, Sized, Prepared, Standing}
+use Rattle.dealings.specs.Rows.{rowsOf, Sized, Prepared, Standing}
 use Rattle.protocol.proofs.Below.{append-below, map-below}
 use Rattle.tables.proofs.FillLaws.{rows-snoc, coins-next, coins-within}
-use Rattle.tables.proofs.RowLaws.{row-room}
+use Rattle.dealings.proofs.RowLaws.{row-room}
 use Rattle.tables.proofs.StepLaws.{planned-sized}
 use Rattle.privacy.specs.Matching.{matchedAt, matchFrom, matchedCoins}
 use Rattle.agreement.specs.MatchParts.{Matchable}

@@ -36,7 +36,7 @@ use Rattle.coalition.specs.Coalitions.{members}
 use Rattle.plan.proofs.Planned.{between-true, plan-n, plan-t, plan-p, plan-dealers}
 use Rattle.plan.proofs.Valid.{Valid, valid, gate-kept}
 use Rattle.protocol.specs.Shares.{wireAt, dealtAt, gateShare, coinsTaken}
-use Rattle.tables.specs.Rows.{rowsOf, productsOf, Sized, Standing, Taking, Stepped}
+use Rattle.dealings.specs.Rows.{rowsOf, productsOf, Sized, Standing, Taking, Stepped}
 use Rattle.tables.proofs.StepLaws.{planned-sized}
 use Rattle.tables.proofs.GateLaws.{entry-of-wire}
 use Rattle.privacy.specs.Matching.{matchedBlocks, matchedAt}

@@ -14,7 +14,7 @@ use Rattle.plan.specs.File.{planOf, gateAt}
 use Rattle.plan.specs.Planned.{Planned}
 use Rattle.coalition.specs.Coalitions.{members, setOk}
 use Rattle.protocol.specs.Shares.{gateShare, coinsTaken}
-use Rattle.tables.specs.Rows.{rowsOf, Standing, Taking}
+use Rattle.dealings.specs.Rows.{rowsOf, Standing, Taking}
 use Rattle.privacy.specs.Matching.{matchedAt}
 use Rattle.moves.specs.Moves.{Lent}
 

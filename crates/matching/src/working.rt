@@ -8,7 +8,7 @@ ghost use Rattle.numbers.specs.Bytes.{numbers, bytesOf};
 ghost use Rattle.plan.specs.File.{planOf, gateAt};
 ghost use Rattle.plan.specs.Planned.{Planned};
 ghost use Rattle.coalition.specs.Coalitions.{members, setOk};
-ghost use Rattle.tables.specs.Rows.{Prepared, Standing, Taking, Stepped};
+ghost use Rattle.dealings.specs.Rows.{Prepared, Standing, Taking, Stepped};
 ghost use Rattle.privacy.specs.Matching.{matchedCoins};
 ghost use Rattle.agreement.specs.MatchParts.{Matchable};
 ghost use Rattle.matching.specs.MatchSteps.{deltaTail, Equipped, Turn, NewCoins, Matched};
@@ -177,7 +177,7 @@ fn match_with(
     let mut weights = [0u64; 15];
     let mut before = [0u64; 15360];
     let mut after = [0u64; 15360];
-    tables::prepare(h, &mut rows, &mut weights);
+    dealings::prepare(h, &mut rows, &mut weights);
     match_runs(
         plan,
         h,

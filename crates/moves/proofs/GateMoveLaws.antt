@@ -25,8 +25,8 @@ use Rattle.plan.specs.declared.Gate.{Gate}
 use Rattle.plan.specs.declared.Gate.the-variants.{Input, Add, Scale, Offset, Multiply}
 use Rattle.plan.specs.declared.Header.{Header}
 use Rattle.plan.specs.File.{gateOk}
-use Rattle.tables.specs.Rows.{productsOf, Rowed, Standing}
-use Rattle.tables.proofs.RowLaws.{part-front, row-room}
+use Rattle.dealings.specs.Rows.{productsOf, Rowed, Standing}
+use Rattle.dealings.proofs.RowLaws.{part-front, row-room}
 use Rattle.moves.specs.Moves.{movedBlocks, dealersIn, dealtIn, Lent, Advanced}
 
 -- ---- a multiply gate

@@ -12,7 +12,7 @@ use Rattle.plan.specs.declared.Gate.{Gate}
 use Rattle.plan.specs.declared.Gate.the-variants.{Input, Add, Scale, Offset, Multiply}
 use Rattle.plan.specs.declared.Header.{Header}
 use Rattle.coalition.specs.Coalitions.{inSet}
-use Rattle.tables.specs.Rows.{productsOf}
+use Rattle.dealings.specs.Rows.{productsOf}
 
 -- coins moved by d times the coefficients es
 unfoldable pub moved : ℕ → ℕ → List ℕ → List ℕ → List ℕ

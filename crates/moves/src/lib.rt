@@ -12,7 +12,7 @@ ghost use Rattle.numbers.specs.Bytes.{numbers, allBelow};
 ghost use Rattle.field.specs.Field.{Below2, Is, Ready};
 ghost use Rattle.plan.specs.File.{gateOk};
 ghost use Rattle.coalition.specs.Coalitions.{members};
-ghost use Rattle.tables.specs.Rows.{productsOf, Sized, Rowed, Standing};
+ghost use Rattle.dealings.specs.Rows.{productsOf, Sized, Rowed, Standing};
 ghost use Rattle.moves.specs.Moves.{moved, changeOf, movedBlocks, dealersIn, dealtIn, Lent, Written, Advanced};
 
 // The members of a set, ascending, in front of the room; how many they are.
@@ -124,7 +124,7 @@ fn products(h: Header, a: usize, b: usize, table: &[u64]) -> [u64; 15]
     requires { ⌜ Rowed (h .field .p) (h .n) b (now table) ⌝ }
     ensures { λ r. ⌜ record { eq : take (h .t + h .t + 1) r ≡ productsOf (h .field .p) (h .n) (h .t + h .t + 1) a b (now (table .entry)); below : allBelow (h .field .p) (take (h .t + h .t + 1) r) ≡ true } ⌝ }
 {
-    tables::products(h.field, h.n, h.t + h.t + 1, a, b, table)
+    dealings::products(h.field, h.n, h.t + h.t + 1, a, b, table)
 }
 
 // Those of a multiply gate's dealings, by both runs' tables.

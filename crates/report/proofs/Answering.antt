@@ -37,7 +37,7 @@ use Rattle.messages.specs.Calls.{unlessRefused}
 use Rattle.run.specs.declared.Benched.{Benched}
 use Rattle.run.specs.declared.Benched.the-variants as benched
 use Rattle.protocol.specs.Rounds.{view}
-use Rattle.tables.specs.Rows.{Given}
+use Rattle.dealings.specs.Rows.{Given}
 use Rattle.views.specs.ViewCounts.{viewCount}
 use Rattle.run.specs.BenchCalls.{runChecks, benchAnswer, benchedOf, viewAfter}
 use Rattle.run.proofs.BenchLaws.{passed-set, passed-given}

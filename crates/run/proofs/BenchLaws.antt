@@ -40,7 +40,7 @@ use Rattle.run.specs.declared.Benched.{Benched}
 use Rattle.run.specs.declared.Benched.the-variants as benched
 use Rattle.protocol.specs.Rounds.{view}
 use Rattle.protocol.specs.Shares.{shareTable, tableViewOf}
-use Rattle.tables.specs.Rows.{rowsOf, Given}
+use Rattle.dealings.specs.Rows.{rowsOf, Given}
 use Rattle.views.specs.ViewCounts.{viewCount}
 use Rattle.run.specs.BenchCalls.{runChecks, benchAnswer, benchedOf, viewAfter}
 use Rattle.protocol.proofs.Carried.{views-table}

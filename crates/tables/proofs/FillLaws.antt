@@ -40,10 +40,10 @@ use Rattle.plan.proofs.Valid.{Valid, valid, planned-ready}
 use Rattle.messages.specs.Messages.{reduced}
 use Rattle.protocol.specs.Ideal.{inputsTaken}
 use Rattle.protocol.specs.Shares.{wireAt, sharings, dealtAt, piecesAt, gateShare, coinsTaken, shareTable, coinsBelow}
-use Rattle.tables.specs.Rows.{rowsOf, column, Standing, Taking, Worked, Stepped, Given}
+use Rattle.dealings.specs.Rows.{rowsOf, column, Standing, Taking, Worked, Stepped, Given}
 use Rattle.protocol.proofs.Below.{append-below, map-below, share-below}
 use Rattle.protocol.proofs.Wires.{table-length, table-gate}
-use Rattle.tables.proofs.RowLaws.{flat-snoc, take-drop, part-front, row-room}
+use Rattle.dealings.proofs.RowLaws.{flat-snoc, take-drop, part-front, row-room}
 use Rattle.tables.proofs.StepLaws.{planned-sized}
 use Rattle.tables.proofs.GateLaws.{rows-row, entry-of-wire}
 

@@ -30,11 +30,11 @@ use Rattle.plan.specs.Plans.{Plan, partyCount, dealerCount, dealerPoints}
 use Rattle.plan.specs.File.{planOf, gateAt, gateOk}
 use Rattle.plan.specs.Planned.{Planned}
 use Rattle.plan.proofs.Planned.{plan-t, plan-p, plan-points, plan-n, plan-gates, plan-gate}
-use Rattle.plan.proofs.Valid.{valid, planned-ready, scale-constant, offset-constant}
+use Rattle.plan.proofs.Valid.{valid, planned-ready}
 use Rattle.protocol.specs.Shares.{wireAt, sharings, piecesAt, dealtAt, gateShare, coinsTaken}
-use Rattle.tables.specs.Rows.{rowsOf, productsOf, mixedAt, Prepared, Powered, Coined, Rowed, Standing, Taking, Worked}
-use Rattle.tables.proofs.RowLaws.{flat-length, flat-part, part-front, row-room}
-use Rattle.tables.proofs.GridLaws.{getD-values}
+use Rattle.dealings.specs.Rows.{rowsOf, productsOf, mixedAt, Prepared, Powered, Coined, Rowed, Standing, Taking, Worked}
+use Rattle.dealings.proofs.RowLaws.{flat-length, flat-part, part-front, row-room}
+use Rattle.dealings.proofs.GridLaws.{getD-values}
 use Rattle.tables.proofs.StepLaws.{coins-of-input, coins-of-multiply}
 
 -- ---- the rows of a table

@@ -1,7 +1,3 @@
-pub mod RowLaws
-pub mod PowerLaws
-pub mod DealLaws
-pub mod GridLaws
 pub mod StepLaws
 pub mod GateLaws
 pub mod FillLaws

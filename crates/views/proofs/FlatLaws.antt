@@ -34,7 +34,7 @@ use Rattle.messages.specs.Messages.{wiresByParty}
 use Rattle.sending.specs.Sending.{coinsFrom}
 use Rattle.sending.proofs.DealLaws.{coinsFrom-part}
 use Rattle.protocol.specs.Shares.{wireAt, shareTable, coinsBelow, pieces, tableMails, tableResults, tableViewOf}
-use Rattle.tables.specs.Rows.{rowsOf}
+use Rattle.dealings.specs.Rows.{rowsOf}
 use Rattle.views.specs.ViewCounts.{viewCountOf, viewCount}
 use Rattle.views.specs.Flat.{shareIn, rowIn, firstIn, outsIn, openedIn, pieceIn, piecesIn, middleIn, mailIn, viewIn}
 use Rattle.protocol.proofs.Lists.{map-all, flatMap-all, flatMap-map, map-flatMap, getD-map-in, length-map, length-rows, getD-rows, all-every}

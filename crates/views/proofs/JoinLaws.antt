@@ -24,7 +24,7 @@ use Rattle.plan.proofs.Planned.{plan-p, plan-n, plan-gates}
 use Rattle.plan.proofs.Valid.{valid}
 use Rattle.coalition.proofs.Coalitions.{member-in, in-member, all-members, member-party}
 use Rattle.protocol.specs.Shares.{shareTable, tableViewOf}
-use Rattle.tables.specs.Rows.{rowsOf, Given}
+use Rattle.dealings.specs.Rows.{rowsOf, Given}
 use Rattle.views.specs.ViewCounts.{viewCount}
 use Rattle.views.specs.Flat.{firstIn, middleIn, outsIn, openedIn, mailIn, viewIn, Flat, Running, Ran}
 use Rattle.views.specs.Writing.{Wrote, storedFrom}

@@ -22,7 +22,7 @@ ghost use Rattle.plan.specs.Planned.{Planned};
 ghost use Rattle.coalition.specs.Coalitions.{inSet, members, setFits};
 ghost use Rattle.protocol.specs.Ideal.{inputsTaken};
 ghost use Rattle.protocol.specs.Shares.{shareTable, tableViewOf};
-ghost use Rattle.tables.specs.Rows.{rowsOf, Given};
+ghost use Rattle.dealings.specs.Rows.{rowsOf, Given};
 ghost use Rattle.views.specs.ViewCounts.{viewCount};
 ghost use Rattle.views.specs.Flat.{shareIn, firstIn, outsIn, openedIn, pieceIn, piecesIn, middleIn, coinsIn, ownAt, mailIn, viewIn, Running, Ran};
 ghost use Rattle.views.specs.Writing.{Wrote};

@@ -1,7 +1,7 @@
 use Prim.Native.Nat.{_+_, _*_, _-_}
 use lib.ListN.{getD}
 use Rattle.field.specs.Mod.{add}
-use Rattle.tables.proofs.RowLaws.{Making, row-reading}
+use Rattle.dealings.proofs.RowLaws.{Making, row-reading}
 use Rattle.tables.proofs.offset_row.Statement.{statement}
 use Rattle.tables.proofs.offset_row.Tie as tie
 

@@ -1,0 +1,5 @@
+pub mod RowLaws
+pub mod PowerLaws
+pub mod DealLaws
+pub mod GridLaws
+pub mod DealingLaws
