@@ -1,5 +1,5 @@
 -- Counts of a plan's gates and outs.
---     kinds, counting     what closes the needs of the functions that count
+--     kinds, counting, counting-outs, wiring     what closes the needs of the functions that count
 -- Assumes nothing.
 use mathlib.Core.Path.{_≡_, refl, sym, ap, _∙_}
 use mathlib.Core.Bool.{Bool, true, false, cond}
@@ -14,7 +14,7 @@ use lib.ListN.{length, getD, take, drop, length-append, drop-of-length-le}
 use lib.Seq.{drop-cons}
 use Rattle.numbers.specs.Tables.{countWhere}
 use Rattle.numbers.proofs.Tables.{length-tab}
-use Rattle.numbers.proofs.Counts.{countWhere-take-suc, countWhere-take-zero, countWhere-take-all, Counted, count-none, count-next, counted}
+use Rattle.numbers.proofs.Counts.{Counted, count-none, count-next, counted}
 use Rattle.plan.specs.declared.Gate.{Gate}
 use Rattle.plan.specs.declared.Gate.the-variants.{Input, Add, Scale, Offset, Multiply}
 use Rattle.plan.specs.declared.Output.{Output}
@@ -162,30 +162,23 @@ module _ (i : ℕ) where
   unfolding ownOutCount outWires
   own-outs plan = count-outs (plan .outs)
 
--- the loop over the outs: k of the first o are party i's
-pub record CountingOuts (bs : List ℕ) (outs i k o : ℕ) : Type 0 where
-  pub within : o ≤ outs
-  pub le : k ≤ o
-  pub is : k ≡ countWhere (isOutOf i) (take o (planOf bs .outs))
-
 pub is-out-of : (i : ℕ) (o : Output) → eqb i (o .party) ≡ isOutOf i o
 unfolding isOutOf
 is-out-of i o = refl
 
-pub outs-none : (bs : List ℕ) (i : ℕ) → 0 ≡ countWhere (isOutOf i) (take 0 (planOf bs .outs))
-outs-none bs i = sym (countWhere-take-zero (isOutOf i) (planOf bs .outs))
-
-module _ (bs : List ℕ) (h : Header) (i k o : ℕ) (p : Planned bs h) (c : CountingOuts bs (h .outs) i k o) where
-  pub outs-next : o < h .outs → (out : Output) (t : Bool) (one : ℕ) → out ≡ outAt bs o → t ≡ isOutOf i out → one ≡ cond t 1 0
-      → k + one ≡ countWhere (isOutOf i) (take (o + 1) (planOf bs .outs))
+-- the loop over the outs: k of the first o are party i's
+module _ (bs : List ℕ) (h : Header) (i k o : ℕ) (p : Planned bs h) (c : Counted (isOutOf i) (planOf bs .outs) k o) where
+  pub outs-next : o < h .outs → (out : Output) (t : Bool) (one : ℕ) → out ≡ outAt bs o → t ≡ isOutOf i out → one ≡ cond t 1 0 → Counted (isOutOf i) (planOf bs .outs) (k + one) (o + 1)
   outs-next l out t one eo et e1 =
-      rw (countWhere-take-suc (isOutOf i) (planOf bs .outs) o (record { party = 0; wire = 0 }) (rw (plan-outs p) l), plan-out p o l, ← eo, ← et, ← e1)
-      (ap (λ (x : ℕ). x + one) (c .is))
+      count-next (isOutOf i) (planOf bs .outs) k o c one (record { party = 0; wire = 0 }) (rw (plan-outs p) l) (rw (plan-out p o l, ← eo, ← et) e1)
+
+  pub outs-few : k ≤ 64
+  outs-few = omega (arith, c .small, c .within, plan-outs p, p .outs-high)
 
   pub outs-done : h .outs ≤ o → k ≡ ownOutCount (planOf bs) i
-  outs-done l = c .is ∙ countWhere-take-all (isOutOf i) (planOf bs .outs) o (rw (plan-outs p) l) ∙ sym (own-outs i (planOf bs))
+  outs-done l = counted (isOutOf i) (planOf bs .outs) k o c (rw (plan-outs p) l) ∙ sym (own-outs i (planOf bs))
 
-pub ruleset counting-outs = (needs, is-out-of, outs-none, outs-next, outs-done)
+pub ruleset counting-outs = (needs, is-out-of, count-none, outs-next, outs-few, outs-done)
 
 -- ---- the wire of a multiply gate: at gate g, it is the one after so many that are left
 pub record Wiring (bs : List ℕ) (gates k left g : ℕ) : Type 0 where

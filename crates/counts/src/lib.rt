@@ -216,7 +216,7 @@ pub fn mail_by(plan: &[u8], h: Header, i: usize, c: Tally, k: usize) -> usize
     h.n * own_out_count(plan, h, i)
 }
 
-// The same.
+// The same from the plan alone.
 pub fn mail_count(plan: &[u8], h: Header, i: usize, k: usize) -> usize
     requires { ⌜ Planned (now plan) h ⌝ }
     ensures { λ r. ⌜ record { eq : r ≡ mailCount (planOf (now (plan .entry))) i k; le : r ≤ 1024 } ⌝ }
@@ -242,7 +242,7 @@ pub fn written_by(plan: &[u8], h: Header, i: usize, c: Tally, k: usize) -> usize
     own_out_count(plan, h, i)
 }
 
-// The same.
+// The same from the plan alone.
 pub fn written_count(plan: &[u8], h: Header, i: usize, k: usize) -> usize
     requires { ⌜ Planned (now plan) h ⌝ }
     ensures { λ r. ⌜ record { eq : r ≡ writtenCount (planOf (now (plan .entry))) i k; le : r ≤ 15360 } ⌝ }

@@ -1,10 +1,13 @@
 use Prim.Native.Nat.{_-_}
-use Rattle.counts.proofs.Counts.{CountingOuts, counting-outs}
+use Rattle.numbers.proofs.Counts.{Counted}
+use Rattle.plan.specs.File.{planOf}
+use Rattle.counts.specs.Counts.{isOutOf}
+use Rattle.counts.proofs.Counts.{counting-outs}
 use Rattle.counts.proofs.own_out_count.Statement.{statement}
 use Rattle.counts.proofs.own_out_count.Tie as tie
 
 abbrev Inv-loop : tie.InvT-loop
-Inv-loop plan i outs k₀ o₀ k o = CountingOuts plan outs i k o
+Inv-loop plan i outs k₀ o₀ k o = Counted (isOutOf i) (planOf plan .outs) k o
 
 abbrev μ-loop : tie.MeasureT-loop
 μ-loop plan i outs k₀ o₀ k o = outs - o
