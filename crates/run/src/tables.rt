@@ -24,7 +24,7 @@ ghost use Rattle.run.specs.Rows.{rowsOf, powers, powerRows, productsOf, 
 // ---- what is worked out once for a plan
 
 // The powers 1, x, x², .. of a point, as many as there is room for.
-fn powers(f: Field, x: u64, row: &mut [u64])
+pub fn powers(f: Field, x: u64, row: &mut [u64])
     requires { ⌜ Ready (f .p) ⌝ }
     requires { ⌜ x < f .p ⌝ }
     ensures { λ _. ⌜ now (row .exit) ≡ powers (f .p) x (length (now (row .entry))) ⌝ }
