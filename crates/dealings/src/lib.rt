@@ -15,7 +15,7 @@ ghost use Rattle.protocol.specs.Shares.{sharings};
 ghost use Rattle.dealings.specs.Rows.{powers, powerRows, productsOf, mixedAt, column, added, rests, Sized, Prepared, Powered, Coined, Dealt, Elements, Rowed};
 
 // The powers 1, x, x², .. of a point, as many as there is room for.
-fn powers(f: Field, x: u64, row: &mut [u64])
+pub fn powers(f: Field, x: u64, row: &mut [u64])
     requires { ⌜ Ready (f .p) ⌝ }
     requires { ⌜ x < f .p ⌝ }
     ensures { λ _. ⌜ now (row .exit) ≡ powers (f .p) x (length (now (row .entry))) ⌝ }

@@ -5,39 +5,38 @@
 --     table-long, table-below                 how long the flat table is, and that its entries are elements
 --     length-view, length-views               how long a view is
 -- Assumes nothing.
-use mathlib.Core.Path.{_≡_, refl, sym, ap, ap₂, subst, _∙_}
-use mathlib.Core.Bool.{Bool, true, false, cond}
+use mathlib.Core.Path.{_≡_, refl, sym, ap, ap₂, _∙_}
+use mathlib.Core.Bool.{true}
 use mathlib.Core.List.{List, [], _∷_, _++_, map, flatMap}
-use Prim.Native.Nat.{ℕ, zero, suc, _+_, _-_, _*_, _<_, _≤_}
+use Prim.Native.Nat.{ℕ, suc, _+_, _-_, _*_, _<_, _≤_}
 use native.Mathlib.Numerals.{add-one}
 use native.Mathlib.Nat.{mul-suc, mul-comm, mul-le-mul-left}
 use native.Mathlib.Omega.{arith}
 use lib.ListN.{length, getD, take, drop, length-append, length-drop}
 use lib.Seq.{ext-getD, getD-take, getD-drop, length-take-le, drop-drop}
-use Rattle.numbers.specs.Tables.{tab, countWhere}
+use Rattle.numbers.specs.Tables.{tab}
 use Rattle.numbers.specs.Bytes.{allBelow}
 use Rattle.numbers.proofs.Tables.{tab-ext, tab-map, length-tab, getD-tab, list-tab}
 use Rattle.field.specs.Mod.{mul}
 use Rattle.polynomials.specs.Poly.{eval}
-use Rattle.polynomials.specs.Interp.{All}
+use Rattle.polynomials.specs.Interp.{All, dot}
 use Rattle.polynomials.specs.Sharing.{opened}
-use Rattle.polynomials.proofs.Alls.{all-tab}
 use Rattle.plan.specs.declared.Gate.{Gate}
 use Rattle.plan.specs.declared.Gate.the-variants.{Input, Add, Scale, Offset, Multiply}
 use Rattle.plan.specs.declared.Header.{Header}
-use Rattle.plan.specs.Plans.{Plan, partyCount, parties, pointOf, dealerCount, dealersOf, dealings, deals, isInputOf, isMultiply, multiplies, wiresFrom, wiresWhere, inputWires, outWires, inputCount, ownInputCount, ownCoinCount, ownOutCount, coinCount, ownInputs, ownCoins}
-use Rattle.plan.specs.File.{planOf, gateAt}
+use Rattle.plan.specs.Plans.{Plan, partyCount, parties, pointOf, dealerCount, dealersOf, dealings, isInputOf, isMultiply, multiplies, wiresFrom, wiresWhere, inputWires, outWires, inputCount, ownInputCount, ownCoinCount, ownOutCount, coinCount, ownInputs, ownCoins}
+use Rattle.plan.specs.File.{planOf}
 use Rattle.plan.specs.Planned.{Planned}
-use Rattle.plan.proofs.Planned.{plan-t, plan-p, plan-n, plan-points, plan-dealers, plan-gates, plan-gate}
+use Rattle.plan.proofs.Planned.{plan-t, plan-p, plan-n, plan-points, plan-dealers}
 use Rattle.plan.proofs.Valid.{Valid, valid}
 use Rattle.messages.specs.Messages.{wiresByParty}
 use Rattle.sending.specs.Sending.{coinsFrom}
-use Rattle.sending.proofs.DealLaws.{coinsFrom-part}
+use Rattle.sending.proofs.DealLaws.{length-coinsFrom, coinsFrom-part}
 use Rattle.protocol.specs.Shares.{wireAt, shareTable, coinsBelow, pieces, tableMails, tableResults, tableViewOf}
-use Rattle.dealings.specs.Rows.{rowsOf}
+use Rattle.dealings.specs.Rows.{rowsOf, powers}
 use Rattle.views.specs.ViewCounts.{viewCountOf, viewCount}
 use Rattle.views.specs.Flat.{shareIn, rowIn, firstIn, outsIn, openedIn, pieceIn, piecesIn, middleIn, mailIn, viewIn}
-use Rattle.protocol.proofs.Lists.{map-all, flatMap-all, flatMap-map, map-flatMap, getD-map-in, length-map, length-rows, getD-rows, all-every}
+use Rattle.protocol.proofs.Lists.{flatMap-all, flatMap-map, map-flatMap, getD-map-in, length-map, length-rows, getD-rows, all-every}
 use Rattle.protocol.proofs.Blocks.{length-ownBlocks, count-dealings, own-inputs, inputAt}
 use Rattle.protocol.proofs.States.{wires-all, length-multiplies, gate-reads}
 use Rattle.protocol.proofs.Carried.{each-party, length-parties, out-wires-within, product-of, pieces-tab}
@@ -45,6 +44,7 @@ use Rattle.protocol.proofs.Counts.{length-inputWires, length-wiresByParty}
 use Rattle.protocol.proofs.Wires.{table-length}
 use Rattle.protocol.proofs.Below.{flatMap-below, shares-at-below}
 use Rattle.views.proofs.ViewLaws.{coins-next, coins-room}
+use Rattle.dealings.proofs.PowerLaws.{eval-powers}
 
 -- ---- rows by the number of the wire
 rows-by-wire : (points : List ℕ) (env : List (ℕ → ℕ)) → rowsOf points env ≡ flatMap (λ w. map (wireAt env w) points) (tab (λ k. k) (length env))
@@ -151,8 +151,21 @@ module _ {bs : List ℕ} {h : Header} (pl : Planned bs h) (xs cs table : List �
   unfolding dealerCount
   dealers-few = omega (arith, v .majority)
 
+  -- a dealer's product
+  dealt-flat : (a b k : ℕ) → suc k ≤ partyCount plan → a < length (plan .gates) → b < length (plan .gates)
+      → mul (h .field .p) (shareIn (h .n) table (k + 1) a) (shareIn (h .n) table (k + 1) b) ≡ product-of plan v xs cs full a b (pointOf plan (suc k))
+  unfolding product-of
+  dealt-flat a b k u la lb =
+      rw (← plan-p pl, ← plan-n pl, add-one k, share-flat plan xs cs table is (suc k) a (omega arith) u la, share-flat plan xs cs table is (suc k) b (omega arith) u lb)
+
+  -- the powers of x weigh t + 1 coefficients as the point x does
+  powers-value : (x s from : ℕ) → dot (plan .p) (powers (h .field .p) x (h .t + 1)) (s ∷ coinsFrom (plan .t) from cs) ≡ eval (plan .p) (s ∷ coinsFrom (plan .t) from cs) x
+  powers-value x s from =
+      let e : h .t + 1 ≡ length (s ∷ coinsFrom (plan .t) from cs) = omega (arith, length-coinsFrom (plan .t) from cs, plan-t pl) in
+      ap₂ (λ (p n : ℕ). dot (plan .p) (powers p x n) (s ∷ coinsFrom (plan .t) from cs)) (sym (plan-p pl)) e ∙ eval-powers (plan .p) (s ∷ coinsFrom (plan .t) from cs) x
+
   piece-flat : (g a b x k : ℕ) → g < length (plan .gates) → getD (plan .gates) g (Input 0) ≡ Multiply a b → k < dealerCount plan
-      → pieceIn h table a b cs (coinsBelow plan g) x k
+      → pieceIn h table a b cs (coinsBelow plan g) (powers (h .field .p) x (h .t + 1)) k
       ≡ eval (plan .p) (product-of plan v xs cs full a b (pointOf plan (suc k)) ∷ take (plan .t) (drop (plan .t * k) (drop (coinsBelow plan g) cs))) x
   unfolding pieceIn product-of
   piece-flat g a b x k l e m =
@@ -160,29 +173,33 @@ module _ {bs : List ℕ} {h : Header} (pl : Planned bs h) (xs cs table : List �
       let la : a < length (plan .gates) = omega (arith, r .0) in
       let lb : b < length (plan .gates) = omega (arith, r .1) in
       let u : suc k ≤ partyCount plan = omega (arith, dealers-few) in
-      rw (← plan-p pl, ← plan-n pl, ← plan-t pl, add-one k, share-flat plan xs cs table is (suc k) a (omega arith) u la, share-flat plan xs cs table is (suc k) b (omega arith) u lb, coinsFrom-part (plan .t) (coinsBelow plan g + plan .t * k) cs (dealer-room g a b k l e m), drop-drop)
+      let s : ℕ = mul (h .field .p) (shareIn (h .n) table (k + 1) a) (shareIn (h .n) table (k + 1) b) in
+      let from : ℕ = coinsBelow plan g + plan .t * k in
+      ap₂ (λ (p t : ℕ). dot p (powers (h .field .p) x (h .t + 1)) (s ∷ coinsFrom t (coinsBelow plan g + t * k) cs)) (sym (plan-p pl)) (sym (plan-t pl))
+      ∙ powers-value x s from
+      ∙ ap₂ (λ (y : ℕ) (c : List ℕ). eval (plan .p) (y ∷ c) x) (dealt-flat a b k u la lb) (coinsFrom-part (plan .t) from cs (dealer-room g a b k l e m) ∙ ap (take (plan .t)) (sym (drop-drop (plan .t * k) (coinsBelow plan g) cs)))
 
   pieces-flat : (g x : ℕ) → g < length (plan .gates) → isMultiply (getD (plan .gates) g (Input 0)) ≡ true
-      → piecesIn h table cs (coinsBelow plan g) x (getD (plan .gates) g (Input 0)) ≡ pieces plan xs cs g x
+      → piecesIn h table cs (coinsBelow plan g) (powers (h .field .p) x (h .t + 1)) (getD (plan .gates) g (Input 0)) ≡ pieces plan xs cs g x
   unfolding piecesIn
   pieces-flat g x l m =
-      multiply-or (λ y. getD (plan .gates) g (Input 0) ≡ y → piecesIn h table cs (coinsBelow plan g) x y ≡ pieces plan xs cs g x) (getD (plan .gates) g (Input 0)) m
+      multiply-or (λ y. getD (plan .gates) g (Input 0) ≡ y → piecesIn h table cs (coinsBelow plan g) (powers (h .field .p) x (h .t + 1)) y ≡ pieces plan xs cs g x) (getD (plan .gates) g (Input 0)) m
       (λ a b e q. by a b e) refl
     where
-      by : (a b : ℕ) → getD (plan .gates) g (Input 0) ≡ Multiply a b → piecesIn h table cs (coinsBelow plan g) x (getD (plan .gates) g (Input 0)) ≡ pieces plan xs cs g x
+      by : (a b : ℕ) → getD (plan .gates) g (Input 0) ≡ Multiply a b → piecesIn h table cs (coinsBelow plan g) (powers (h .field .p) x (h .t + 1)) (getD (plan .gates) g (Input 0)) ≡ pieces plan xs cs g x
       by a b e =
-          ap (piecesIn h table cs (coinsBelow plan g) x) e
-          ∙ ap (tab (pieceIn h table a b cs (coinsBelow plan g) x)) (sym (plan-dealers pl))
-          ∙ tab-ext (pieceIn h table a b cs (coinsBelow plan g) x)
+          ap (piecesIn h table cs (coinsBelow plan g) (powers (h .field .p) x (h .t + 1))) e
+          ∙ ap (tab (pieceIn h table a b cs (coinsBelow plan g) (powers (h .field .p) x (h .t + 1)))) (sym (plan-dealers pl))
+          ∙ tab-ext (pieceIn h table a b cs (coinsBelow plan g) (powers (h .field .p) x (h .t + 1)))
           (λ k. eval (plan .p) (product-of plan v xs cs full a b (pointOf plan (suc k)) ∷ take (plan .t) (drop (plan .t * k) (drop (coinsBelow plan g) cs))) x) (dealerCount plan)
           (λ k n. piece-flat g a b x k l e n)
           ∙ sym (pieces-tab plan v xs cs full g a b x e)
 
-  middle-flat : (x : ℕ) → middleIn plan h table cs x ≡ flatMap (λ g. pieces plan xs cs g x) (wiresWhere isMultiply plan)
+  middle-flat : (x : ℕ) → middleIn plan h table cs (powers (h .field .p) x (h .t + 1)) ≡ flatMap (λ g. pieces plan xs cs g x) (wiresWhere isMultiply plan)
   unfolding middleIn wiresWhere
   middle-flat x =
-      flatMap-all (λ g. piecesIn h table cs (coinsBelow plan g) x (getD (plan .gates) g (Input 0))) (λ g. pieces plan xs cs g x) (wiresFrom isMultiply 0 (plan .gates))
-      (wires-all isMultiply (λ g. piecesIn h table cs (coinsBelow plan g) x (getD (plan .gates) g (Input 0)) ≡ pieces plan xs cs g x) 0 (plan .gates)
+      flatMap-all (λ g. piecesIn h table cs (coinsBelow plan g) (powers (h .field .p) x (h .t + 1)) (getD (plan .gates) g (Input 0))) (λ g. pieces plan xs cs g x) (wiresFrom isMultiply 0 (plan .gates))
+      (wires-all isMultiply (λ g. piecesIn h table cs (coinsBelow plan g) (powers (h .field .p) x (h .t + 1)) (getD (plan .gates) g (Input 0)) ≡ pieces plan xs cs g x) 0 (plan .gates)
       (λ k l e. let z : 0 + k ≡ k = omega arith in rw z (pieces-flat k x l e)))
 
   -- ---- the results

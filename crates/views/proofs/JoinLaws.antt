@@ -4,15 +4,15 @@
 --     Viewed, viewing       the views of all members
 -- Assumes nothing.
 use mathlib.Core.Path.{_≡_, refl, sym, ap, _∙_}
-use mathlib.Core.Bool.{Bool, true, false, cond, not}
+use mathlib.Core.Bool.{Bool, true, false, cond}
 use mathlib.Core.List.{List, [], _∷_, _++_, map, flatMap}
-use Prim.Native.Nat.{ℕ, zero, suc, _+_, _-_, _*_, _/_, _<_, _≤_}
+use Prim.Native.Nat.{ℕ, suc, _+_, _-_, _*_, _<_, _≤_}
 use native.Mathlib.Numerals.{add-one}
 use native.Mathlib.Omega.{arith}
 use borrow.Author.Needs.{needs}
 use borrow.Author.Tests.{not-true, not-false}
-use lib.ListN.{length}
-use Rattle.numbers.specs.Bytes.{numbers, bytesOf, allBelow}
+use lib.ListN.{length, take}
+use Rattle.numbers.specs.Bytes.{numbers, bytesOf}
 use Rattle.numbers.proofs.Bytes.{numbers-length}
 use Rattle.polynomials.specs.Interp.{All}
 use Rattle.plan.specs.declared.Header.{Header}
@@ -24,11 +24,12 @@ use Rattle.plan.proofs.Planned.{plan-p, plan-n, plan-gates}
 use Rattle.plan.proofs.Valid.{valid}
 use Rattle.coalition.proofs.Coalitions.{member-in, in-member, all-members, member-party}
 use Rattle.protocol.specs.Shares.{shareTable, tableViewOf}
-use Rattle.dealings.specs.Rows.{rowsOf, Given}
+use Rattle.dealings.specs.Rows.{rowsOf, powers, Given}
 use Rattle.views.specs.ViewCounts.{viewCount}
-use Rattle.views.specs.Flat.{firstIn, middleIn, outsIn, openedIn, mailIn, viewIn, Flat, Running, Ran}
+use Rattle.views.specs.Flat.{firstIn, middleIn, outsIn, openedIn, mailIn, viewIn, Ran}
 use Rattle.views.specs.Writing.{Wrote, storedFrom}
 use Rattle.protocol.proofs.Lists.{flatMap-all, all-map}
+use Rattle.views.proofs.ViewLaws.{row-count, power-row}
 use Rattle.views.proofs.WriteLaws.{storedFrom-whole, wrote-none, wrote-then, Left, left-none, left-then, left-end}
 use Rattle.views.proofs.FlatLaws.{table-long, table-below, view-flat, length-views}
 
@@ -38,10 +39,10 @@ wrote-most m k xs at old new next l w = record { bytes = w .bytes; place = w .pl
 
 module _ (plan : Plan) (h : Header) (table cs : List ℕ) (i at : ℕ) (old : List ℕ) where
   pub mail-done :
-      (a b next : ℕ) (da db new : List ℕ) → Wrote 15360 (firstIn plan (h .n) table i) at old da a → Wrote 15360 (middleIn plan h table cs i) a da db b
+      (a b next : ℕ) (row da db new : List ℕ) → take (h .t + 1) row ≡ powers (h .field .p) i (h .t + 1) → Wrote 15360 (firstIn plan (h .n) table i) at old da a → Wrote 15360 (middleIn plan h table cs (take (h .t + 1) row)) a da db b
       → Wrote 960 (outsIn plan (h .n) table i) b db new next → Wrote 31680 (mailIn plan h table cs i) at old new next
   unfolding mailIn
-  mail-done a b next da db new u v w = wrote-then 15360 16320 _ _ at a next old da new u (wrote-then 15360 960 _ _ a b next da db new v w)
+  mail-done a b next row da db new e u v w = wrote-then 15360 16320 _ _ at a next old da new u (wrote-then 15360 960 _ _ a b next da db new (rw e at v) w)
 
   pub view-done :
       (xs : List ℕ) (a b c next : ℕ) (da db dc new : List ℕ) → Wrote 1024 (ownInputs plan i xs) at old da a → Wrote 7168 (ownCoins plan i cs) a da db b
@@ -51,7 +52,10 @@ module _ (plan : Plan) (h : Header) (table cs : List ℕ) (i at : ℕ) (old : Li
   view-done xs a b c next da db dc new s u v w =
       wrote-then 1024 38912 _ _ at a next old da new s (wrote-then 7168 31744 _ _ a b next da db new u (wrote-then 31680 64 _ _ b c next db dc new v w))
 
-pub ruleset joining = (needs, mail-done, view-done)
+pub few-powers : (bs : List ℕ) (h : Header) → Planned bs h → h .t ≤ 7
+few-powers bs h pl = omega (arith, pl .majority, pl .n-high)
+
+pub ruleset joining = (needs, few-powers, power-row, row-count, mail-done, view-done)
 
 -- ---- a member
 pub member-most : (n t set i : ℕ) (b : Bool) → setFits n t set ≡ true → b ≡ inSet set i → b ≡ true → 1 ≤ i → i ≤ 16 → i ≤ n

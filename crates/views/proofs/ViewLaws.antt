@@ -9,36 +9,35 @@
 use mathlib.Core.Path.{_≡_, refl, sym, ap, _∙_}
 use mathlib.Core.Bool.{Bool, true, false, cond, not}
 use mathlib.Core.List.{List, [], _∷_, _++_, map, flatMap, append-nil}
-use Prim.Native.Nat.{ℕ, zero, suc, _+_, _-_, _*_, _%_, _^_, _<_, _≤_}
+use Prim.Native.Nat.{ℕ, suc, _+_, _-_, _*_, _/_, _%_, _^_, _<_, _≤_}
 use native.Mathlib.Numerals.{add-one}
-use native.Mathlib.Nat.{mul-le-mul, mul-le-mul-left, mul-le-mul-right, mul-zero, mul-suc, mul-add, add-sub-cancel-left, mod-lt}
+use native.Mathlib.Nat.{mul-le-mul, mul-le-mul-left, mul-le-mul-right, mul-zero, mul-suc, mul-add, add-sub-cancel-left}
 use native.Mathlib.Omega.{arith}
 use borrow.Author.Needs.{needs}
-use borrow.Author.Tests.{not-true, not-false, ltb-true, leb-true, leb-false, le-leb, lt-leb, eq-eqb, ne-eqb}
+use borrow.Author.Tests.{not-true, not-false, ltb-true, lt-ltb, leb-true, leb-false, le-leb, lt-leb, eq-eqb, ne-eqb}
 use lib.Dec.{eqb, leb}
 use lib.ListN.{length, getD, take, drop, drop-of-length-le, length-append, length-drop, take-append-drop, List·getD-eq-default}
-use lib.Seq.{take-suc, drop-cons, drop-drop, getD-drop, length-take-le}
+use lib.Seq.{take-suc, take-at, drop-cons, drop-drop, getD-drop, length-take-le}
 use mir.Syntax.{w64}
 use mir.Val.{Fits}
 use Rattle.numbers.specs.Tables.{tab}
-use Rattle.numbers.specs.Bytes.{stored, allBelow}
+use Rattle.numbers.specs.Bytes.{wordAt, numbers, allBelow}
 use Rattle.numbers.proofs.Tables.{length-tab, getD-tab}
-use Rattle.numbers.proofs.Below.{allBelow-take, allBelow-drop}
+use Rattle.numbers.proofs.Below.{allBelow-take, allBelow-drop, allBelow-tab}
+use Rattle.numbers.proofs.Bytes.{numbers-length}
 use Rattle.numbers.proofs.Truth.{both-true}
-use Rattle.field.specs.Mod.{add, mul}
-use Rattle.field.specs.Field.{Is, Ready}
-use Rattle.field.proofs.Products.{word}
-use Rattle.polynomials.specs.Poly.{eval}
+use Rattle.field.specs.Mod.{mul}
+use Rattle.field.specs.Field.{Below2, Is, reciprocal, Reducible, Ready}
+use Rattle.polynomials.specs.Interp.{dot}
 use Rattle.polynomials.specs.Sharing.{opened}
-use Rattle.polynomials.proofs.Alls.{all-tab}
 use Rattle.openings.specs.Openable.{Openable}
-use Rattle.sharing.proofs.Coding.{entry-below, step-value, Valued, value-none, value-more, value-whole, product-fits}
+use Rattle.sharing.proofs.Coding.{entry-below, Summed, sum-none, sum-more, next-fits, sum-next, sum-reducible, sum-reduced}
 use Rattle.plan.specs.declared.Gate.{Gate}
 use Rattle.plan.specs.declared.Gate.the-variants.{Input, Add, Scale, Offset, Multiply}
 use Rattle.plan.specs.declared.Output.{Output}
 use Rattle.plan.specs.declared.Header.{Header}
 use Rattle.plan.specs.Plans.{Plan, dealerCount, dealersOf, dealings, coinCount, ownBlocks, ownCoins, partyCount, parties, isInputOf, isMultiply, wiresFrom, wiresWhere, inputWires, outWiresOf, outWires, ownInputsOf, ownInputs}
-use Rattle.plan.specs.File.{between, gateAt, outAt, outOk, planOf}
+use Rattle.plan.specs.File.{between, gateOf, gateAt, outAt, outOk, planOf}
 use Rattle.plan.specs.Planned.{Planned}
 use Rattle.plan.proofs.Planned.{plan-t, plan-n, plan-gates, plan-outs, plan-gate, plan-out}
 use Rattle.plan.proofs.Valid.{valid}
@@ -47,11 +46,15 @@ use Rattle.messages.proofs.PointLaws.{first-points, first-points-below}
 use Rattle.sending.proofs.DealLaws.{length-coinsFrom, coinsFrom-part}
 use Rattle.protocol.specs.Ideal.{inputsTaken}
 use Rattle.protocol.specs.Shares.{coinsBelow}
-use Rattle.views.specs.Flat.{shareIn, rowIn, firstIn, outsIn, openedIn, pieceIn, piecesIn, middleIn, coinsIn, ownAt, Running}
+use Rattle.dealings.specs.Rows.{powers}
+use Rattle.views.specs.Flat.{shareIn, rowIn, firstIn, outsIn, openedIn, pieceIn, piecesIn, middleIn, coinsIn, ownAt, Running, PowerRow}
 use Rattle.views.specs.Writing.{Wrote}
 use Rattle.protocol.proofs.Lists.{flatMap-append}
 use Rattle.protocol.proofs.Blocks.{ownBlocks-append, ownBlocks-none, own-dealing}
+use Rattle.dealings.proofs.RowLaws.{row-room}
+use Rattle.dealings.proofs.PowerLaws.{length-powers, powers-below}
 use Rattle.views.proofs.WriteLaws.{wrote-none, wrote-one, wrote-unwanted, Left, left-none, left-then, left-end}
+use Rattle.polynomials.proofs.Alls.{all-tab}
 
 -- ---- one number
 -- the number and the test by other names
@@ -61,11 +64,46 @@ wrote-alike b t v x at next old new e f w = rw (← e, ← f) w
 pub wrote-if : (b : Bool) (at v next : ℕ) (old new : List ℕ) → b ≡ true → Wrote 1 (v ∷ []) at old new next → Wrote 1 (cond b (v ∷ []) []) at old new next
 wrote-if b at v next old new h w = rw h w
 
+module _ (b t : Bool) (e : t ≡ b) (v at : ℕ) (old : List ℕ) where
+  pub unwanted : t ≡ false → Wrote 1 (cond b (v ∷ []) []) at old old at
+  unwanted h = wrote-unwanted b at v old (sym e ∙ h)
+
+  pub wanted : (x next : ℕ) (new : List ℕ) → t ≡ true → x ≡ v → Wrote 1 (x ∷ []) at old new next → Wrote 1 (cond b (v ∷ []) []) at old new next
+  wanted x next new h f w = wrote-if b at v next old new (sym e ∙ h) (rw (← f) w)
+
+pub ruleset putting-or-not = (needs, not-true, not-false, unwanted, wanted)
+
 pub ruleset putting = (needs, not-true, not-false, wrote-one, wrote-if, wrote-unwanted, wrote-alike)
 
 -- ---- a gate by its kind
 pub input-of-as : (i : ℕ) (gate x : Gate) (r : Bool) → gate ≡ x → r ≡ isInputOf i x → r ≡ isInputOf i gate
 input-of-as i gate x r e f = f ∙ sym (ap (isInputOf i) e)
+
+pub input-at : (i : ℕ) (gate x : Gate) (r : Bool) → gate ≡ x → r ≡ isInputOf i gate → r ≡ isInputOf i x
+input-at i gate x r e f = f ∙ ap (isInputOf i) e
+
+-- a gate whose first byte is not 1 is no party's input
+not-input : (j a b : ℕ) (x : Gate) → 1 ≤ j → (z two three four five : Bool)
+    → false ≡ isInputOf j (cond z (cond false x (cond two (Add a b) (cond three (Scale a b) (cond four (Offset a b) (cond five (Multiply a b) (Input 0)))))) (Input 0))
+unfolding isInputOf
+not-input j a b x l false two three four five = sym (ne-eqb j 0 (λ e. omega arith))
+not-input j a b x l true true three four five = refl
+not-input j a b x l true false true four five = refl
+not-input j a b x l true false false true five = refl
+not-input j a b x l true false false false true = refl
+not-input j a b x l true false false false false = sym (ne-eqb j 0 (λ e. omega arith))
+
+pub other-kind : (bs : List ℕ) (g j : ℕ) → (getD bs (18 + 6 * g) 0 ≡ 1 → ⊥) → 1 ≤ j → false ≡ isInputOf j (gateAt bs g)
+unfolding gateAt gateOf
+other-kind bs g j n l =
+    let kind : ℕ = getD bs (18 + 6 * g) 0 in
+    let a : ℕ = wordAt bs (18 + 6 * g + 2) in
+    let b : ℕ = wordAt bs (18 + 6 * g + 4) in
+    rw (ne-eqb (getD bs (18 + 6 * g) 0) 1 n)
+    (not-input j a b (cond (eqb b 0) (Input a) (Input 0)) l (eqb (getD bs (18 + 6 * g + 1) 0) 0) (eqb kind 2) (eqb kind 3) (eqb kind 4) (eqb kind 5))
+
+pub first-byte-within : (bs : List ℕ) (h : Header) (g : ℕ) → Planned bs h → g < h .gates → 18 + 6 * g < length bs
+first-byte-within bs h g pl l = omega (arith, pl .long)
 
 pub taken-as : (gate x : Gate) (r : ℕ) → gate ≡ x → r ≡ inputsTaken x → r ≡ inputsTaken gate
 taken-as gate x r e f = f ∙ sym (ap inputsTaken e)
@@ -79,7 +117,7 @@ coins-few t l = mul-le-mul {n₂ = 7} {m₂ = 15} l (omega arith)
 pub coins-fit : (t : ℕ) → t ≤ 7 → Fits w64 (t * (t + t + 1))
 coins-fit t l = record { fits = omega (arith, coins-few t l) }
 
-pub ruleset sorting = (needs, input-of-as, taken-as, coins-as, coins-few, coins-fit)
+pub ruleset sorting = (needs, other-kind, first-byte-within, input-at, input-of-as, taken-as, coins-as, coins-few, coins-fit)
 
 -- ---- the gates of a plan from g on
 module _ {bs : List ℕ} {h : Header} (pl : Planned bs h) where
@@ -173,14 +211,14 @@ sift-none test f bs at old = record { left = left-none _ at old _ refl; within =
 
 module _ (test : Gate → Bool) (f : ℕ → ℕ) (bs : List ℕ) (h : Header) (at : ℕ) (old new : List ℕ) (next g : ℕ) (s : Sifting test f bs at old new next g) (pl : Planned bs h) where
   pub sift-next :
-      (gate : Gate) (new′ : List ℕ) (next′ : ℕ) → g < h .gates → gate ≡ gateAt bs g → Wrote 1 (cond (test gate) (f g ∷ []) []) next new new′ next′
+      (new′ : List ℕ) (next′ : ℕ) → g < h .gates → Wrote 1 (cond (test (gateAt bs g)) (f g ∷ []) []) next new new′ next′
       → length new′ ≡ length new → Sifting test f bs at old new′ next′ (g + 1)
   unfolding wiresFrom
-  sift-next gate new′ next′ l e w n =
+  sift-next new′ next′ l w n =
       record {
         left =
             left-then _ at old new next _ g (s .left) 1 _ _ new′ next′ (g + 1)
-            (rw (gates-from pl g gate l e, ← add-one g) (sift-step (test gate) f g (wiresFrom test (g + 1) (drop (g + 1) (planOf bs .gates))))) w n (omega arith);
+            (rw (gates-from pl g (gateAt bs g) l refl, ← add-one g) (sift-step (test (gateAt bs g)) f g (wiresFrom test (g + 1) (drop (g + 1) (planOf bs .gates))))) w n (omega arith);
         within = omega (arith, pl .gates-high);
       }
 
@@ -382,40 +420,55 @@ coin-at : (t from : ℕ) (cs : List ℕ) (j : ℕ) → j < t → getD (coinsFrom
 unfolding coinsFrom
 coin-at t from cs j l = getD-tab (λ k. getD cs (from + k) 0) t j 0 l
 
-module _ (p t from : ℕ) (cs : List ℕ) (x : ℕ) where
-  pub dealt-none : Ready p → Valued p (coinsFrom t from cs) x 0 t
-  dealt-none r = rw length-coinsFrom at (value-none p (coinsFrom t from cs) x (r .prime .above))
+module _ (p t from s : ℕ) (ws cs : List ℕ) where
+  -- the polynomial, and that it fits the powers
+  coefficients-long : length (s ∷ coinsFrom t from cs) ≡ t + 1
+  coefficients-long = omega (arith, length-coinsFrom t from cs)
 
-  module _ (acc j : ℕ) (v : Valued p (coinsFrom t from cs) x acc j) where
-    pub dealt-within : j ≤ t
-    dealt-within = omega (arith, v .within, length-coinsFrom t from cs)
+  coefficients-below : Ready p → allBelow p cs ≡ true → s < p → allBelow p (s ∷ coinsFrom t from cs) ≡ true
+  unfolding allBelow coinsFrom
+  coefficients-below r b l = rw (lt-ltb s p l) (allBelow-tab p (λ k. getD cs (from + k) 0) t (λ k m. entry-below p cs (from + k) r b))
 
-    pub dealt-place : t ≤ 7 → from ≤ 1000000 → Fits w64 (from + (j - 1))
-    dealt-place few l = record { fits = omega (arith, dealt-within) }
+  next-coefficient : (j : ℕ) → j < t → getD (s ∷ coinsFrom t from cs) (j + 1) 0 ≡ getD cs (from + j) 0
+  next-coefficient j l = rw add-one (coin-at t from cs j l)
 
-    pub dealt-product : Ready p → x < p → Fits w64 (x * acc)
-    dealt-product r l = record { fits = product-fits p (coinsFrom t from cs) x acc j r l v }
+  module _ (r : Ready p) (bw : allBelow p ws ≡ true) (long : length ws ≡ t + 1) (b : allBelow p cs ≡ true) (l : s < p) where
+    pub dealt-start : 0 < length ws
+    dealt-start = omega arith
 
-    pub dealt-fits : (y : ℕ) → Ready p → x < p → y < 65536 → Fits w64 (y + x * acc)
-    dealt-fits y r l m = record { fits = omega (arith, word x acc (omega (arith, r .small)) (omega (arith, r .small, v .small))) }
+    pub dealt-first-below : Below2 p (getD ws 0 0) s
+    dealt-first-below = record { above = r .prime .above; small = r .small; left = entry-below p ws 0 r bw; right = l }
 
-    pub dealt-last : (y : ℕ) → Ready p → x < p → y < p → Fits w64 (y + x * acc)
-    dealt-last y r l m = dealt-fits y r l (omega (arith, r .small))
+    pub dealt-first : (z : ℕ) → z ≡ getD ws 0 0 * s → Summed ws (s ∷ coinsFrom t from cs) z 1
+    dealt-first z e =
+        let q : z ≡ 0 + getD ws 0 0 * s = omega arith in
+        rw q (sum-more ws (s ∷ coinsFrom t from cs) p 0 0 r bw (coefficients-below r b l) (omega (arith, coefficients-long)) (sum-none ws (s ∷ coinsFrom t from cs)) (omega arith))
 
-    pub dealt-more : (y : ℕ) → Ready p → 0 < j → y ≡ getD cs (from + (j - 1)) 0 → Valued p (coinsFrom t from cs) x ((y + x * acc) % p) (j - 1)
-    dealt-more y r l e =
-        let q : getD (coinsFrom t from cs) (j - 1) 0 ≡ y = coin-at t from cs (j - 1) (omega (arith, dealt-within)) ∙ sym e in
-        rw q at (value-more p (coinsFrom t from cs) x acc j v l (r .prime .above))
+    module _ (sum j : ℕ) (v : Summed ws (s ∷ coinsFrom t from cs) sum (j + 1)) where
+      pub dealt-place : j < t → j + 1 < length ws
+      dealt-place m = omega arith
 
-    pub dealt-done : (s : ℕ) → Ready p → j ≤ 0 → Is p (eval p (s ∷ coinsFrom t from cs) x) ((s + x * acc) % p)
-    unfolding eval
-    dealt-done s r l =
-        record {
-          eq = step-value p s x acc ∙ ap (λ (n : ℕ). add p s (mul p x n)) (value-whole p (coinsFrom t from cs) x acc j v l .eq);
-          lt = mod-lt (s + x * acc) (omega (arith, r .prime .above));
-        }
+      module _ (y : ℕ) (e : y ≡ getD cs (from + j) 0) where
+        pub dealt-below : Below2 p (getD ws (j + 1) 0) y
+        dealt-below = record { above = r .prime .above; small = r .small; left = entry-below p ws (j + 1) r bw; right = rw e (entry-below p cs (from + j) r b) }
 
-pub ruleset dealing = (needs, dealt-none, dealt-place, dealt-product, dealt-fits, dealt-last, dealt-more, dealt-done)
+        module _ (z : ℕ) (f : z ≡ getD ws (j + 1) 0 * y) (m : j < t) where
+          same-term : z ≡ getD ws (j + 1) 0 * getD (s ∷ coinsFrom t from cs) (j + 1) 0
+          same-term = rw (f, e, ← next-coefficient j m)
+
+          pub dealt-fits : t ≤ 7 → sum + z < 2 ^ 64
+          dealt-fits few = next-fits ws (s ∷ coinsFrom t from cs) p r bw (coefficients-below r b l) sum (j + 1) v z same-term (omega arith)
+
+          pub dealt-more : Summed ws (s ∷ coinsFrom t from cs) (sum + z) (j + 1 + 1)
+          dealt-more = sum-next ws (s ∷ coinsFrom t from cs) p r bw (coefficients-below r b l) sum (j + 1) v z same-term (omega (arith, coefficients-long)) (omega arith)
+
+      pub dealt-reducible : (m : ℕ) → m ≡ reciprocal p → t ≤ 7 → Reducible p m sum
+      dealt-reducible m e few = sum-reducible ws (s ∷ coinsFrom t from cs) p r bw (coefficients-below r b l) sum (j + 1) v m e (omega arith)
+
+      pub dealt-done : (y : ℕ) → t ≤ j → Is p (sum % p) y → Is p (dot p ws (s ∷ coinsFrom t from cs)) y
+      dealt-done y m e = sum-reduced ws (s ∷ coinsFrom t from cs) p r bw (coefficients-below r b l) sum (j + 1) v y (omega arith) e
+
+pub ruleset dealing = (needs, dealt-start, dealt-first-below, dealt-first, dealt-place, dealt-below, dealt-fits, dealt-more, dealt-reducible, dealt-done)
 
 -- ---- a party's product
 pub share-under : (h : Header) (table : List ℕ) (i w x : ℕ) → Running h table → x ≡ shareIn (h .n) table i w → x < h .field .p
@@ -425,10 +478,20 @@ share-under h table i w x r e = omega (arith, entry-below (h .field .p) table (h
 pub running-field : (h : Header) (table : List ℕ) → Running h table → 1 < h .field .p
 running-field h table r = r .ready .prime .above
 
-pub product-of : (p a b x y r : ℕ) → x ≡ a → y ≡ b → Is p (mul p x y) r → Is p (mul p a b) r
-product-of p a b x y r e f is = rw (e, f) at is
+module _ (p x y z : ℕ) (e : z ≡ x * y) where
+  pub product-reducible : (m : ℕ) → Ready p → m ≡ reciprocal p → x < p → y < p → Reducible p m z
+  product-reducible m r by l k = record {
+    above = r .prime .above;
+    small = r .small;
+    by = by;
+    sum = omega (arith, mul-le-mul {n₁ = x} {m₁ = y} {n₂ = p} {m₂ = p} (omega arith) (omega arith));
+  }
 
-pub ruleset multiplying = (needs, share-under, running-field, product-of)
+  pub product-of : (a b r : ℕ) → x ≡ a → y ≡ b → Is p (z % p) r → Is p (mul p a b) r
+  unfolding mul
+  product-of a b r f g is = rw (e, f, g) at is
+
+pub ruleset multiplying = (needs, share-under, running-field, product-reducible, product-of)
 
 -- ---- where the coins of gate g begin
 module _ (plan : Plan) where
@@ -600,112 +663,150 @@ pub ruleset owning = (needs, coins-none, coins-drawn, coins-end)
 
 -- ---- a piece
 pub piece-put :
-    (p q x v at next : ℕ) (cs old new : List ℕ) (s : ℕ) → Is p q s → Is p (eval p (s ∷ cs) x) v → Wrote 1 (v ∷ []) at old new next
-    → Wrote 1 (eval p (q ∷ cs) x ∷ []) at old new next
-piece-put p q x v at next cs old new s is iv w = rw (← is .eq, ← iv .eq) w
+    (p q v at next : ℕ) (ws cs old new : List ℕ) (s : ℕ) → Is p q s → Is p (dot p ws (s ∷ cs)) v → Wrote 1 (v ∷ []) at old new next
+    → Wrote 1 (dot p ws (q ∷ cs) ∷ []) at old new next
+piece-put p q v at next ws cs old new s is iv w = rw (← is .eq, ← iv .eq) w
 
 pub ruleset piecing = (needs, piece-put)
 
 -- ---- the pieces of a multiply's dealings; the next dealer's coins begin at `place`
-pub record Piecing (h : Header) (table : List ℕ) (a b : ℕ) (cs : List ℕ) (from x at : ℕ) (old new : List ℕ) (next place d : ℕ) : Type 0 where
-  pub tabbed : Tabbing (pieceIn h table a b cs from x) (h .t + h .t + 1) at old new next d
+pub record Piecing (h : Header) (table : List ℕ) (a b : ℕ) (cs : List ℕ) (from : ℕ) (ws : List ℕ) (at : ℕ) (old new : List ℕ) (next place d : ℕ) : Type 0 where
+  pub tabbed : Tabbing (pieceIn h table a b cs from ws) (h .t + h .t + 1) at old new next d
   pub here : place ≡ from + h .t * d
-  pub near : place ≤ from + 7 * d
 
-pub pieces-none : (h : Header) (table : List ℕ) (a b : ℕ) (cs : List ℕ) (from x at : ℕ) (old : List ℕ) → Piecing h table a b cs from x at old old at from 0
-pieces-none h table a b cs from x at old = record { tabbed = tab-none _ _ at old; here = omega (arith, mul-zero (h .t)); near = omega arith }
+pub pieces-none : (h : Header) (table : List ℕ) (a b : ℕ) (cs : List ℕ) (from : ℕ) (ws : List ℕ) (at : ℕ) (old : List ℕ) → Piecing h table a b cs from ws at old old at from 0
+pieces-none h table a b cs from ws at old = record { tabbed = tab-none _ _ at old; here = omega (arith, mul-zero (h .t)) }
 
 module _
-    (h : Header) (table : List ℕ) (a b : ℕ) (cs : List ℕ) (from x at : ℕ) (old new : List ℕ) (next place d : ℕ) (s : Piecing h table a b cs from x at old new next place d)
+    (h : Header) (table : List ℕ) (a b : ℕ) (cs : List ℕ) (from : ℕ) (ws : List ℕ) (at : ℕ) (old new : List ℕ) (next place d : ℕ) (s : Piecing h table a b cs from ws at old new next place d)
     (r : Running h table) where
   pub pieces-next :
       (new′ : List ℕ) (next′ : ℕ) → d < h .t + h .t + 1
-      → Wrote 1 (eval (h .field .p) (mul (h .field .p) (shareIn (h .n) table (d + 1) a) (shareIn (h .n) table (d + 1) b) ∷ coinsFrom (h .t) place cs) x ∷ []) next new new′ next′
-      → length new′ ≡ length new → Piecing h table a b cs from x at old new′ next′ (place + h .t) (d + 1)
+      → Wrote 1 (dot (h .field .p) ws (mul (h .field .p) (shareIn (h .n) table (d + 1) a) (shareIn (h .n) table (d + 1) b) ∷ coinsFrom (h .t) place cs) ∷ []) next new new′ next′
+      → length new′ ≡ length new → Piecing h table a b cs from ws at old new′ next′ (place + h .t) (d + 1)
   unfolding pieceIn
   pieces-next new′ next′ l w n =
       record {
-        tabbed = tab-put (pieceIn h table a b cs from x) (h .t + h .t + 1) at old new next d (s .tabbed) _ new′ next′ l (rw (s .here)) w n;
+        tabbed = tab-put (pieceIn h table a b cs from ws) (h .t + h .t + 1) at old new next d (s .tabbed) _ new′ next′ l (rw (s .here)) w n;
         here = rw (add-one) (omega (arith, s .here, mul-suc (h .t) d));
-        near = omega (arith, s .near, r .threshold, r .few);
       }
 
-  pub pieces-end : h .t + h .t + 1 ≤ d → Wrote 15 (tab (pieceIn h table a b cs from x) (h .t + h .t + 1)) at old new next
-  pieces-end l = tab-done (pieceIn h table a b cs from x) (h .t + h .t + 1) at old new next d (s .tabbed) 15 l (omega (arith, r .threshold, r .few))
+  pub pieces-end : h .t + h .t + 1 ≤ d → Wrote 15 (tab (pieceIn h table a b cs from ws) (h .t + h .t + 1)) at old new next
+  pieces-end l = tab-done (pieceIn h table a b cs from ws) (h .t + h .t + 1) at old new next d (s .tabbed) 15 l (omega (arith, r .threshold, r .few))
 
-  pub pieces-within : d ≤ h .t + h .t + 1
-  pieces-within = s .tabbed .within
+  module _ (coins : List ℕ) (room : from + h .t * (h .t + h .t + 1) ≤ length coins / 2) (l : d < h .t + h .t + 1) where
+    pub piece-room : place + h .t ≤ length coins / 2
+    piece-room = omega (arith, s .here, row-room (h .t) d (h .t + h .t + 1) l)
 
-pub ruleset pieces = (needs, pieces-none, pieces-next, pieces-end)
+    pub piece-place-fits : length coins * 1 < 2 ^ 63 → Fits w64 (place + h .t)
+    piece-place-fits f = record { fits = omega (arith, piece-room) }
+
+pub ruleset pieces = (needs, running-field, pieces-none, pieces-next, pieces-end, piece-room, piece-place-fits)
 
 -- ---- the pieces of a gate
-module _ (h : Header) (table cs : List ℕ) (from x : ℕ) (gate : Gate) (at : ℕ) (old : List ℕ) where
-  pub no-input-pieces : (s : ℕ) → gate ≡ Input s → Wrote 15 (piecesIn h table cs from x gate) at old old at
+module _ (h : Header) (table cs : List ℕ) (from : ℕ) (ws : List ℕ) (gate : Gate) (at : ℕ) (old : List ℕ) where
+  pub no-input-pieces : (s : ℕ) → gate ≡ Input s → Wrote 15 (piecesIn h table cs from ws gate) at old old at
   unfolding piecesIn
   no-input-pieces s e = rw e (wrote-none 15 at old)
 
-  pub no-add-pieces : (a b : ℕ) → gate ≡ Add a b → Wrote 15 (piecesIn h table cs from x gate) at old old at
+  pub no-add-pieces : (a b : ℕ) → gate ≡ Add a b → Wrote 15 (piecesIn h table cs from ws gate) at old old at
   unfolding piecesIn
   no-add-pieces a b e = rw e (wrote-none 15 at old)
 
-  pub no-scale-pieces : (a c : ℕ) → gate ≡ Scale a c → Wrote 15 (piecesIn h table cs from x gate) at old old at
+  pub no-scale-pieces : (a c : ℕ) → gate ≡ Scale a c → Wrote 15 (piecesIn h table cs from ws gate) at old old at
   unfolding piecesIn
   no-scale-pieces a c e = rw e (wrote-none 15 at old)
 
-  pub no-offset-pieces : (a c : ℕ) → gate ≡ Offset a c → Wrote 15 (piecesIn h table cs from x gate) at old old at
+  pub no-offset-pieces : (a c : ℕ) → gate ≡ Offset a c → Wrote 15 (piecesIn h table cs from ws gate) at old old at
   unfolding piecesIn
   no-offset-pieces a c e = rw e (wrote-none 15 at old)
 
   pub multiply-pieces :
-      (a b : ℕ) (new : List ℕ) (next : ℕ) → gate ≡ Multiply a b → Wrote 15 (tab (pieceIn h table a b cs from x) (h .t + h .t + 1)) at old new next
-      → Wrote 15 (piecesIn h table cs from x gate) at old new next
+      (a b : ℕ) (new : List ℕ) (next : ℕ) → gate ≡ Multiply a b → Wrote 15 (tab (pieceIn h table a b cs from ws) (h .t + h .t + 1)) at old new next
+      → Wrote 15 (piecesIn h table cs from ws gate) at old new next
   unfolding piecesIn
   multiply-pieces a b new next e w = rw e w
 
-pub ruleset gate-pieces = (needs, no-input-pieces, no-add-pieces, no-scale-pieces, no-offset-pieces, multiply-pieces)
+pub multiply-room : (t from : ℕ) (coins : List ℕ) (gate : Gate) (a b : ℕ) → gate ≡ Multiply a b → from + coinsIn t gate ≤ length coins / 2 → from + t * (t + t + 1) ≤ length coins / 2
+unfolding coinsIn
+multiply-room t from coins gate a b e l = rw e at l
+
+pub ruleset gate-pieces = (needs, no-input-pieces, no-add-pieces, no-scale-pieces, no-offset-pieces, multiply-pieces, multiply-room)
 
 -- ---- the pieces of all multiplies
-unfoldable pub piecesOf : List ℕ → Header → List ℕ → List ℕ → ℕ → ℕ → List ℕ
-piecesOf bs h table cs x g = piecesIn h table cs (coinsBelow (planOf bs) g) x (getD (planOf bs .gates) g (Input 0))
+unfoldable pub piecesOf : List ℕ → Header → List ℕ → List ℕ → List ℕ → ℕ → List ℕ
+piecesOf bs h table cs ws g = piecesIn h table cs (coinsBelow (planOf bs) g) ws (getD (planOf bs .gates) g (Input 0))
 
 -- of a gate that is none there are none
-middle-step : (f : ℕ → List ℕ) (h : Header) (table cs : List ℕ) (from x : ℕ) (gate : Gate) (g : ℕ) (ws : List ℕ) → f g ≡ piecesIn h table cs from x gate
-    → flatMap f (cond (isMultiply gate) (g ∷ ws) ws) ≡ piecesIn h table cs from x gate ++ flatMap f ws
+middle-step :
+    (f : ℕ → List ℕ) (h : Header) (table cs : List ℕ) (from : ℕ) (ws : List ℕ) (gate : Gate) (g : ℕ) (gs : List ℕ) → f g ≡ piecesIn h table cs from ws gate
+    → flatMap f (cond (isMultiply gate) (g ∷ gs) gs) ≡ piecesIn h table cs from ws gate ++ flatMap f gs
 unfolding isMultiply piecesIn flatMap
-middle-step f h table cs from x (Input s) g ws e = refl
-middle-step f h table cs from x (Add a b) g ws e = refl
-middle-step f h table cs from x (Scale a c) g ws e = refl
-middle-step f h table cs from x (Offset a c) g ws e = refl
-middle-step f h table cs from x (Multiply a b) g ws e = ap (λ (l : List ℕ). l ++ flatMap f ws) e
+middle-step f h table cs from ws (Input s) g gs e = refl
+middle-step f h table cs from ws (Add a b) g gs e = refl
+middle-step f h table cs from ws (Scale a c) g gs e = refl
+middle-step f h table cs from ws (Offset a c) g gs e = refl
+middle-step f h table cs from ws (Multiply a b) g gs e = ap (λ (l : List ℕ). l ++ flatMap f gs) e
 
-pub record Middle (bs : List ℕ) (h : Header) (table cs : List ℕ) (x at : ℕ) (old new : List ℕ) (next from g : ℕ) : Type 0 where
-  pub left : Left (middleIn (planOf bs) h table cs x) at old new next (flatMap (piecesOf bs h table cs x) (wiresFrom isMultiply g (drop g (planOf bs .gates)))) (15 * g)
+pub record Middle (bs : List ℕ) (h : Header) (table cs ws : List ℕ) (at : ℕ) (old new : List ℕ) (next from g : ℕ) : Type 0 where
+  pub left : Left (middleIn (planOf bs) h table cs ws) at old new next (flatMap (piecesOf bs h table cs ws) (wiresFrom isMultiply g (drop g (planOf bs .gates)))) (15 * g)
   pub drawn : Drawn bs from g
 
-pub middle-none : (bs : List ℕ) (h : Header) (table cs : List ℕ) (x at : ℕ) (old : List ℕ) → Middle bs h table cs x at old old at 0 0
+pub middle-none : (bs : List ℕ) (h : Header) (table cs ws : List ℕ) (at : ℕ) (old : List ℕ) → Middle bs h table cs ws at old old at 0 0
 unfolding middleIn piecesOf wiresWhere
-middle-none bs h table cs x at old = record { left = left-none _ at old _ refl; drawn = draw-none bs }
+middle-none bs h table cs ws at old = record { left = left-none _ at old _ refl; drawn = draw-none bs }
 
 module _
-    (bs : List ℕ) (h : Header) (table cs : List ℕ) (x at : ℕ) (old new : List ℕ) (next from g : ℕ) (s : Middle bs h table cs x at old new next from g) (pl : Planned bs h) where
-  middle-here : (gate : Gate) → g < h .gates → gate ≡ gateAt bs g → piecesOf bs h table cs x g ≡ piecesIn h table cs from x gate
+    (bs : List ℕ) (h : Header) (table cs ws : List ℕ) (at : ℕ) (old new : List ℕ) (next from g : ℕ) (s : Middle bs h table cs ws at old new next from g) (pl : Planned bs h) where
+  middle-here : (gate : Gate) → g < h .gates → gate ≡ gateAt bs g → piecesOf bs h table cs ws g ≡ piecesIn h table cs from ws gate
   unfolding piecesOf
   middle-here gate l e = rw (plan-gate pl g l, ← e, ← s .drawn .place)
 
   pub middle-next :
       (gate : Gate) (d : ℕ) (new′ : List ℕ) (next′ : ℕ) → g < h .gates → gate ≡ gateAt bs g → d ≡ coinsIn (h .t) gate → d ≤ 105
-      → Wrote 15 (piecesIn h table cs from x gate) next new new′ next′ → length new′ ≡ length new → Middle bs h table cs x at old new′ next′ (from + d) (g + 1)
+      → Wrote 15 (piecesIn h table cs from ws gate) next new new′ next′ → length new′ ≡ length new → Middle bs h table cs ws at old new′ next′ (from + d) (g + 1)
   unfolding wiresFrom
   middle-next gate d new′ next′ l e ed m w n =
       record {
         left =
-            left-then _ at old new next _ (15 * g) (s .left) 15 (piecesIn h table cs from x gate) _ new′ next′ (15 * (g + 1))
-            (rw (gates-from pl g gate l e, ← add-one g) (middle-step (piecesOf bs h table cs x) h table cs from x gate g (wiresFrom isMultiply (g + 1) (drop (g + 1) (planOf bs .gates))) (middle-here gate l e))) w n (omega arith);
+            left-then _ at old new next _ (15 * g) (s .left) 15 (piecesIn h table cs from ws gate) _ new′ next′ (15 * (g + 1))
+            (rw (gates-from pl g gate l e, ← add-one g) (middle-step (piecesOf bs h table cs ws) h table cs from ws gate g (wiresFrom isMultiply (g + 1) (drop (g + 1) (planOf bs .gates))) (middle-here gate l e))) w n (omega arith);
         drawn = draw-next bs h from g (s .drawn) pl gate d l e ed m;
       }
 
-  pub middle-end : h .gates ≤ g → Wrote 15360 (middleIn (planOf bs) h table cs x) at old new next
+  pub middle-end : h .gates ≤ g → Wrote 15360 (middleIn (planOf bs) h table cs ws) at old new next
   unfolding wiresFrom flatMap
   middle-end l = left-end _ at old new next _ (15 * g) (s .left) 15360 (rw (gates-end pl g l)) (omega (arith, s .drawn .within))
 
-pub ruleset middle = (needs, middle-none, middle-next, middle-end)
+-- the coins of gate g are there
+in-few : (t : ℕ) (x : Gate) → t ≤ 7 → coinsIn t x ≤ 105
+unfolding coinsIn
+in-few t (Input s) l = omega arith
+in-few t (Add a b) l = omega arith
+in-few t (Scale a c) l = omega arith
+in-few t (Offset a c) l = omega arith
+in-few t (Multiply a b) l = coins-few t l
+
+pub middle-room :
+    (bs : List ℕ) (h : Header) (table coins ws : List ℕ) (at : ℕ) (old new : List ℕ) (next from g : ℕ) (gate : Gate) → Middle bs h table (numbers coins) ws at old new next from g → Planned bs h
+    → g < h .gates → gate ≡ gateAt bs g → length (numbers coins) ≡ coinCount (planOf bs) → from + coinsIn (h .t) gate ≤ length coins / 2
+middle-room bs h table coins ws at old new next from g gate s pl l e full =
+    let few : coinsIn (h .t) gate ≤ 105 = in-few (h .t) gate (omega (arith, pl .majority, pl .n-high)) in
+    omega (arith, numbers-length coins, draw-room bs h from g (s .drawn) pl gate (coinsIn (h .t) gate) l e refl few, drawn-here bs h from g (s .drawn) pl gate (coinsIn (h .t) gate) l e refl few)
+
+pub ruleset middle = (needs, middle-none, middle-next, middle-end, middle-room)
+
+-- ---- the powers of a point
+module _ (t : ℕ) (few : t ≤ 7) (row : List ℕ) (l : length row ≡ 8) where
+  pub row-count : t + 1 ≡ length (take (t + 1) row)
+  row-count = sym (length-take-le (t + 1) row (omega arith))
+
+  pub power-front : (p x : ℕ) (ys : List ℕ) → ys ≡ powers p x (length (take (t + 1) row)) → take (t + 1) (ys ++ drop (t + 1) row) ≡ powers p x (t + 1)
+  power-front p x ys e =
+      let f : ys ≡ powers p x (t + 1) = e ∙ ap (powers p x) (sym row-count) in
+      take-at ys (drop (t + 1) row) (t + 1) (ap length f ∙ length-powers p x (t + 1)) ∙ f
+
+pub power-row : (h : Header) (i : ℕ) (row : List ℕ) → Ready (h .field .p) → take (h .t + 1) row ≡ powers (h .field .p) i (h .t + 1) → PowerRow h (take (h .t + 1) row)
+power-row h i row r e = record { long = ap length e ∙ length-powers (h .field .p) i (h .t + 1); below = rw e (powers-below (h .field .p) i (h .t + 1) r) }
+
+pub ruleset powering = (needs, row-count, power-front)

@@ -8,7 +8,7 @@ use lib.ListN.{length, take, drop, getD}
 use Rattle.numbers.specs.Tables.{tab}
 use Rattle.numbers.specs.Bytes.{allBelow}
 use Rattle.field.specs.Mod.{mul}
-use Rattle.polynomials.specs.Poly.{eval}
+use Rattle.polynomials.specs.Interp.{dot}
 use Rattle.polynomials.specs.Sharing.{opened}
 use Rattle.field.specs.Field.{Ready}
 use Rattle.plan.specs.declared.Gate.{Gate}
@@ -17,6 +17,7 @@ use Rattle.plan.specs.declared.Header.{Header}
 use Rattle.plan.specs.Plans.{Plan, parties, isMultiply, wiresWhere, inputWires, outWires, coinCount, ownInputs, ownCoins}
 use Rattle.sending.specs.Sending.{coinsFrom}
 use Rattle.protocol.specs.Shares.{coinsBelow}
+use Rattle.dealings.specs.Rows.{powers}
 
 -- party i's share of wire w, of n parties
 unfoldable pub shareIn : ℕ → List ℕ → ℕ → ℕ → ℕ
@@ -38,23 +39,24 @@ outsIn plan n table i = flatMap (λ j. map (shareIn n table j) (outWires plan i)
 unfoldable pub openedIn : Header → List ℕ → ℕ → ℕ
 openedIn h table w = opened (h .field .p) (h .t) (tab suc (h .n)) (rowIn (h .n) table w)
 
--- the piece at x of dealer d's product of its shares of two wires, d counted from 0, when the dealings' coins begin at `from`
-unfoldable pub pieceIn : Header → List ℕ → ℕ → ℕ → List ℕ → ℕ → ℕ → ℕ → ℕ
-pieceIn h table a b cs from x d =
-    eval (h .field .p) (mul (h .field .p) (shareIn (h .n) table (d + 1) a) (shareIn (h .n) table (d + 1) b) ∷ coinsFrom (h .t) (from + h .t * d) cs) x
+-- the piece of dealer d's product of its shares of two wires at the point whose powers are ws, d counted from 0, when the
+-- dealings' coins begin at `from`
+unfoldable pub pieceIn : Header → List ℕ → ℕ → ℕ → List ℕ → ℕ → List ℕ → ℕ → ℕ
+pieceIn h table a b cs from ws d =
+    dot (h .field .p) ws (mul (h .field .p) (shareIn (h .n) table (d + 1) a) (shareIn (h .n) table (d + 1) b) ∷ coinsFrom (h .t) (from + h .t * d) cs)
 
--- the pieces at x of a multiply's dealings
-unfoldable pub piecesIn : Header → List ℕ → List ℕ → ℕ → ℕ → Gate → List ℕ
-piecesIn h table cs from x (Input s) = []
-piecesIn h table cs from x (Add a b) = []
-piecesIn h table cs from x (Scale a c) = []
-piecesIn h table cs from x (Offset a c) = []
-piecesIn h table cs from x (Multiply a b) = tab (pieceIn h table a b cs from x) (h .t + h .t + 1)
+-- the pieces of a multiply's dealings
+unfoldable pub piecesIn : Header → List ℕ → List ℕ → ℕ → List ℕ → Gate → List ℕ
+piecesIn h table cs from ws (Input s) = []
+piecesIn h table cs from ws (Add a b) = []
+piecesIn h table cs from ws (Scale a c) = []
+piecesIn h table cs from ws (Offset a c) = []
+piecesIn h table cs from ws (Multiply a b) = tab (pieceIn h table a b cs from ws) (h .t + h .t + 1)
 
--- the mail of all multiplies' rounds at x
-unfoldable pub middleIn : Plan → Header → List ℕ → List ℕ → ℕ → List ℕ
-middleIn plan h table cs x =
-    flatMap (λ g. piecesIn h table cs (coinsBelow plan g) x (getD (plan .gates) g (Input 0))) (wiresWhere isMultiply plan)
+-- the mail of all multiplies' rounds
+unfoldable pub middleIn : Plan → Header → List ℕ → List ℕ → List ℕ → List ℕ
+middleIn plan h table cs ws =
+    flatMap (λ g. piecesIn h table cs (coinsBelow plan g) ws (getD (plan .gates) g (Input 0))) (wiresWhere isMultiply plan)
 
 -- the coins that a gate takes, t for each of its dealers
 unfoldable pub coinsIn : ℕ → Gate → ℕ
@@ -87,6 +89,11 @@ pub record Running (h : Header) (table : List ℕ) : Type 0 where
   pub gates : h .gates ≤ 1024
   pub flat : Flat (h .field .p) (h .n) (h .gates) table
 
+-- t + 1 elements, the powers of a point
+pub record PowerRow (h : Header) (ws : List ℕ) : Type 0 where
+  pub long : length ws ≡ h .t + 1
+  pub below : allBelow (h .field .p) ws ≡ true
+
 -- a run's coins and table
 pub record Ran (plan : Plan) (h : Header) (cs table : List ℕ) : Type 0 where
   pub full : length cs ≡ coinCount plan
@@ -95,7 +102,8 @@ pub record Ran (plan : Plan) (h : Header) (cs table : List ℕ) : Type 0 where
 
 -- all mail to party i, whose point is i
 unfoldable pub mailIn : Plan → Header → List ℕ → List ℕ → ℕ → List ℕ
-mailIn plan h table cs i = firstIn plan (h .n) table i ++ (middleIn plan h table cs i ++ outsIn plan (h .n) table i)
+mailIn plan h table cs i =
+    firstIn plan (h .n) table i ++ (middleIn plan h table cs (powers (h .field .p) i (h .t + 1)) ++ outsIn plan (h .n) table i)
 
 -- party i's view
 unfoldable pub viewIn : Plan → Header → List ℕ → List ℕ → List ℕ → ℕ → List ℕ

@@ -7,24 +7,24 @@ use plan::Output;
 ghost use mathlib.Core.Path.{_≡_};
 ghost use mathlib.Core.Bool.{true, cond};
 ghost use mathlib.Core.List.{[], _∷_, map, flatMap};
-ghost use Prim.Native.Nat.{_+_, _*_, _<_, _≤_};
+ghost use Prim.Native.Nat.{_+_, _*_, _/_, _<_, _≤_};
 ghost use lib.Dec.{eqb};
-ghost use lib.ListN.{getD, length};
+ghost use lib.ListN.{getD, length, take};
 ghost use Rattle.numbers.specs.Tables.{tab};
 ghost use Rattle.numbers.specs.Bytes.{numbers, bytesOf, allBelow};
 ghost use Rattle.field.specs.Mod.{mul};
-ghost use Rattle.field.specs.Field.{Is, Ready};
-ghost use Rattle.polynomials.specs.Poly.{eval};
+ghost use Rattle.field.specs.Field.{Is, reciprocal, Ready};
+ghost use Rattle.polynomials.specs.Interp.{dot};
 ghost use Rattle.plan.specs.Plans.{isInputOf, inputWires, outWires, coinCount, ownInputs, ownCoins};
 ghost use Rattle.sending.specs.Sending.{coinsFrom};
-ghost use Rattle.plan.specs.File.{planOf};
+ghost use Rattle.plan.specs.File.{planOf, gateAt};
 ghost use Rattle.plan.specs.Planned.{Planned};
 ghost use Rattle.coalition.specs.Coalitions.{inSet, members, setFits};
 ghost use Rattle.protocol.specs.Ideal.{inputsTaken};
 ghost use Rattle.protocol.specs.Shares.{shareTable, tableViewOf};
-ghost use Rattle.dealings.specs.Rows.{rowsOf, Given};
+ghost use Rattle.dealings.specs.Rows.{rowsOf, powers, Given};
 ghost use Rattle.views.specs.ViewCounts.{viewCount};
-ghost use Rattle.views.specs.Flat.{shareIn, firstIn, outsIn, openedIn, pieceIn, piecesIn, middleIn, coinsIn, ownAt, mailIn, viewIn, Running, Ran};
+ghost use Rattle.views.specs.Flat.{shareIn, firstIn, outsIn, openedIn, pieceIn, piecesIn, middleIn, coinsIn, ownAt, mailIn, viewIn, Running, PowerRow, Ran};
 ghost use Rattle.views.specs.Writing.{Wrote};
 
 // One number, of which the two low bytes are kept.
@@ -118,25 +118,44 @@ fn share_in(table: &[u64], n: usize, i: usize, w: usize) -> u64
     0
 }
 
+// Whether gate g is an input of party j. The first byte tells apart the gates that are no inputs.
+fn is_input_at(plan: &[u8], h: Header, g: usize, j: usize) -> bool
+    requires { ⌜ Planned (now plan) h ⌝ }
+    requires { ⌜ g < h .gates ⌝ }
+    requires { ⌜ 1 ≤ j ⌝ }
+    ensures { λ r. ⌜ r ≡ isInputOf j (gateAt (now (plan .entry)) g) ⌝ }
+{
+    let at = 18 + 6 * g;
+    if plan[at] != 1 {
+        return false;
+    }
+    let gate = plan::gate_at(plan, g);
+    is_input_of(j, gate)
+}
+
 // Party i's share of wire g, where gate g is an input of party j.
 fn put_share(
+    plan: &[u8],
+    h: Header,
     j: usize,
-    gate: Gate,
     g: usize,
     table: &[u64],
-    n: usize,
     i: usize,
     at: usize,
     out: &mut [u8],
 ) -> usize
-    requires { ⌜ 1 ≤ n ⌝ }
-    requires { ⌜ n ≤ 15 ⌝ }
+    requires { ⌜ Planned (now plan) h ⌝ }
+    requires { ⌜ g < h .gates ⌝ }
+    requires { ⌜ 1 ≤ j ⌝ }
     requires { ⌜ 1 ≤ i ⌝ }
     requires { ⌜ i ≤ 15 ⌝ }
     requires { ⌜ at ≤ 2000000 ⌝ }
-    ensures { λ r. ⌜ Wrote 1 (cond (isInputOf j gate) (shareIn n (now (table .entry)) i g ∷ []) []) at (now (out .entry)) (now (out .exit)) r ⌝ }
+    ensures { λ r. ⌜ Wrote 1 (cond (isInputOf j (gateAt (now (plan .entry)) g)) (shareIn (h .n) (now (table .entry)) i g ∷ []) []) at (now (out .entry)) (now (out .exit)) r ⌝ }
 {
-    put_if(is_input_of(j, gate), share_in(table, n, i, g), at, out)
+    if !is_input_at(plan, h, g, j) {
+        return at;
+    }
+    put(share_in(table, h.n, i, g), at, out)
 }
 
 // Party i's shares of party j's inputs.
@@ -150,17 +169,16 @@ fn write_inputs_from(
     out: &mut [u8],
 ) -> usize
     requires { ⌜ Planned (now plan) h ⌝ }
+    requires { ⌜ 1 ≤ j ⌝ }
     requires { ⌜ 1 ≤ i ⌝ }
     requires { ⌜ i ≤ 15 ⌝ }
     requires { ⌜ at ≤ 1500000 ⌝ }
     ensures { λ r. ⌜ Wrote 1024 (map (shareIn (h .n) (now (table .entry)) i) (inputWires (planOf (now (plan .entry))) j)) at (now (out .entry)) (now (out .exit)) r ⌝ }
 {
-    let n = h.n;
     let mut next = at;
     let mut g: usize = 0;
     while g < h.gates {
-        let gate = plan::gate_at(plan, g);
-        next = put_share(j, gate, g, table, n, i, next, out);
+        next = put_share(plan, h, j, g, table, i, next, out);
         g += 1;
     }
     next
@@ -391,63 +409,72 @@ fn write_coins(plan: &[u8], h: Header, i: usize, coins: &[u8], at: usize, out: &
 
 // ---- pieces
 
-// The share at x of the dealing of s with the t coins from number `from` on.
-fn dealt(f: Field, t: usize, s: u64, coins: &[u8], from: usize, x: u64) -> u64
+// The share of the dealing of s with the t coins from number `from` on, at the point whose powers are lent; m is the reciprocal.
+fn dealt(f: Field, m: u64, t: usize, powers: &[u64], s: u64, coins: &[u8], from: usize) -> u64
     requires { ⌜ Ready (f .p) ⌝ }
-    requires { ⌜ allBelow (f .p) (numbers (now coins)) ≡ true ⌝ }
+    requires { ⌜ m ≡ reciprocal (f .p) ⌝ }
     requires { ⌜ t ≤ 7 ⌝ }
+    requires { ⌜ length (now powers) ≡ t + 1 ⌝ }
+    requires { ⌜ allBelow (f .p) (now powers) ≡ true ⌝ }
     requires { ⌜ s < f .p ⌝ }
-    requires { ⌜ from ≤ 1000000 ⌝ }
-    requires { ⌜ x < f .p ⌝ }
-    ensures { λ r. ⌜ Is (f .p) (eval (f .p) (s ∷ coinsFrom t from (numbers (now (coins .entry)))) x) r ⌝ }
+    requires { ⌜ from + t ≤ length (now coins) / 2 ⌝ }
+    requires { ⌜ allBelow (f .p) (numbers (now coins)) ≡ true ⌝ }
+    ensures { λ r. ⌜ Is (f .p) (dot (f .p) (now (powers .entry)) (s ∷ coinsFrom t from (numbers (now (coins .entry))))) r ⌝ }
 {
-    let mut acc: u64 = 0;
-    let mut j = t;
-    while 0 < j {
-        j -= 1;
-        acc = (numbers::read(coins, from + j) + x * acc) % f.p;
+    let mut sum = f.product(powers[0], s);
+    let mut j: usize = 0;
+    while j < t {
+        let k = j + 1;
+        sum += f.product(powers[k], numbers::number(coins, from + j));
+        j = k;
     }
-    (s + x * acc) % f.p
+    f.reduced(m, sum)
 }
 
-// Party i's product of its shares of two wires.
-fn product(h: Header, table: &[u64], a: usize, b: usize, i: usize) -> u64
+// Party i's product of its shares of two wires; m is the reciprocal.
+fn product(h: Header, m: u64, table: &[u64], a: usize, b: usize, i: usize) -> u64
     requires { ⌜ Running h (now table) ⌝ }
+    requires { ⌜ m ≡ reciprocal (h .field .p) ⌝ }
     requires { ⌜ 1 ≤ i ⌝ }
     requires { ⌜ i ≤ 15 ⌝ }
     ensures { λ r. ⌜ Is (h .field .p) (mul (h .field .p) (shareIn (h .n) (now (table .entry)) i a) (shareIn (h .n) (now (table .entry)) i b)) r ⌝ }
 {
+    let f = h.field;
     let n = h.n;
-    h.field
-        .mul(share_in(table, n, i, a), share_in(table, n, i, b))
+    f.reduced(
+        m,
+        f.product(share_in(table, n, i, a), share_in(table, n, i, b)),
+    )
 }
 
-// The piece at x of dealer d's product, d counted from 0, when its coins begin at number `from`.
+// The piece of dealer d's product, d counted from 0, when its coins begin at number `from`; m is the reciprocal.
 fn put_piece(
     h: Header,
+    m: u64,
     a: usize,
     b: usize,
     d: usize,
     table: &[u64],
     coins: &[u8],
     from: usize,
-    x: u64,
+    powers: &[u64],
     at: usize,
     out: &mut [u8],
 ) -> usize
     requires { ⌜ Running h (now table) ⌝ }
+    requires { ⌜ m ≡ reciprocal (h .field .p) ⌝ }
+    requires { ⌜ PowerRow h (now powers) ⌝ }
     requires { ⌜ allBelow (h .field .p) (numbers (now coins)) ≡ true ⌝ }
     requires { ⌜ d ≤ 14 ⌝ }
-    requires { ⌜ from ≤ 1000000 ⌝ }
-    requires { ⌜ x < h .field .p ⌝ }
+    requires { ⌜ from + h .t ≤ length (now coins) / 2 ⌝ }
     requires { ⌜ at ≤ 2000000 ⌝ }
-    ensures { λ r. ⌜ Wrote 1 (eval (h .field .p) (mul (h .field .p) (shareIn (h .n) (now (table .entry)) (d + 1) a) (shareIn (h .n) (now (table .entry)) (d + 1) b) ∷ coinsFrom (h .t) from (numbers (now (coins .entry)))) x ∷ []) at (now (out .entry)) (now (out .exit)) r ⌝ }
+    ensures { λ r. ⌜ Wrote 1 (dot (h .field .p) (now (powers .entry)) (mul (h .field .p) (shareIn (h .n) (now (table .entry)) (d + 1) a) (shareIn (h .n) (now (table .entry)) (d + 1) b) ∷ coinsFrom (h .t) from (numbers (now (coins .entry)))) ∷ []) at (now (out .entry)) (now (out .exit)) r ⌝ }
 {
-    let s = product(h, table, a, b, d + 1);
-    put(dealt(h.field, h.t, s, coins, from, x), at, out)
+    let s = product(h, m, table, a, b, d + 1);
+    put(dealt(h.field, m, h.t, powers, s, coins, from), at, out)
 }
 
-// The pieces at x of all dealers' products, when the first dealer's coins begin at number `from`.
+// The pieces of all dealers' products, when the first dealer's coins begin at number `from`.
 fn put_pieces(
     h: Header,
     a: usize,
@@ -455,73 +482,73 @@ fn put_pieces(
     table: &[u64],
     coins: &[u8],
     from: usize,
-    x: u64,
+    powers: &[u64],
     at: usize,
     out: &mut [u8],
 ) -> usize
     requires { ⌜ Running h (now table) ⌝ }
+    requires { ⌜ PowerRow h (now powers) ⌝ }
     requires { ⌜ allBelow (h .field .p) (numbers (now coins)) ≡ true ⌝ }
-    requires { ⌜ from ≤ 500000 ⌝ }
-    requires { ⌜ x < h .field .p ⌝ }
+    requires { ⌜ from + h .t * (h .t + h .t + 1) ≤ length (now coins) / 2 ⌝ }
     requires { ⌜ at ≤ 1500000 ⌝ }
-    ensures { λ r. ⌜ Wrote 15 (tab (pieceIn h (now (table .entry)) a b (numbers (now (coins .entry))) from x) (h .t + h .t + 1)) at (now (out .entry)) (now (out .exit)) r ⌝ }
+    ensures { λ r. ⌜ Wrote 15 (tab (pieceIn h (now (table .entry)) a b (numbers (now (coins .entry))) from (now (powers .entry))) (h .t + h .t + 1)) at (now (out .entry)) (now (out .exit)) r ⌝ }
 {
     let t = h.t;
-    let m = t + t + 1;
+    let dealers = t + t + 1;
+    let m = h.field.reciprocal();
     let mut next = at;
     let mut place = from;
     let mut d: usize = 0;
-    while d < m {
-        next = put_piece(h, a, b, d, table, coins, place, x, next, out);
+    while d < dealers {
+        next = put_piece(h, m, a, b, d, table, coins, place, powers, next, out);
         place += t;
         d += 1;
     }
     next
 }
 
-// The pieces at x of a gate's products.
+// The pieces of a gate's products.
 fn put_multiply(
     h: Header,
     gate: Gate,
     table: &[u64],
     coins: &[u8],
     from: usize,
-    x: u64,
+    powers: &[u64],
     at: usize,
     out: &mut [u8],
 ) -> usize
     requires { ⌜ Running h (now table) ⌝ }
+    requires { ⌜ PowerRow h (now powers) ⌝ }
     requires { ⌜ allBelow (h .field .p) (numbers (now coins)) ≡ true ⌝ }
-    requires { ⌜ from ≤ 500000 ⌝ }
-    requires { ⌜ x < h .field .p ⌝ }
+    requires { ⌜ from + coinsIn (h .t) gate ≤ length (now coins) / 2 ⌝ }
     requires { ⌜ at ≤ 1500000 ⌝ }
-    ensures { λ r. ⌜ Wrote 15 (piecesIn h (now (table .entry)) (numbers (now (coins .entry))) from x gate) at (now (out .entry)) (now (out .exit)) r ⌝ }
+    ensures { λ r. ⌜ Wrote 15 (piecesIn h (now (table .entry)) (numbers (now (coins .entry))) from (now (powers .entry)) gate) at (now (out .entry)) (now (out .exit)) r ⌝ }
 {
     match gate {
         Gate::Input(_) => at,
         Gate::Add(_, _) => at,
         Gate::Scale(_, _) => at,
         Gate::Offset(_, _) => at,
-        Gate::Multiply(a, b) => put_pieces(h, a, b, table, coins, from, x, at, out),
+        Gate::Multiply(a, b) => put_pieces(h, a, b, table, coins, from, powers, at, out),
     }
 }
 
-// The mail of the multiplies' rounds at x: the pieces of each.
+// The mail of the multiplies' rounds at the point whose powers are lent: the pieces of each.
 fn write_middle(
     plan: &[u8],
     h: Header,
     table: &[u64],
     coins: &[u8],
-    x: u64,
+    powers: &[u64],
     at: usize,
     out: &mut [u8],
 ) -> usize
     requires { ⌜ Planned (now plan) h ⌝ }
-    requires { ⌜ Running h (now table) ⌝ }
-    requires { ⌜ allBelow (h .field .p) (numbers (now coins)) ≡ true ⌝ }
-    requires { ⌜ x < h .field .p ⌝ }
+    requires { ⌜ Ran (planOf (now plan)) h (numbers (now coins)) (now table) ⌝ }
+    requires { ⌜ PowerRow h (now powers) ⌝ }
     requires { ⌜ at ≤ 1000000 ⌝ }
-    ensures { λ r. ⌜ Wrote 15360 (middleIn (planOf (now (plan .entry))) h (now (table .entry)) (numbers (now (coins .entry))) x) at (now (out .entry)) (now (out .exit)) r ⌝ }
+    ensures { λ r. ⌜ Wrote 15360 (middleIn (planOf (now (plan .entry))) h (now (table .entry)) (numbers (now (coins .entry))) (now (powers .entry))) at (now (out .entry)) (now (out .exit)) r ⌝ }
 {
     let t = h.t;
     let mut next = at;
@@ -529,7 +556,7 @@ fn write_middle(
     let mut g: usize = 0;
     while g < h.gates {
         let gate = plan::gate_at(plan, g);
-        next = put_multiply(h, gate, table, coins, from, x, next, out);
+        next = put_multiply(h, gate, table, coins, from, powers, next, out);
         from += coins_taken(t, gate);
         g += 1;
     }
@@ -537,6 +564,19 @@ fn write_middle(
 }
 
 // ---- views
+
+// The powers of party i's point, t + 1 of them.
+fn power_row(h: Header, i: usize) -> [u64; 8]
+    requires { ⌜ Ready (h .field .p) ⌝ }
+    requires { ⌜ h .t ≤ 7 ⌝ }
+    requires { ⌜ i < h .field .p ⌝ }
+    ensures { λ r. ⌜ take (h .t + 1) r ≡ powers (h .field .p) i (h .t + 1) ⌝ }
+{
+    let mut row = [0u64; 8];
+    let k = h.t + 1;
+    dealings::powers(h.field, i as u64, &mut row[..k]);
+    row
+}
 
 // All mail to party i.
 fn write_mail(
@@ -555,8 +595,10 @@ fn write_mail(
     requires { ⌜ at ≤ 900000 ⌝ }
     ensures { λ r. ⌜ Wrote 31680 (mailIn (planOf (now (plan .entry))) h (now (table .entry)) (numbers (now (coins .entry))) i) at (now (out .entry)) (now (out .exit)) r ⌝ }
 {
+    let row = power_row(h, i);
+    let k = h.t + 1;
     let a = write_first(plan, h, table, i, at, out);
-    let b = write_middle(plan, h, table, coins, i as u64, a, out);
+    let b = write_middle(plan, h, table, coins, &row[..k], a, out);
     write_outs(plan, h, table, i, b, out)
 }
 

@@ -1,36 +1,47 @@
+use mathlib.Core.List.{_∷_}
+use Prim.Native.Nat.{_+_, _-_}
 use Rattle.numbers.specs.Bytes.{numbers}
-use Rattle.sharing.proofs.Coding.{Valued}
+use Rattle.sharing.proofs.Coding.{Summed}
 use Rattle.sending.specs.Sending.{coinsFrom}
 use Rattle.views.proofs.ViewLaws.{dealing}
 use Rattle.views.proofs.dealt.Statement.{statement}
 use Rattle.views.proofs.dealt.Tie as tie
 
 abbrev Inv-loop : tie.InvT-loop
-Inv-loop f t s coins from x acc₀ j₀ acc j = Valued (f .p) (coinsFrom t from (numbers coins)) x acc j
+Inv-loop f m t powers s coins from sum₀ j₀ sum j = Summed powers (s ∷ coinsFrom t from (numbers coins)) sum (j + 1)
 
 abbrev μ-loop : tie.MeasureT-loop
-μ-loop f t s coins from x acc₀ j₀ acc j = j
+μ-loop f m t powers s coins from sum₀ j₀ sum j = t - j
+
+shared-slice-read-product : tie.Need-shared-slice-read-product Inv-loop μ-loop
+shared-slice-read-product c = search dealing
+
+product-requires : tie.Need-product-requires Inv-loop μ-loop
+product-requires c κs = search dealing
 
 loop-holds : tie.Need-loop-holds Inv-loop μ-loop
 loop-holds c = search dealing
 
-sub-j : tie.Need-sub-j Inv-loop μ-loop
-sub-j c = search dealing
+add-k : tie.Need-add-k Inv-loop μ-loop
+add-k c = search dealing
 
-add-read : tie.Need-add-read Inv-loop μ-loop
-add-read c = search dealing
+mul-product : tie.Need-mul-product Inv-loop μ-loop
+mul-product c = search dealing
 
-read-requires : tie.Need-read-requires Inv-loop μ-loop
-read-requires c κs = search dealing
+shared-slice-read-product-2 : tie.Need-shared-slice-read-product-2 Inv-loop μ-loop
+shared-slice-read-product-2 c = search dealing
 
-mul-acc : tie.Need-mul-acc Inv-loop μ-loop
-mul-acc c = search dealing
+add-number : tie.Need-add-number Inv-loop μ-loop
+add-number c = search dealing
 
-add-acc : tie.Need-add-acc Inv-loop μ-loop
-add-acc c = search dealing
+number-requires : tie.Need-number-requires Inv-loop μ-loop
+number-requires c κs = search dealing
 
-rem-acc : tie.Need-rem-acc Inv-loop μ-loop
-rem-acc c = search dealing
+product-requires-2 : tie.Need-product-requires-2 Inv-loop μ-loop
+product-requires-2 c κs = search dealing
+
+add-sum : tie.Need-add-sum Inv-loop μ-loop
+add-sum c = search dealing
 
 loop-less : tie.Need-loop-less Inv-loop μ-loop
 loop-less c = search dealing
@@ -38,14 +49,8 @@ loop-less c = search dealing
 loop-again : tie.Need-loop-again Inv-loop μ-loop
 loop-again c = search dealing
 
-mul-result : tie.Need-mul-result Inv-loop μ-loop
-mul-result c = search dealing
-
-add-result : tie.Need-add-result Inv-loop μ-loop
-add-result c = search dealing
-
-rem-result : tie.Need-rem-result Inv-loop μ-loop
-rem-result c = search dealing
+reduced-requires : tie.Need-reduced-requires Inv-loop μ-loop
+reduced-requires c κs = search dealing
 
 returns : tie.Need-returns Inv-loop μ-loop
 returns c = search dealing
@@ -56,16 +61,17 @@ dealt-spec =
     (tie.spec
     Inv-loop
     μ-loop
+    shared-slice-read-product
+    product-requires
     loop-holds
-    sub-j
-    add-read
-    read-requires
-    mul-acc
-    add-acc
-    rem-acc
+    add-k
+    mul-product
+    shared-slice-read-product-2
+    add-number
+    number-requires
+    product-requires-2
+    add-sum
     loop-less
     loop-again
-    mul-result
-    add-result
-    rem-result
+    reduced-requires
     returns)

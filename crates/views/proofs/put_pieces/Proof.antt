@@ -5,22 +5,25 @@ use Rattle.views.proofs.put_pieces.Statement.{statement}
 use Rattle.views.proofs.put_pieces.Tie as tie
 
 abbrev Inv-loop : tie.InvT-loop
-Inv-loop h a b table coins from x at out₀ t m next₀ place₀ d₀ out next place d = Piecing h table a b (numbers coins) from x at out₀ out next place d
+Inv-loop h a b table coins from powers at out₀ t dealers m next₀ place₀ d₀ out next place d = Piecing h table a b (numbers coins) from powers at out₀ out next place d
 
 abbrev μ-loop : tie.MeasureT-loop
-μ-loop h a b table coins from x at out₀ t m next₀ place₀ d₀ out next place d = m - d
+μ-loop h a b table coins from powers at out₀ t dealers m next₀ place₀ d₀ out next place d = dealers - d
 
-add-m : tie.Need-add-m Inv-loop μ-loop
-add-m c = search pieces
+add-dealers : tie.Need-add-dealers Inv-loop μ-loop
+add-dealers c = search pieces
 
-add-m-2 : tie.Need-add-m-2 Inv-loop μ-loop
-add-m-2 c = search pieces
+add-dealers-2 : tie.Need-add-dealers-2 Inv-loop μ-loop
+add-dealers-2 c = search pieces
+
+reciprocal-requires : tie.Need-reciprocal-requires Inv-loop μ-loop
+reciprocal-requires c κs = search pieces
 
 loop-holds : tie.Need-loop-holds Inv-loop μ-loop
 loop-holds c = search pieces
 
 put-piece-requires : tie.Need-put-piece-requires Inv-loop μ-loop
-put-piece-requires c κs = (search pieces, (search pieces, (search pieces, (search pieces, (search pieces, search pieces)))))
+put-piece-requires c κs = (search pieces, (search pieces, (search pieces, (search pieces, (search pieces, (search pieces, search pieces))))))
 
 add-place : tie.Need-add-place Inv-loop μ-loop
 add-place c = search pieces
@@ -46,8 +49,9 @@ put-pieces-spec =
     (tie.spec
     Inv-loop
     μ-loop
-    add-m
-    add-m-2
+    add-dealers
+    add-dealers-2
+    reciprocal-requires
     loop-holds
     put-piece-requires
     add-place

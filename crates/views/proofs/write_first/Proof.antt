@@ -20,7 +20,7 @@ add-write-inputs-from : tie.Need-add-write-inputs-from Inv-loop μ-loop
 add-write-inputs-from c = search rounding
 
 write-inputs-from-requires : tie.Need-write-inputs-from-requires Inv-loop μ-loop
-write-inputs-from-requires c κs = (search rounding, (search rounding, (search rounding, search rounding)))
+write-inputs-from-requires c κs = (search rounding, (search rounding, (search rounding, (search rounding, search rounding))))
 
 add-j : tie.Need-add-j Inv-loop μ-loop
 add-j c = search rounding

@@ -6,19 +6,16 @@ use Rattle.views.proofs.write_inputs_from.Statement.{statement}
 use Rattle.views.proofs.write_inputs_from.Tie as tie
 
 abbrev Inv-loop : tie.InvT-loop
-Inv-loop plan h j table i at out₀ n next₀ g₀ out next g = Sifting (isInputOf j) (shareIn (h .n) table i) plan at out₀ out next g
+Inv-loop plan h j table i at out₀ next₀ g₀ out next g = Sifting (isInputOf j) (shareIn (h .n) table i) plan at out₀ out next g
 
 abbrev μ-loop : tie.MeasureT-loop
-μ-loop plan h j table i at out₀ n next₀ g₀ out next g = h .gates - g
+μ-loop plan h j table i at out₀ next₀ g₀ out next g = h .gates - g
 
 loop-holds : tie.Need-loop-holds Inv-loop μ-loop
 loop-holds c = search sifting
 
-gate-at-requires : tie.Need-gate-at-requires Inv-loop μ-loop
-gate-at-requires c κs = search sifting
-
 put-share-requires : tie.Need-put-share-requires Inv-loop μ-loop
-put-share-requires c κs = search sifting
+put-share-requires c κs = (search sifting, (search sifting, (search sifting, (search sifting, (search sifting, search sifting)))))
 
 add-g : tie.Need-add-g Inv-loop μ-loop
 add-g c = search sifting
@@ -42,7 +39,6 @@ write-inputs-from-spec =
     Inv-loop
     μ-loop
     loop-holds
-    gate-at-requires
     put-share-requires
     add-g
     loop-less

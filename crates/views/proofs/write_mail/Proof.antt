@@ -2,11 +2,23 @@ use Rattle.views.proofs.JoinLaws.{joining}
 use Rattle.views.proofs.write_mail.Statement.{statement}
 use Rattle.views.proofs.write_mail.Tie as tie
 
+power-row-requires : tie.Need-power-row-requires
+power-row-requires c κs = (search joining, (search joining, search joining))
+
+add-k : tie.Need-add-k
+add-k c = search joining
+
 write-first-requires : tie.Need-write-first-requires
 write-first-requires c κs = (search joining, (search joining, (search joining, search joining)))
 
+array-share-prefix-row : tie.Need-array-share-prefix-row
+array-share-prefix-row c = search joining
+
+slice-aggregate-write-middle : tie.Need-slice-aggregate-write-middle
+slice-aggregate-write-middle c = search joining
+
 write-middle-requires : tie.Need-write-middle-requires
-write-middle-requires c κs = (search joining, (search joining, (search joining, (search joining, search joining))))
+write-middle-requires c κs = (search joining, (search joining, (search joining, search joining)))
 
 write-outs-requires : tie.Need-write-outs-requires
 write-outs-requires c κs = search joining
@@ -20,4 +32,13 @@ returns c = search joining
 pub write-mail-spec : {M : Type 1} → statement M
 write-mail-spec =
     tie.close
-    (tie.spec write-first-requires write-middle-requires write-outs-requires same-length returns)
+    (tie.spec
+    power-row-requires
+    add-k
+    write-first-requires
+    array-share-prefix-row
+    slice-aggregate-write-middle
+    write-middle-requires
+    write-outs-requires
+    same-length
+    returns)

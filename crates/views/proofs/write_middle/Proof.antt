@@ -5,10 +5,10 @@ use Rattle.views.proofs.write_middle.Statement.{statement}
 use Rattle.views.proofs.write_middle.Tie as tie
 
 abbrev Inv-loop : tie.InvT-loop
-Inv-loop plan h table coins x at out₀ t next₀ from₀ g₀ out next from g = Middle plan h table (numbers coins) x at out₀ out next from g
+Inv-loop plan h table coins powers at out₀ t next₀ from₀ g₀ out next from g = Middle plan h table (numbers coins) powers at out₀ out next from g
 
 abbrev μ-loop : tie.MeasureT-loop
-μ-loop plan h table coins x at out₀ t next₀ from₀ g₀ out next from g = h .gates - g
+μ-loop plan h table coins powers at out₀ t next₀ from₀ g₀ out next from g = h .gates - g
 
 loop-holds : tie.Need-loop-holds Inv-loop μ-loop
 loop-holds c = search middle
@@ -32,7 +32,7 @@ loop-less : tie.Need-loop-less Inv-loop μ-loop
 loop-less c = search middle
 
 loop-again : tie.Need-loop-again Inv-loop μ-loop
-loop-again c = search (middle, c .before .before .before .before .before .before .before .before .before .before .before .before .before .pre .0, c .before .before .before .before .before .before .before .before .loop .inv)
+loop-again c = search (middle, c .before .before .before .before .before .before .before .before .before .before .before .before .before .before .pre .0, c .before .before .before .before .before .before .before .before .loop .inv)
 
 same-length : tie.Need-same-length Inv-loop μ-loop
 same-length c = search middle
