@@ -31,7 +31,7 @@ use Rattle.dealings.specs.Rows.{powers, Powered, column, addedAt, added,
 use Rattle.dealings.proofs.RowLaws.{Making, make-none, make-next, made, Changing, unchanged-at, change-none, change-next, changed, row-room, drop-zeros}
 use Rattle.dealings.proofs.PowerLaws.{eval-powers, length-powers, powers-below, power-row}
 
--- ---- a dealing's polynomial: the value, then i coins stand
+-- ---- a dealing's polynomial: the value, then i coins stand, and zeros above them
 pub record Reading (v : ℕ) (cs : List ℕ) (at t : ℕ) (d : List ℕ) (i : ℕ) : Type 0 where
   pub within : i ≤ t
   pub long : length d ≡ 8
@@ -116,10 +116,10 @@ module _ (p k n : ℕ) (f : List ℕ) where
           let q : v ≡ eval p f x = is .eq ∙ ap (λ (ws : List ℕ). dot p ws f) row-is ∙ rw (← e) (eval-powers p f x) in
           record { place = omega (arith, h .place, mul-suc k j, add-one j); fills = make-next _ n d j (h .fills) v m l q }
 
-pub ready-above : (p : ℕ) → Ready p → 1 < p
-ready-above p r = r .prime .above
+pub above-one : (p : ℕ) → Ready p → 1 < p
+above-one p r = r .prime .above
 
-pub ruleset piecing = (needs, ready-above, piece-none, pieces-made, row-within, row-end-fits, row-start-fits, row-below, row-short, row-small, piece-next)
+pub ruleset piecing = (needs, above-one, piece-none, pieces-made, row-within, row-end-fits, row-start-fits, row-below, row-short, row-small, piece-next)
 
 -- ---- a column weighed and summed
 module _ (grid : List (List ℕ)) (j m : ℕ) where
@@ -200,4 +200,4 @@ module _ (p : ℕ) (d₀ d : List ℕ) (j : ℕ) (h : Changing (restAt p d₀) d
   unfolding restAt rests
   all-rests l = changed (restAt p d₀) d₀ d j h l ∙ sym (map-tab (λ x. x % p) d₀)
 
-pub ruleset resting = (needs, ready-above, change-none, sum-reducible, rest-next, all-rests)
+pub ruleset resting = (needs, above-one, change-none, sum-reducible, rest-next, all-rests)

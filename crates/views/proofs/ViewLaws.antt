@@ -1,5 +1,5 @@
 -- What each way through the code of a view says of its definition.
---     putting                  one number
+--     putting, putting-or-not  one number, and one after a test
 --     sorting                  a gate by its kind
 --     Inputting, inputting     a party's own inputs
 --     reading                  a share in the table
