@@ -49,7 +49,7 @@ fn put_sent(text: &mut [u8], at: usize, plan: &[u8], h: Header) -> usize
     requires { ⌜ at ≤ length (now text) ⌝ }
     ensures { λ e. ⌜ Put (line sentWord (sentCount (planOf (now (plan .entry))) ∷ [])) at (now (text .entry)) (now (text .exit)) e ⌝ }
 {
-    let xs = [counts::sent_count(plan, h) as u64];
+    let xs = [sizes::sent_count(plan, h) as u64];
     text::put_line(text, at, b"sent", &xs)
 }
 
@@ -75,7 +75,7 @@ fn put_rounds(
     let mut place = from;
     let mut round: usize = 0;
     while round < rounds {
-        let count = counts::mail_count(plan, h, i, round + 1);
+        let count = sizes::mail_count(plan, h, i, round + 1);
         next = text::put_list_line(text, next, b"round", round as u64, view, place, count);
         place += count;
         round += 1;
@@ -196,7 +196,7 @@ fn results_at(plan: &[u8], h: Header, set: u16, i: usize) -> usize
     requires { ⌜ i ≤ 16 ⌝ }
     ensures { λ r. ⌜ record { eq : r ≡ resultsAt (planOf (now (plan .entry))) set i; le : r ≤ 435200 } ⌝ }
 {
-    let outs = counts::own_out_count(plan, h, i);
+    let outs = sizes::own_out_count(plan, h, i);
     let count = run::checking::view_count_of(plan, h, i);
     part_at(plan, h, set, i) + (count - outs)
 }

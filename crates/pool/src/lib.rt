@@ -21,7 +21,7 @@ ghost use Rattle.pool.specs.Sizes.{mailOfCall, writtenByCall, seatCount,
 pub extern "C" fn pool_plan_check(plan: &[u8]) -> u64
     ensures { λ r. ⌜ r ≡ codeOf (planCheck (now (plan .entry))) ⌝ }
 {
-    codes::code(plan::check(plan))
+    codes::code(reading::check(plan))
 }
 
 // An answer with a value, which stands above the low byte.
@@ -37,7 +37,7 @@ fn mail_of_call(plan: &[u8], h: Header, i: usize, call: usize) -> usize
     ensures { λ r. ⌜ record { eq : r ≡ mailOfCall (planOf (now (plan .entry))) i call; le : r ≤ 15360 } ⌝ }
 {
     if call <= counts::multiply_count(plan, h) + 2 {
-        return counts::mail_count(plan, h, i, call);
+        return sizes::mail_count(plan, h, i, call);
     }
     0
 }
@@ -47,7 +47,7 @@ fn written_by_call(plan: &[u8], h: Header, i: usize, call: usize) -> usize
     ensures { λ r. ⌜ record { eq : r ≡ writtenByCall (planOf (now (plan .entry))) i call; le : r ≤ 15360 } ⌝ }
 {
     if call <= counts::multiply_count(plan, h) + 2 {
-        return counts::written_count(plan, h, i, call);
+        return sizes::written_count(plan, h, i, call);
     }
     0
 }
@@ -79,9 +79,9 @@ fn seat_count(plan: &[u8], h: Header, i: usize, call: usize, what: u16) -> usize
 pub extern "C" fn pool_seat_size(plan: &[u8], seat: u16, call: u16, what: u16) -> u64
     ensures { λ r. ⌜ r ≡ seatSize (now (plan .entry)) seat call what ⌝ }
 {
-    let r = plan::read(plan);
+    let r = reading::read(plan);
     let Reading::Passed(h) = r else {
-        return codes::code(plan::outcome(r));
+        return codes::code(reading::outcome(r));
     };
     let i = seat as usize;
     if i < 1 {
@@ -98,9 +98,9 @@ pub extern "C" fn pool_seat_size(plan: &[u8], seat: u16, call: u16, what: u16) -
 pub extern "C" fn pool_calls(plan: &[u8]) -> u64
     ensures { λ r. ⌜ r ≡ callCount (now (plan .entry)) ⌝ }
 {
-    let r = plan::read(plan);
+    let r = reading::read(plan);
     let Reading::Passed(h) = r else {
-        return codes::code(plan::outcome(r));
+        return codes::code(reading::outcome(r));
     };
     value(counts::multiply_count(plan, h) + 3)
 }
@@ -148,9 +148,9 @@ fn run_count(plan: &[u8], h: Header, set: u16, what: u16) -> usize
 pub extern "C" fn pool_run_size(plan: &[u8], set: u16, what: u16) -> u64
     ensures { λ r. ⌜ r ≡ runSize (now (plan .entry)) set what ⌝ }
 {
-    let r = plan::read(plan);
+    let r = reading::read(plan);
     let Reading::Passed(h) = r else {
-        return codes::code(plan::outcome(r));
+        return codes::code(reading::outcome(r));
     };
     if !coalition::set_ok(h, set) {
         return codes::code(Checked::Refused(Refusal::Coalition));

@@ -30,7 +30,7 @@ use Rattle.coalition.specs.Coalitions.{inSet, membersFrom, members, setFits, se
 use Rattle.plan.proofs.Refusals.{andThen-passed, andThen-refused, andThen-end, firstOf-append, need-true, need-false}
 use Rattle.plan.proofs.Planned.{plan-t, plan-p, plan-n, plan-dealers}
 use Rattle.coalition.proofs.Coalitions.{set-ok}
-use Rattle.party.specs.Parts.{listChecks}
+use Rattle.admission.specs.Parts.{listChecks}
 use Rattle.run.specs.Checks.{givenChecks}
 use Rattle.views.specs.ViewCounts.{viewCountOf, viewCount}
 use Rattle.run.specs.BenchCalls.{runChecks}

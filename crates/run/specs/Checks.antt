@@ -4,7 +4,7 @@ use Prim.Native.Nat.{ℕ}
 use Rattle.plan.specs.declared.Checked.{Checked}
 use Rattle.plan.specs.declared.Refusal.the-variants as refusal
 use Rattle.plan.specs.Plans.{Plan, inputCount, coinCount}
-use Rattle.party.specs.Parts.{listChecks}
+use Rattle.admission.specs.Parts.{listChecks}
 
 unfoldable pub givenChecks : Plan → List ℕ → List ℕ → List Checked
 givenChecks plan inputs coins =

@@ -21,7 +21,7 @@ pub fn view_count_of(plan: &[u8], h: Header, i: usize) -> usize
     let tally = counts::tally_of(plan, h, i);
     let coins = h.t * tally.dealings;
     let pieces = tally.multiplies * (h.t + h.t + 1);
-    let outs = counts::own_out_count(plan, h, i);
+    let outs = sizes::own_out_count(plan, h, i);
     let mail = tally.inputs + pieces + h.n * outs;
     tally.own + (coins + (mail + outs))
 }
@@ -56,12 +56,12 @@ fn check_given(plan: &[u8], h: Header, inputs: &[u8], coins: &[u8]) -> Checked
     requires { ⌜ Planned (now plan) h ⌝ }
     ensures { λ r. ⌜ r ≡ firstOf (givenChecks (planOf (now (plan .entry))) (now (inputs .entry)) (now (coins .entry))) ⌝ }
 {
-    let given = party::checking::check_inputs(inputs, counts::input_count(plan, h), h.field.p);
+    let given = admission::check_inputs(inputs, counts::input_count(plan, h), h.field.p);
     let Checked::Passed = given else {
         return given;
     };
     let count = h.t * counts::dealing_count(plan, h);
-    party::checking::check_coins(coins, count, h.field.p)
+    admission::check_coins(coins, count, h.field.p)
 }
 
 // Refusals 9 to 13 and 19 of a run; `room` is the length of the buffer to be written.

@@ -3,5 +3,4 @@ pub mod DealLaws
 pub mod InputLaws
 pub mod OutLaws
 pub mod ProductLaws
-pub mod ResultLaws
 pub mod WrittenLaws

@@ -18,7 +18,8 @@ use Rattle.plan.specs.Planned.{Planned}
 use Rattle.plan.proofs.Planned.{plan-outs}
 use Rattle.messages.specs.Messages.{sendInputs, sendProduct, sendOuts, resultsOf, send, callWith}
 use Rattle.messages.specs.Calls.{written}
-use Rattle.sending.specs.Sending.{Coined, Lent, openedOuts}
+use Rattle.results.specs.Opened.{openedOuts}
+use Rattle.sending.specs.Sending.{Coined, Lent}
 use Rattle.sending.proofs.OutLaws.{wires-few}
 
 -- ---- how much is written

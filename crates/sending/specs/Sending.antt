@@ -8,12 +8,9 @@ use lib.Seq.{sets}
 use Rattle.numbers.specs.Tables.{tab}
 use Rattle.numbers.specs.Bytes.{numbers, allBelow}
 use Rattle.polynomials.specs.Poly.{eval}
-use Rattle.polynomials.specs.Interp.{dot}
-use Rattle.polynomials.specs.Sharing.{opened}
 use Rattle.field.specs.Field.{Ready}
-use Rattle.plan.specs.declared.Header.{Header}
-use Rattle.plan.specs.Plans.{Plan, partyCount, multiplies, ownCoinCount, writtenCount}
-use Rattle.messages.specs.Messages.{inputPolys, sharesOfOut}
+use Rattle.plan.specs.Plans.{Plan, multiplies, ownCoinCount, writtenCount}
+use Rattle.messages.specs.Messages.{inputPolys}
 
 -- a lent list after the numbers vs are written from place `at` on, and the place after them
 pub record Sent (vs : List ℕ) (at : ℕ) (old new : List ℕ) (next : ℕ) : Type 0 where
@@ -50,22 +47,6 @@ pub record Own (plan : Plan) (i : ℕ) (inputs coins : List ℕ) : Type 0 where
 -- the shares of the wires ws
 unfoldable pub outShares : List ℕ → List ℕ → List ℕ
 outShares shares ws = map (λ w. getD shares w 0) ws
-
--- what the openings of a party's own outs take: the weights of at most n points, and the mail
-pub record Openings (h : Header) (weights mail : List ℕ) : Type 0 where
-  pub ready : Ready (h .field .p)
-  pub few : h .n ≤ 15
-  pub short : length weights ≤ h .n
-  pub weights-below : allBelow (h .field .p) weights ≡ true
-  pub mail-below : allBelow (h .field .p) (numbers mail) ≡ true
-
--- the openings of a party's own outs by the weights ws, when there are `own` of them and n parties
-unfoldable pub openedBy : ℕ → List ℕ → ℕ → ℕ → List ℕ → List ℕ
-openedBy p ws n own mail = tab (λ j. dot p ws (sharesOfOut n own j mail)) own
-
--- the openings of a party's own outs, when there are `own` of them
-unfoldable pub openedOuts : Plan → ℕ → List ℕ → List ℕ
-openedOuts plan own mail = tab (λ j. opened (plan .p) (plan .t) (plan .points) (sharesOfOut (partyCount plan) own j mail)) own
 
 -- what a call sends or opens: all its lists as bytes, of elements, and room for exactly what it writes
 pub record Lent (plan : Plan) (i k : ℕ) (inputs coins shares mail out : List ℕ) : Type 0 where

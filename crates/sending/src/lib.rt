@@ -13,14 +13,13 @@ ghost use Rattle.numbers.specs.Tables.{tab};
 ghost use Rattle.numbers.specs.Bytes.{numbers, allBelow};
 ghost use Rattle.field.specs.Field.{Is, Ready};
 ghost use Rattle.polynomials.specs.Poly.{eval};
-ghost use Rattle.polynomials.specs.Interp.{dot};
 ghost use Rattle.polynomials.specs.Sharing.{deal};
 ghost use Rattle.plan.specs.Plans.{partyCount, dealerCount, multiplies, isInputOf, inputWires, outWires, ownInputCount};
 ghost use Rattle.plan.specs.File.{planOf};
 ghost use Rattle.plan.specs.Planned.{Planned};
 ghost use Rattle.messages.specs.Calls.{written};
-ghost use Rattle.messages.specs.Messages.{callWith, productAt, sendInputs, sendProduct, sendOuts, sharesOfOut};
-ghost use Rattle.sending.specs.Sending.{Sent, Dealing, Coined, Own, Openings, Lent, coinsFrom, inputShares, outShares, openedBy, openedOuts};
+ghost use Rattle.messages.specs.Messages.{callWith, productAt, sendInputs, sendProduct, sendOuts};
+ghost use Rattle.sending.specs.Sending.{Sent, Dealing, Coined, Own, Lent, coinsFrom, inputShares, outShares};
 
 // The coefficients of a dealing: the dealt value, then t coins.
 fn polynomial(t: usize, secret: u64, coins: &[u8], at: usize) -> [u64; 8]
@@ -233,65 +232,6 @@ fn send_outs(plan: &[u8], h: Header, shares: &[u8], out: &mut [u8])
     }
 }
 
-// ---- call M + 2: the results
-
-// The n shares of own out j, when there are `own` of them and each party sent so many.
-pub fn shares_of_out(n: usize, own: usize, j: usize, mail: &[u8]) -> [u64; 15]
-    requires { ⌜ n ≤ 15 ⌝ }
-    requires { ⌜ own ≤ 65536 ⌝ }
-    requires { ⌜ j < own ⌝ }
-    ensures { λ r. ⌜ take n r ≡ sharesOfOut n own j (numbers (now (mail .entry))) ⌝ }
-{
-    let mut shares = [0u64; 15];
-    let mut i: usize = 0;
-    while i < n {
-        shares[i] = numbers::read(mail, own * i + j);
-        i += 1;
-    }
-    shares
-}
-
-// The opening of own out j by the weights at 0.
-fn opening(h: Header, weights: &[u64], own: usize, j: usize, mail: &[u8]) -> u64
-    requires { ⌜ Openings h (now weights) (now mail) ⌝ }
-    requires { ⌜ own ≤ 65536 ⌝ }
-    requires { ⌜ j < own ⌝ }
-    ensures { λ r. ⌜ Is (h .field .p) (dot (h .field .p) (now (weights .entry)) (sharesOfOut (h .n) own j (numbers (now (mail .entry))))) r ⌝ }
-{
-    let shares = shares_of_out(h.n, own, j, mail);
-    let n = h.n;
-    sharing::dot(h.field, weights, &shares[..n])
-}
-
-// Writes the openings of all own outs, as many as there is room for.
-fn open_outs(h: Header, weights: &[u64], mail: &[u8], out: &mut [u8])
-    requires { ⌜ Openings h (now weights) (now mail) ⌝ }
-    requires { ⌜ length (now out) ≤ 131072 ⌝ }
-    ensures { λ _. ⌜ numbers (now (out .exit)) ≡ openedBy (h .field .p) (now (weights .entry)) (h .n) (length (now (out .entry)) / 2) (numbers (now (mail .entry))) ⌝ }
-{
-    let own = out.len() / 2;
-    let mut j: usize = 0;
-    while j < own {
-        let value = opening(h, weights, own, j, mail);
-        numbers::write(out, j, value);
-        j += 1;
-    }
-}
-
-// Writes the party's results: each own out opened from the shares at the first t + 1 points.
-fn results(plan: &[u8], h: Header, mail: &[u8], out: &mut [u8])
-    requires { ⌜ Planned (now plan) h ⌝ }
-    requires { ⌜ allBelow (planOf (now plan) .p) (numbers (now mail)) ≡ true ⌝ }
-    requires { ⌜ length (now out) ≤ 131072 ⌝ }
-    ensures { λ _. ⌜ numbers (now (out .exit)) ≡ openedOuts (planOf (now (plan .entry))) (length (now (out .entry)) / 2) (numbers (now (mail .entry))) ⌝ }
-{
-    let points = messages::points();
-    let mut weights = [0u64; 15];
-    let top = h.t + 1;
-    sharing::weights(h.field, 0, &points[..top], &mut weights[..top]);
-    open_outs(h, &weights[..top], mail, out);
-}
-
 // ---- the call
 
 // Writes what party i's call number k sends, or in the last call its results. The plan has m multiplies.
@@ -324,5 +264,5 @@ pub fn send(
         send_outs(plan, h, shares, out);
         return;
     }
-    results(plan, h, mail, out);
+    results::results(plan, h, mail, out);
 }

@@ -7,7 +7,7 @@ ghost use Rattle.text.specs.Decimals.{decimal, field, line};
 ghost use Rattle.text.specs.Texts.{Put};
 
 // One byte.
-pub fn put(text: &mut [u8], at: usize, b: u8) -> usize
+fn put(text: &mut [u8], at: usize, b: u8) -> usize
     requires { ⌜ at ≤ length (now text) ⌝ }
     ensures { λ r. ⌜ Put (b ∷ []) at (now (text .entry)) (now (text .exit)) r ⌝ }
 {
@@ -19,7 +19,7 @@ pub fn put(text: &mut [u8], at: usize, b: u8) -> usize
 }
 
 // The bytes of a word.
-pub fn put_word(text: &mut [u8], at: usize, word: &[u8]) -> usize
+fn put_word(text: &mut [u8], at: usize, word: &[u8]) -> usize
     requires { ⌜ at ≤ length (now text) ⌝ }
     ensures { λ r. ⌜ Put (now (word .entry)) at (now (text .entry)) (now (text .exit)) r ⌝ }
 {
@@ -45,7 +45,7 @@ fn put_decimal(text: &mut [u8], at: usize, x: u64) -> usize
 }
 
 // A blank, then a number.
-pub fn put_field(text: &mut [u8], at: usize, x: u64) -> usize
+fn put_field(text: &mut [u8], at: usize, x: u64) -> usize
     requires { ⌜ at ≤ length (now text) ⌝ }
     ensures { λ r. ⌜ Put (field x) at (now (text .entry)) (now (text .exit)) r ⌝ }
 {
@@ -54,7 +54,7 @@ pub fn put_field(text: &mut [u8], at: usize, x: u64) -> usize
 }
 
 // So many numbers of a list, from one place on.
-pub fn put_fields(text: &mut [u8], at: usize, list: &[u8], from: usize, count: usize) -> usize
+fn put_fields(text: &mut [u8], at: usize, list: &[u8], from: usize, count: usize) -> usize
     requires { ⌜ at ≤ length (now text) ⌝ }
     requires { ⌜ from ≤ 2000000 ⌝ }
     requires { ⌜ count ≤ 1000000 ⌝ }

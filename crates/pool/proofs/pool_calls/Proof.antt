@@ -5,8 +5,8 @@ use Rattle.pool.proofs.pool_calls.Reads as reads
 use Rattle.pool.proofs.pool_calls.Lts as lts
 use Rattle.codes.proofs.code.Reads as code-reads
 use Rattle.counts.proofs.multiply_count.Reads as multiply-count-reads
-use Rattle.plan.proofs.outcome.Reads as outcome-reads
-use Rattle.plan.proofs.read.Reads as read-reads
+use Rattle.reading.proofs.outcome.Reads as outcome-reads
+use Rattle.reading.proofs.read.Reads as read-reads
 use Rattle.pool.proofs.value.Reads as value-reads
 
 -- src/lib.rt:96:9

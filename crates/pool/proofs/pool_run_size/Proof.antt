@@ -4,8 +4,8 @@ use Rattle.pool.proofs.pool_run_size.Tie as tie
 use Rattle.pool.proofs.pool_run_size.Reads as reads
 use Rattle.pool.proofs.pool_run_size.Lts as lts
 use Rattle.codes.proofs.code.Reads as code-reads
-use Rattle.plan.proofs.outcome.Reads as outcome-reads
-use Rattle.plan.proofs.read.Reads as read-reads
+use Rattle.reading.proofs.outcome.Reads as outcome-reads
+use Rattle.reading.proofs.read.Reads as read-reads
 use Rattle.coalition.proofs.set_ok.Reads as set-ok-reads
 use Rattle.pool.proofs.run_count.Reads as run-count-reads
 use Rattle.pool.proofs.value.Reads as value-reads

@@ -4,8 +4,8 @@ use Rattle.pool.proofs.pool_seat_size.Tie as tie
 use Rattle.pool.proofs.pool_seat_size.Reads as reads
 use Rattle.pool.proofs.pool_seat_size.Lts as lts
 use Rattle.codes.proofs.code.Reads as code-reads
-use Rattle.plan.proofs.outcome.Reads as outcome-reads
-use Rattle.plan.proofs.read.Reads as read-reads
+use Rattle.reading.proofs.outcome.Reads as outcome-reads
+use Rattle.reading.proofs.read.Reads as read-reads
 use Rattle.pool.proofs.seat_count.Reads as seat-count-reads
 use Rattle.pool.proofs.value.Reads as value-reads
 

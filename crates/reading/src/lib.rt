@@ -1,0 +1,245 @@
+// A plan file read and checked: refusals 1 to 8 of document 01.
+use field::Field;
+use field::Made;
+use numbers::Found;
+use plan::Checked;
+use plan::Gate;
+use plan::Header;
+use plan::Output;
+use plan::Reading;
+use plan::Refusal;
+ghost use mathlib.Core.Path.{_≡_};
+ghost use mathlib.Core.Bool.{_&&_};
+ghost use Prim.Native.Nat.{_<_, _+_, _*_, _≤_};
+ghost use lib.Dec.{eqb, ltb, leb};
+ghost use lib.ListN.{length, take, drop};
+ghost use Rattle.numbers.specs.Bytes.{wordAt};
+ghost use Rattle.numbers.specs.Tables.{firstFailing};
+ghost use Rattle.plan.specs.Refusals.{firstOf};
+ghost use Rattle.plan.specs.File.{magic, sameBytes, between, gateOk, outOk, gateCountAt, outCountAt, gateKept, outKept, layoutOk, planChecks, planCheck, headerOf, readingOf, outcomeOf};
+ghost use Rattle.plan.specs.Planned.{ReadAs};
+
+const MAGIC: [u8; 4] = *b"POOL";
+
+fn is_between(low: usize, high: usize, x: usize) -> bool
+    ensures { λ r. ⌜ r ≡ between low high x ⌝ }
+{
+    if x < low {
+        return false;
+    }
+    x <= high
+}
+
+fn both_below(a: usize, g: usize, b: u64, p: u64) -> bool
+    ensures { λ r. ⌜ r ≡ (ltb a g && ltb b p) ⌝ }
+{
+    if g <= a {
+        return false;
+    }
+    b < p
+}
+
+// Whether gate g keeps its kind's rule: it reads only wires below g, and its constant is below p.
+fn gate_ok(n: usize, p: u64, g: usize, gate: Gate) -> bool
+    ensures { λ r. ⌜ r ≡ gateOk n p g gate ⌝ }
+{
+    match gate {
+        Gate::Input(party) => is_between(1, n, party),
+        Gate::Add(a, b) => both_below(a, g, b as u64, g as u64),
+        Gate::Scale(a, c) => both_below(a, g, c, p),
+        Gate::Offset(a, c) => both_below(a, g, c, p),
+        Gate::Multiply(a, b) => both_below(a, g, b as u64, g as u64),
+    }
+}
+
+// Whether an out names a party and a wire of the plan.
+fn out_ok(n: usize, gates: usize, out: Output) -> bool
+    ensures { λ r. ⌜ r ≡ outOk n gates out ⌝ }
+{
+    if !is_between(1, n, out.party) {
+        return false;
+    }
+    out.wire < gates
+}
+
+// The first gate that breaks its kind's rule, in a file that has them all.
+fn first_bad_gate(plan: &[u8]) -> Found
+    requires { ⌜ 18 + 6 * gateCountAt (now plan) ≤ length (now plan) ⌝ }
+    ensures { λ r. ⌜ r ≡ firstFailing (gateKept (now (plan .entry))) (gateCountAt (now (plan .entry))) ⌝ }
+{
+    let n = plan::byte(plan, 5);
+    let p = plan::word(plan, 8) as u64;
+    let gates = plan::word(plan, 12);
+    let mut g: usize = 0;
+    while g < gates {
+        if !gate_ok(n, p, g, plan::gate_in(plan, g)) {
+            return Found::At(g);
+        }
+        g += 1;
+    }
+    Found::Nothing
+}
+
+// The first out that names no party or no wire of the plan.
+fn first_bad_out(plan: &[u8]) -> Found
+    ensures { λ r. ⌜ r ≡ firstFailing (outKept (now (plan .entry))) (outCountAt (now (plan .entry))) ⌝ }
+{
+    let n = plan::byte(plan, 5);
+    let gates = plan::word(plan, 12);
+    let outs = plan::word(plan, 16);
+    let mut o: usize = 0;
+    while o < outs {
+        if !out_ok(n, gates, plan::out_at(plan, o)) {
+            return Found::At(o);
+        }
+        o += 1;
+    }
+    Found::Nothing
+}
+
+// ---- reading a plan
+
+// Whether a plan has room for its contents and begins with the letters POOL.
+fn begins(plan: &[u8]) -> bool
+    ensures { λ r. ⌜ r ≡ (leb 18 (length (now (plan .entry))) && sameBytes (take 4 (now (plan .entry))) magic) ⌝ }
+{
+    if plan.len() < 18 {
+        return false;
+    }
+    if plan[0] != MAGIC[0] {
+        return false;
+    }
+    if plan[1] != MAGIC[1] {
+        return false;
+    }
+    if plan[2] != MAGIC[2] {
+        return false;
+    }
+    plan[3] == MAGIC[3]
+}
+
+// Whether byte 7, the offsets, the counts and the length are those of the layout.
+fn layout_ok(plan: &[u8]) -> bool
+    ensures { λ r. ⌜ r ≡ layoutOk (now (plan .entry)) ⌝ }
+{
+    if plan::byte(plan, 7) != 0 {
+        return false;
+    }
+    if plan::word(plan, 10) != 18 {
+        return false;
+    }
+    let gates = plan::word(plan, 12);
+    if !is_between(1, 1024, gates) {
+        return false;
+    }
+    outs_placed(plan, gates)
+}
+
+// Whether the outs follow the gates and end the file.
+fn outs_placed(plan: &[u8], gates: usize) -> bool
+    requires { ⌜ gates < 65536 ⌝ }
+    ensures { λ r. ⌜ r ≡ (eqb (wordAt (now (plan .entry)) 14) (18 + 6 * gates) && (between 1 64 (outCountAt (now (plan .entry))) && eqb (length (now (plan .entry))) (18 + 6 * gates + 3 * outCountAt (now (plan .entry))))) ⌝ }
+{
+    if plan::word(plan, 14) != 18 + 6 * gates {
+        return false;
+    }
+    let outs = plan::word(plan, 16);
+    if !is_between(1, 64, outs) {
+        return false;
+    }
+    plan.len() == 18 + 6 * gates + 3 * outs
+}
+
+// Refusals 1 to 4.
+fn check_contents(plan: &[u8]) -> Checked
+    ensures { λ r. ⌜ r ≡ firstOf (take 4 (planChecks (now (plan .entry)))) ⌝ }
+{
+    if !begins(plan) {
+        return Checked::Refused(Refusal::Magic);
+    }
+    if plan::byte(plan, 4) != 1 {
+        return Checked::Refused(Refusal::Version);
+    }
+    let n = plan::byte(plan, 5);
+    if !is_between(1, 15, n) {
+        return Checked::Refused(Refusal::Parties);
+    }
+    if n <= 2 * plan::byte(plan, 6) {
+        return Checked::Refused(Refusal::Threshold);
+    }
+    Checked::Passed
+}
+
+// Refusals 6 to 8.
+fn check_body(plan: &[u8]) -> Checked
+    ensures { λ r. ⌜ r ≡ firstOf (drop 5 (planChecks (now (plan .entry)))) ⌝ }
+{
+    if !layout_ok(plan) {
+        return Checked::Refused(Refusal::Layout);
+    }
+    if let Found::At(g) = first_bad_gate(plan) {
+        return Checked::Refused(Refusal::GateRule(g));
+    }
+    if let Found::At(o) = first_bad_out(plan) {
+        return Checked::Refused(Refusal::OutputRule(o));
+    }
+    Checked::Passed
+}
+
+fn reading_of(c: Checked, h: Header) -> Reading
+    ensures { λ r. ⌜ r ≡ readingOf c h ⌝ }
+{
+    match c {
+        Checked::Passed => Reading::Passed(h),
+        Checked::Refused(r) => Reading::Refused(r),
+    }
+}
+
+// Refusals 5 to 8, and the contents.
+fn read_on(plan: &[u8]) -> Reading
+    ensures { λ r. ⌜ r ≡ readingOf (firstOf (drop 4 (planChecks (now (plan .entry))))) (headerOf (now (plan .entry))) ⌝ }
+{
+    let p = plan::word(plan, 8);
+    let Made::Field(field) = Field::new(p as u32) else {
+        return Reading::Refused(Refusal::Modulus);
+    };
+    let n = plan::byte(plan, 5);
+    if p <= n {
+        return Reading::Refused(Refusal::Modulus);
+    }
+    let h = Header {
+        n,
+        t: plan::byte(plan, 6),
+        field,
+        gates: plan::word(plan, 12),
+        outs: plan::word(plan, 16),
+    };
+    reading_of(check_body(plan), h)
+}
+
+// Reads a plan: its contents, or the first refusal of 1 to 8 that falls on it.
+pub fn read(plan: &[u8]) -> Reading
+    ensures { λ r. ⌜ ReadAs (now (plan .entry)) r ⌝ }
+{
+    match check_contents(plan) {
+        Checked::Passed => read_on(plan),
+        Checked::Refused(r) => Reading::Refused(r),
+    }
+}
+
+// What a reading answers as a check: its refusal, handed on.
+pub fn outcome(r: Reading) -> Checked
+    ensures { λ c. ⌜ c ≡ outcomeOf r ⌝ }
+{
+    match r {
+        Reading::Passed(_) => Checked::Passed,
+        Reading::Refused(r) => Checked::Refused(r),
+    }
+}
+
+// Checks a plan: the first refusal of 1 to 8 that falls on it.
+pub fn check(plan: &[u8]) -> Checked
+    ensures { λ r. ⌜ r ≡ planCheck (now (plan .entry)) ⌝ }
+{
+    outcome(read(plan))
+}
