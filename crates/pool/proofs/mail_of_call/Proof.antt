@@ -3,7 +3,7 @@ use Rattle.pool.proofs.mail_of_call.Statement.{statement}
 use Rattle.pool.proofs.mail_of_call.Tie as tie
 use Rattle.pool.proofs.mail_of_call.Reads as reads
 use Rattle.pool.proofs.mail_of_call.Lts as lts
-use Rattle.counts.proofs.mail_count.Reads as mail-count-reads
+use Rattle.sizes.proofs.mail_count.Reads as mail-count-reads
 use Rattle.counts.proofs.multiply_count.Reads as multiply-count-reads
 
 -- src/lib.rt:34:16

@@ -4,7 +4,7 @@ use Rattle.pool.proofs.written_by_call.Tie as tie
 use Rattle.pool.proofs.written_by_call.Reads as reads
 use Rattle.pool.proofs.written_by_call.Lts as lts
 use Rattle.counts.proofs.multiply_count.Reads as multiply-count-reads
-use Rattle.counts.proofs.written_count.Reads as written-count-reads
+use Rattle.sizes.proofs.written_count.Reads as written-count-reads
 
 -- src/lib.rt:44:16
 multiply-count-requires : tie.Need-multiply-count-requires
