@@ -1,20 +1,17 @@
 // The C interface: include/pool.h is its manual.
 use plan::Checked;
-use plan::Header;
 use plan::Reading;
 use plan::Refusal;
-use run::Benched;
 ghost use mathlib.Core.Path.{_≡_};
-ghost use Prim.Native.Nat.{_*_, _<_, _≤_};
+ghost use Prim.Native.Nat.{_*_, _<_};
 ghost use lib.ListN.{length};
 ghost use Rattle.plan.specs.Refusals.{codeOf};
 ghost use Rattle.plan.specs.File.{planCheck, planOf};
-ghost use Rattle.plan.specs.Planned.{Planned};
-ghost use Rattle.plan.specs.Plans.{ownCoinCount, coinCount, sentCount};
+ghost use Rattle.plan.specs.Plans.{sentCount};
 ghost use Rattle.messages.specs.Calls.{callAnswer, stateAfter, outAfter};
 ghost use Rattle.run.specs.BenchCalls.{benchAnswer, benchedOf, viewAfter};
 ghost use Rattle.agreement.specs.MatchCalls.{matchAnswer, matchedAfter};
-ghost use Rattle.pool.specs.Sizes.{mailOfCall, writtenByCall, seatCount, seatSize, callCount, runCount, runSize, answerOf};
+ghost use Rattle.answers.specs.Sizes.{seatSize, callCount, runSize, answerOf};
 
 // Checks a plan: refusals 1 to 8.
 #[no_mangle]
@@ -22,56 +19,6 @@ pub extern "C" fn pool_plan_check(plan: &[u8]) -> u64
     ensures { λ r. ⌜ r ≡ codeOf (planCheck (now (plan .entry))) ⌝ }
 {
     codes::code(reading::check(plan))
-}
-
-// An answer with a value, which stands above the low byte.
-fn value(v: usize) -> u64
-    requires { ⌜ v < 4294967296 ⌝ }
-    ensures { λ r. ⌜ r ≡ 256 * v ⌝ }
-{
-    256 * (v as u64)
-}
-
-fn mail_of_call(plan: &[u8], h: Header, i: usize, call: usize) -> usize
-    requires { ⌜ Planned (now plan) h ⌝ }
-    ensures { λ r. ⌜ record { eq : r ≡ mailOfCall (planOf (now (plan .entry))) i call; le : r ≤ 15360 } ⌝ }
-{
-    if call <= counts::multiply_count(plan, h) + 2 {
-        return sizes::mail_count(plan, h, i, call);
-    }
-    0
-}
-
-fn written_by_call(plan: &[u8], h: Header, i: usize, call: usize) -> usize
-    requires { ⌜ Planned (now plan) h ⌝ }
-    ensures { λ r. ⌜ record { eq : r ≡ writtenByCall (planOf (now (plan .entry))) i call; le : r ≤ 15360 } ⌝ }
-{
-    if call <= counts::multiply_count(plan, h) + 2 {
-        return sizes::written_count(plan, h, i, call);
-    }
-    0
-}
-
-fn own_coin_count(plan: &[u8], h: Header, i: usize) -> usize
-    requires { ⌜ Planned (now plan) h ⌝ }
-    ensures { λ r. ⌜ record { eq : r ≡ ownCoinCount (planOf (now (plan .entry))) i; le : r ≤ 15360 } ⌝ }
-{
-    h.t * counts::own_dealing_count(plan, h, i)
-}
-
-// The numbers of one of a party's lists.
-fn seat_count(plan: &[u8], h: Header, i: usize, call: usize, what: u16) -> usize
-    requires { ⌜ Planned (now plan) h ⌝ }
-    ensures { λ r. ⌜ record { eq : r ≡ seatCount (planOf (now (plan .entry))) i call what; le : r ≤ 15360 } ⌝ }
-{
-    match what {
-        0 => counts::own_input_count(plan, h, i),
-        1 => own_coin_count(plan, h, i),
-        2 => 1 + h.gates,
-        3 => mail_of_call(plan, h, i, call),
-        4 => written_by_call(plan, h, i, call),
-        _ => 0,
-    }
 }
 
 // The bytes of one of a party's lists: 0 its own figures, 1 its own coins, 2 its state, 3 a call's mail, 4 what a call writes.
@@ -90,7 +37,7 @@ pub extern "C" fn pool_seat_size(plan: &[u8], seat: u16, call: u16, what: u16) -
     if h.n < i {
         return codes::code(Checked::Refused(Refusal::Coalition));
     }
-    value(2 * seat_count(plan, h, i, call as usize, what))
+    answers::value(2 * answers::seat_count(plan, h, i, call as usize, what))
 }
 
 // How many calls each party makes.
@@ -102,7 +49,7 @@ pub extern "C" fn pool_calls(plan: &[u8]) -> u64
     let Reading::Passed(h) = r else {
         return codes::code(reading::outcome(r));
     };
-    value(counts::multiply_count(plan, h) + 3)
+    answers::value(counts::multiply_count(plan, h) + 3)
 }
 
 // One call of a party: refusals 1 to 20.
@@ -123,26 +70,6 @@ pub extern "C" fn pool_seat_call(
     codes::code(party::call(plan, seat as usize, figures, coins, state, mail, out))
 }
 
-fn coin_count(plan: &[u8], h: Header) -> usize
-    requires { ⌜ Planned (now plan) h ⌝ }
-    ensures { λ r. ⌜ record { eq : r ≡ coinCount (planOf (now (plan .entry))); le : r ≤ 409600 } ⌝ }
-{
-    h.t * counts::dealing_count(plan, h)
-}
-
-// The numbers of one of a run's lists.
-fn run_count(plan: &[u8], h: Header, set: u16, what: u16) -> usize
-    requires { ⌜ Planned (now plan) h ⌝ }
-    ensures { λ r. ⌜ record { eq : r ≡ runCount (planOf (now (plan .entry))) set what; le : r ≤ 409600 } ⌝ }
-{
-    match what {
-        0 => counts::input_count(plan, h),
-        1 => coin_count(plan, h),
-        2 => run::checking::view_count(plan, h, set),
-        _ => 0,
-    }
-}
-
 // The bytes of one of a run's lists: 0 all figures, 1 all coins, 2 the view of a set.
 #[no_mangle]
 pub extern "C" fn pool_run_size(plan: &[u8], set: u16, what: u16) -> u64
@@ -155,17 +82,7 @@ pub extern "C" fn pool_run_size(plan: &[u8], set: u16, what: u16) -> u64
     if !coalition::set_ok(h, set) {
         return codes::code(Checked::Refused(Refusal::Coalition));
     }
-    value(2 * run_count(plan, h, set, what))
-}
-
-// The bench's answer: the elements sent as its value, or the refusal.
-fn sent(b: Benched) -> u64
-    ensures { λ r. ⌜ r ≡ answerOf b ⌝ }
-{
-    match b {
-        Benched::Sent(n) => value(n % 4294967296),
-        Benched::Refused(r) => codes::code(Checked::Refused(r)),
-    }
+    answers::value(2 * answers::run_count(plan, h, set, what))
 }
 
 // All parties in one machine: refusals 1 to 13 and 19.
@@ -180,7 +97,7 @@ pub extern "C" fn pool_bench(
     ensures answer { λ r. ⌜ r ≡ answerOf (benchedOf (benchAnswer (now (plan .entry)) set (now (figures .entry)) (now (coins .entry)) (length (now (view .entry)))) (sentCount (planOf (now (plan .entry))))) ⌝ }
     ensures view { λ _. ⌜ now (view .exit) ≡ viewAfter (now (plan .entry)) set (now (figures .entry)) (now (coins .entry)) (now (view .entry)) ⌝ }
 {
-    sent(run::bench(plan, set, figures, coins, view))
+    answers::sent(run::bench(plan, set, figures, coins, view))
 }
 
 // The matching of coins: refusals 1 to 13, 19, 21 and 22.

@@ -1,4 +1,4 @@
-use Rattle.pool.proofs.Answers.{answering}
+use Rattle.answers.proofs.Answers.{answering}
 use Rattle.pool.proofs.pool_plan_check.Statement.{statement}
 use Rattle.pool.proofs.pool_plan_check.Tie as tie
 

@@ -1,4 +1,4 @@
-use Rattle.pool.proofs.Answers.{answering}
+use Rattle.answers.proofs.Answers.{answering}
 use Rattle.pool.proofs.pool_run_size.Statement.{statement}
 use Rattle.pool.proofs.pool_run_size.Tie as tie
 use Rattle.pool.proofs.pool_run_size.Reads as reads
@@ -7,8 +7,8 @@ use Rattle.codes.proofs.code.Reads as code-reads
 use Rattle.reading.proofs.outcome.Reads as outcome-reads
 use Rattle.reading.proofs.read.Reads as read-reads
 use Rattle.coalition.proofs.set_ok.Reads as set-ok-reads
-use Rattle.pool.proofs.run_count.Reads as run-count-reads
-use Rattle.pool.proofs.value.Reads as value-reads
+use Rattle.answers.proofs.run_count.Reads as run-count-reads
+use Rattle.answers.proofs.value.Reads as value-reads
 
 -- src/lib.rt:152:9
 read-requires : tie.Need-read-requires

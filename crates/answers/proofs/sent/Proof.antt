@@ -1,10 +1,10 @@
-use Rattle.pool.proofs.Answers.{answering}
-use Rattle.pool.proofs.sent.Statement.{statement}
-use Rattle.pool.proofs.sent.Tie as tie
-use Rattle.pool.proofs.sent.Reads as reads
-use Rattle.pool.proofs.sent.Lts as lts
+use Rattle.answers.proofs.Answers.{answering}
+use Rattle.answers.proofs.sent.Statement.{statement}
+use Rattle.answers.proofs.sent.Tie as tie
+use Rattle.answers.proofs.sent.Reads as reads
+use Rattle.answers.proofs.sent.Lts as lts
 use Rattle.codes.proofs.code.Reads as code-reads
-use Rattle.pool.proofs.value.Reads as value-reads
+use Rattle.answers.proofs.value.Reads as value-reads
 
 -- src/lib.rt:166:23
 enum-known-b : tie.Need-enum-known-b

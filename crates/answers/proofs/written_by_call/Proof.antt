@@ -1,8 +1,8 @@
-use Rattle.pool.proofs.Answers.{counting}
-use Rattle.pool.proofs.written_by_call.Statement.{statement}
-use Rattle.pool.proofs.written_by_call.Tie as tie
-use Rattle.pool.proofs.written_by_call.Reads as reads
-use Rattle.pool.proofs.written_by_call.Lts as lts
+use Rattle.answers.proofs.Answers.{counting}
+use Rattle.answers.proofs.written_by_call.Statement.{statement}
+use Rattle.answers.proofs.written_by_call.Tie as tie
+use Rattle.answers.proofs.written_by_call.Reads as reads
+use Rattle.answers.proofs.written_by_call.Lts as lts
 use Rattle.counts.proofs.multiply_count.Reads as multiply-count-reads
 use Rattle.sizes.proofs.written_count.Reads as written-count-reads
 

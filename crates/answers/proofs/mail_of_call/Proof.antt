@@ -1,8 +1,8 @@
-use Rattle.pool.proofs.Answers.{counting}
-use Rattle.pool.proofs.mail_of_call.Statement.{statement}
-use Rattle.pool.proofs.mail_of_call.Tie as tie
-use Rattle.pool.proofs.mail_of_call.Reads as reads
-use Rattle.pool.proofs.mail_of_call.Lts as lts
+use Rattle.answers.proofs.Answers.{counting}
+use Rattle.answers.proofs.mail_of_call.Statement.{statement}
+use Rattle.answers.proofs.mail_of_call.Tie as tie
+use Rattle.answers.proofs.mail_of_call.Reads as reads
+use Rattle.answers.proofs.mail_of_call.Lts as lts
 use Rattle.sizes.proofs.mail_count.Reads as mail-count-reads
 use Rattle.counts.proofs.multiply_count.Reads as multiply-count-reads
 

@@ -1,10 +1,10 @@
-use Rattle.pool.proofs.Answers.{counting}
-use Rattle.pool.proofs.run_count.Statement.{statement}
-use Rattle.pool.proofs.run_count.Tie as tie
-use Rattle.pool.proofs.run_count.Reads as reads
-use Rattle.pool.proofs.run_count.Lts as lts
+use Rattle.answers.proofs.Answers.{counting}
+use Rattle.answers.proofs.run_count.Statement.{statement}
+use Rattle.answers.proofs.run_count.Tie as tie
+use Rattle.answers.proofs.run_count.Reads as reads
+use Rattle.answers.proofs.run_count.Lts as lts
 use Rattle.counts.proofs.input_count.Reads as input-count-reads
-use Rattle.pool.proofs.coin_count.Reads as coin-count-reads
+use Rattle.answers.proofs.coin_count.Reads as coin-count-reads
 use Rattle.run.proofs.checking.view_count.Reads as view-count-reads
 
 -- src/lib.rt:140:14

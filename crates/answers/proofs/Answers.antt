@@ -31,7 +31,7 @@ use Rattle.coalition.proofs.Coalitions.{set-ok}
 use Rattle.run.specs.declared.Benched.{Benched}
 use Rattle.run.specs.declared.Benched.the-variants as benched
 use Rattle.views.specs.ViewCounts.{viewCount}
-use Rattle.pool.specs.Sizes.{valueOf, mailOfCall, writtenByCall, seatCount, seatSize, callCount, runCount, runSize, answerOf}
+use Rattle.answers.specs.Sizes.{valueOf, mailOfCall, writtenByCall, seatCount, seatSize, callCount, runCount, runSize, answerOf}
 
 pub code-answered : (a c : Checked) (r : ℕ) → c ≡ a → r ≡ codeOf c → r ≡ codeOf a
 code-answered a c r e f = f ∙ ap codeOf e

@@ -1,8 +1,8 @@
-use Rattle.pool.proofs.Answers.{counting}
-use Rattle.pool.proofs.own_coin_count.Statement.{statement}
-use Rattle.pool.proofs.own_coin_count.Tie as tie
-use Rattle.pool.proofs.own_coin_count.Reads as reads
-use Rattle.pool.proofs.own_coin_count.Lts as lts
+use Rattle.answers.proofs.Answers.{counting}
+use Rattle.answers.proofs.own_coin_count.Statement.{statement}
+use Rattle.answers.proofs.own_coin_count.Tie as tie
+use Rattle.answers.proofs.own_coin_count.Reads as reads
+use Rattle.answers.proofs.own_coin_count.Lts as lts
 use Rattle.counts.proofs.own_dealing_count.Reads as own-dealing-count-reads
 
 -- src/lib.rt:54:11
