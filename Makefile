@@ -20,8 +20,10 @@ speed: library
 	@cd tests/reference && POOL_LIB_DIR="$(CURDIR)/target/staticlib" CARGO_TARGET_DIR="$(CURDIR)/target/reference" \
 		cargo run --offline --release --quiet --bin speed
 
-# the static library, target/staticlib/libpool.a
-library:
+# the static library
+library: target/staticlib/libpool.a
+
+target/staticlib/libpool.a: crates.txt $(shell find crates -name '*.rt' -o -name '*.antt')
 	@mkdir -p target
 	@rt staticlib pool >target/library.log 2>&1 || { tail -n 20 target/library.log; exit 1; }
 
