@@ -20,8 +20,6 @@ pub struct Tally {
     pub dealings: usize,
 }
 
-// ---- counts of a plan's gates
-
 fn is_input(gate: Gate) -> bool
     ensures { λ r. ⌜ r ≡ isInput gate ⌝ }
 {

@@ -14,6 +14,8 @@ ghost use Rattle.polynomials.specs.Interp.{dot};
 ghost use Rattle.protocol.specs.Shares.{sharings};
 ghost use Rattle.dealings.specs.Rows.{powers, powerRows, productsOf, mixedAt, column, added, rests, Sized, Prepared, Powered, Coined, Dealt, Elements, Rowed};
 
+// ---- what is worked out once for a plan
+
 // The powers 1, x, x², .. of a point, as many as there is room for.
 pub fn powers(f: Field, x: u64, row: &mut [u64])
     requires { ⌜ Ready (f .p) ⌝ }
@@ -117,6 +119,8 @@ fn dealing(f: Field, n: usize, rows: &[u64], polynomial: [u64; 8]) -> [u64; 15]
     }
     row
 }
+
+// ---- multiply gates
 
 // What the first m parties deal: each one's share of wire a times its share of wire b.
 pub fn products(f: Field, n: usize, m: usize, a: usize, b: usize, table: &[u64]) -> [u64; 15]
@@ -243,6 +247,8 @@ pub fn multiply_row(
     let grid = pieces(f, n, t, rows, products, coins, at);
     reduce(f, n, weights, grid)
 }
+
+// ---- inputs
 
 // An input gate's row: the input is dealt.
 pub fn input_row(

@@ -15,6 +15,8 @@ ghost use Rattle.coalition.specs.Coalitions.{members};
 ghost use Rattle.dealings.specs.Rows.{productsOf, Sized, Rowed, Standing};
 ghost use Rattle.moves.specs.Moves.{moved, changeOf, movedBlocks, dealersIn, dealtIn, Lent, Written, Advanced};
 
+// ---- the members
+
 // The members of a set, ascending, in front of the room; how many they are.
 pub fn members(set: u16, room: &mut [u64]) -> usize
     requires { ⌜ length (now room) ≡ 16 ⌝ }

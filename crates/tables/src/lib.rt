@@ -16,6 +16,8 @@ ghost use Rattle.protocol.specs.Ideal.{inputsTaken};
 ghost use Rattle.protocol.specs.Shares.{coinsTaken, shareTable};
 ghost use Rattle.dealings.specs.Rows.{rowsOf, Prepared, Rowed, Standing, Taking, Worked, Stepped, Given};
 
+// ---- gates that each party works on its own shares
+
 // Each party's share of wire a plus that of wire b.
 fn add_row(f: Field, n: usize, a: usize, b: usize, table: &[u64]) -> [u64; 15]
     requires { ⌜ Ready (f .p) ⌝ }
@@ -70,6 +72,8 @@ fn offset_row(f: Field, n: usize, a: usize, c: u64, table: &[u64]) -> [u64; 15]
     }
     row
 }
+
+// ---- one gate
 
 // The row of gate g's wire, from the rows of the wires below it.
 fn gate_row(

@@ -105,9 +105,6 @@ other-kind bs g j n l =
 pub first-byte-within : (bs : List ℕ) (h : Header) (g : ℕ) → Planned bs h → g < h .gates → 18 + 6 * g < length bs
 first-byte-within bs h g pl l = omega (arith, pl .long)
 
-pub taken-as : (gate x : Gate) (r : ℕ) → gate ≡ x → r ≡ inputsTaken x → r ≡ inputsTaken gate
-taken-as gate x r e f = f ∙ sym (ap inputsTaken e)
-
 pub coins-as : (t : ℕ) (gate x : Gate) (r : ℕ) → gate ≡ x → r ≡ coinsIn t x → r ≡ coinsIn t gate
 coins-as t gate x r e f = f ∙ sym (ap (coinsIn t) e)
 
@@ -117,7 +114,7 @@ coins-few t l = mul-le-mul {n₂ = 7} {m₂ = 15} l (omega arith)
 pub coins-fit : (t : ℕ) → t ≤ 7 → Fits w64 (t * (t + t + 1))
 coins-fit t l = record { fits = omega (arith, coins-few t l) }
 
-pub ruleset sorting = (needs, other-kind, first-byte-within, input-at, input-of-as, taken-as, coins-as, coins-few, coins-fit)
+pub ruleset sorting = (needs, other-kind, first-byte-within, input-at, input-of-as, coins-as, coins-few, coins-fit)
 
 -- ---- the gates of a plan from g on
 module _ {bs : List ℕ} {h : Header} (pl : Planned bs h) where

@@ -20,7 +20,6 @@ ghost use Rattle.sending.specs.Sending.{coinsFrom};
 ghost use Rattle.plan.specs.File.{planOf, gateAt};
 ghost use Rattle.plan.specs.Planned.{Planned};
 ghost use Rattle.coalition.specs.Coalitions.{inSet, members, setFits};
-ghost use Rattle.protocol.specs.Ideal.{inputsTaken};
 ghost use Rattle.protocol.specs.Shares.{shareTable, tableViewOf};
 ghost use Rattle.dealings.specs.Rows.{rowsOf, powers, Given};
 ghost use Rattle.views.specs.ViewCounts.{viewCount};
@@ -47,37 +46,17 @@ fn put_if(wanted: bool, v: u64, at: usize, out: &mut [u8]) -> usize
     put(v, at, out)
 }
 
-fn is_input_of(i: usize, gate: Gate) -> bool
-    ensures { λ r. ⌜ r ≡ isInputOf i gate ⌝ }
-{
-    match gate {
-        Gate::Input(s) => i == s,
-        Gate::Add(_, _) => false,
-        Gate::Scale(_, _) => false,
-        Gate::Offset(_, _) => false,
-        Gate::Multiply(_, _) => false,
-    }
-}
-
-// The inputs that a gate takes from the list of all.
-fn inputs_taken(gate: Gate) -> usize
-    ensures { λ r. ⌜ record { eq : r ≡ inputsTaken gate; most : r ≤ 1 } ⌝ }
-{
-    match gate {
-        Gate::Input(_) => 1,
-        Gate::Add(_, _) => 0,
-        Gate::Scale(_, _) => 0,
-        Gate::Offset(_, _) => 0,
-        Gate::Multiply(_, _) => 0,
-    }
-}
-
 // Input k, where its gate is party i's.
 fn put_input(i: usize, gate: Gate, inputs: &[u8], k: usize, at: usize, out: &mut [u8]) -> usize
     requires { ⌜ at ≤ 2000000 ⌝ }
     ensures { λ r. ⌜ Wrote 1 (cond (isInputOf i gate) (getD (numbers (now (inputs .entry))) k 0 ∷ []) []) at (now (out .entry)) (now (out .exit)) r ⌝ }
 {
-    put_if(is_input_of(i, gate), numbers::read(inputs, k), at, out)
+    put_if(
+        counts::is_input_of(i, gate),
+        numbers::read(inputs, k),
+        at,
+        out,
+    )
 }
 
 // Party i's own inputs.
@@ -92,7 +71,7 @@ fn write_inputs(plan: &[u8], h: Header, i: usize, inputs: &[u8], at: usize, out:
     while g < h.gates {
         let gate = plan::gate_at(plan, g);
         next = put_input(i, gate, inputs, k, next, out);
-        k += inputs_taken(gate);
+        k += ideal::inputs_taken(gate);
         g += 1;
     }
     next
@@ -130,7 +109,7 @@ fn is_input_at(plan: &[u8], h: Header, g: usize, j: usize) -> bool
         return false;
     }
     let gate = plan::gate_at(plan, g);
-    is_input_of(j, gate)
+    counts::is_input_of(j, gate)
 }
 
 // Party i's share of wire g, where gate g is an input of party j.
