@@ -4,7 +4,7 @@ use libc::STDOUT_FILENO;
 
 fn print(input: &mut [u8], text: &mut [u8]) {
     let n = io::read_full(STDIN_FILENO, input);
-    let m = report::report(&input[..n], text);
+    let m = bench_report::report(&input[..n], text);
     io::write_all(STDOUT_FILENO, &text[..m]);
 }
 

@@ -15,9 +15,9 @@ use Rattle.numbers.proofs.Truth.{both-true}
 use Rattle.field.specs.Prime.{isPrime, Prime}
 use Rattle.field.specs.Field.{Ready}
 use Rattle.field.proofs.Primes.{prime-sound}
-use Rattle.polynomials.specs.Interp.{All, Distinct}
-use Rattle.polynomials.proofs.Shares.{points-distinct}
-use Rattle.polynomials.proofs.Alls.{all-tab}
+use Rattle.sharing_laws.specs.Interp.{All, Distinct}
+use Rattle.sharing_laws.proofs.Shares.{points-distinct}
+use Rattle.sharing_laws.proofs.Alls.{all-tab}
 use Rattle.plan.specs.declared.Checked.the-variants.{Passed}
 use Rattle.plan.specs.declared.Gate.{Gate}
 use Rattle.plan.specs.declared.Gate.the-variants.{Input, Scale, Offset}

@@ -8,17 +8,17 @@ ghost use lib.ListN.{length};
 ghost use Rattle.plan.specs.Refusals.{codeOf};
 ghost use Rattle.plan.specs.File.{planCheck, planOf};
 ghost use Rattle.plan.specs.Plans.{sentCount};
-ghost use Rattle.messages.specs.Calls.{callAnswer, stateAfter, outAfter};
-ghost use Rattle.run.specs.BenchCalls.{benchAnswer, benchedOf, viewAfter};
-ghost use Rattle.agreement.specs.MatchCalls.{matchAnswer, matchedAfter};
-ghost use Rattle.answers.specs.Sizes.{seatSize, callCount, runSize, answerOf};
+ghost use Rattle.seat_messages.specs.Calls.{callAnswer, stateAfter, outAfter};
+ghost use Rattle.run_bench.specs.BenchCalls.{benchAnswer, benchedOf, viewAfter};
+ghost use Rattle.match_agreement.specs.MatchCalls.{matchAnswer, matchedAfter};
+ghost use Rattle.pool_answers.specs.Sizes.{seatSize, callCount, runSize, answerOf};
 
 // Checks a plan: refusals 1 to 8.
 #[no_mangle]
 pub extern "C" fn pool_plan_check(plan: &[u8]) -> u64
     ensures { λ r. ⌜ r ≡ codeOf (planCheck (now (plan .entry))) ⌝ }
 {
-    codes::code(reading::check(plan))
+    plan_codes::code(plan_reading::check(plan))
 }
 
 // The bytes of one of a party's lists: 0 its own figures, 1 its own coins, 2 its state, 3 a call's mail, 4 what a call writes.
@@ -26,18 +26,18 @@ pub extern "C" fn pool_plan_check(plan: &[u8]) -> u64
 pub extern "C" fn pool_seat_size(plan: &[u8], seat: u16, call: u16, what: u16) -> u64
     ensures { λ r. ⌜ r ≡ seatSize (now (plan .entry)) seat call what ⌝ }
 {
-    let r = reading::read(plan);
+    let r = plan_reading::read(plan);
     let Reading::Passed(h) = r else {
-        return codes::code(reading::outcome(r));
+        return plan_codes::code(plan_reading::outcome(r));
     };
     let i = seat as usize;
     if i < 1 {
-        return codes::code(Checked::Refused(Refusal::Coalition));
+        return plan_codes::code(Checked::Refused(Refusal::Coalition));
     }
     if h.n < i {
-        return codes::code(Checked::Refused(Refusal::Coalition));
+        return plan_codes::code(Checked::Refused(Refusal::Coalition));
     }
-    answers::value(2 * answers::seat_count(plan, h, i, call as usize, what))
+    pool_answers::value(2 * pool_answers::seat_count(plan, h, i, call as usize, what))
 }
 
 // How many calls each party makes.
@@ -45,11 +45,11 @@ pub extern "C" fn pool_seat_size(plan: &[u8], seat: u16, call: u16, what: u16) -
 pub extern "C" fn pool_calls(plan: &[u8]) -> u64
     ensures { λ r. ⌜ r ≡ callCount (now (plan .entry)) ⌝ }
 {
-    let r = reading::read(plan);
+    let r = plan_reading::read(plan);
     let Reading::Passed(h) = r else {
-        return codes::code(reading::outcome(r));
+        return plan_codes::code(plan_reading::outcome(r));
     };
-    answers::value(counts::multiply_count(plan, h) + 3)
+    pool_answers::value(plan_counts::multiply_count(plan, h) + 3)
 }
 
 // One call of a party: refusals 1 to 20.
@@ -67,7 +67,7 @@ pub extern "C" fn pool_seat_call(
     ensures state { λ _. ⌜ now (state .exit) ≡ stateAfter (now (plan .entry)) seat (now (figures .entry)) (now (coins .entry)) (now (state .entry)) (now (mail .entry)) (length (now (out .entry))) ⌝ }
     ensures out { λ _. ⌜ now (out .exit) ≡ outAfter (now (plan .entry)) seat (now (figures .entry)) (now (coins .entry)) (now (state .entry)) (now (mail .entry)) (now (out .entry)) ⌝ }
 {
-    codes::code(party::call(plan, seat as usize, figures, coins, state, mail, out))
+    plan_codes::code(seat_call::call(plan, seat as usize, figures, coins, state, mail, out))
 }
 
 // The bytes of one of a run's lists: 0 all figures, 1 all coins, 2 the view of a set.
@@ -75,14 +75,14 @@ pub extern "C" fn pool_seat_call(
 pub extern "C" fn pool_run_size(plan: &[u8], set: u16, what: u16) -> u64
     ensures { λ r. ⌜ r ≡ runSize (now (plan .entry)) set what ⌝ }
 {
-    let r = reading::read(plan);
+    let r = plan_reading::read(plan);
     let Reading::Passed(h) = r else {
-        return codes::code(reading::outcome(r));
+        return plan_codes::code(plan_reading::outcome(r));
     };
-    if !coalition::set_ok(h, set) {
-        return codes::code(Checked::Refused(Refusal::Coalition));
+    if !plan_coalition::set_ok(h, set) {
+        return plan_codes::code(Checked::Refused(Refusal::Coalition));
     }
-    answers::value(2 * answers::run_count(plan, h, set, what))
+    pool_answers::value(2 * pool_answers::run_count(plan, h, set, what))
 }
 
 // All parties in one machine: refusals 1 to 13 and 19.
@@ -97,7 +97,7 @@ pub extern "C" fn pool_bench(
     ensures answer { λ r. ⌜ r ≡ answerOf (benchedOf (benchAnswer (now (plan .entry)) set (now (figures .entry)) (now (coins .entry)) (length (now (view .entry)))) (sentCount (planOf (now (plan .entry))))) ⌝ }
     ensures view { λ _. ⌜ now (view .exit) ≡ viewAfter (now (plan .entry)) set (now (figures .entry)) (now (coins .entry)) (now (view .entry)) ⌝ }
 {
-    answers::sent(run::bench(plan, set, figures, coins, view))
+    pool_answers::sent(run_bench::bench(plan, set, figures, coins, view))
 }
 
 // The matching of coins: refusals 1 to 13, 19, 21 and 22.
@@ -113,5 +113,5 @@ pub extern "C" fn pool_match(
     ensures answer { λ r. ⌜ r ≡ codeOf (matchAnswer (now (plan .entry)) set (now (first .entry)) (now (second .entry)) (now (coins .entry)) (length (now (matched .entry)))) ⌝ }
     ensures matched { λ _. ⌜ now (matched .exit) ≡ matchedAfter (now (plan .entry)) set (now (first .entry)) (now (second .entry)) (now (coins .entry)) (now (matched .entry)) ⌝ }
 {
-    codes::code(matching::pair(plan, set, first, second, coins, matched))
+    plan_codes::code(match_call::pair(plan, set, first, second, coins, matched))
 }

@@ -26,10 +26,10 @@ use Rattle.field.specs.Prime.{Prime}
 use Rattle.field.specs.Field.{Below2, Is, reciprocal, Reducible, Ready}
 use Rattle.field.proofs.Solve.{Canon, zero-canon, Same, same, turn, _⨾_, plus, mul-same, add-same, mod-canon, add-canon, canon-same, canon-lt, mod-same}
 use Rattle.field.proofs.Products.{word}
-use Rattle.polynomials.specs.Poly.{eval}
-use Rattle.polynomials.specs.Interp.{dot}
-use Rattle.polynomials.specs.Sharing.{deal}
-use Rattle.polynomials.proofs.Polys.{eval-canon}
+use Rattle.sharing_laws.specs.Poly.{eval}
+use Rattle.sharing_laws.specs.Interp.{dot}
+use Rattle.sharing_laws.specs.Sharing.{deal}
+use Rattle.sharing_laws.proofs.Polys.{eval-canon}
 
 -- ---- lists of elements
 -- every entry of a list of elements is one, and so is the 0 past its end

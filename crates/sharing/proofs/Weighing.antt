@@ -23,7 +23,7 @@ use Rattle.field.specs.Prime.{Prime, inv}
 use Rattle.field.specs.Field.{Below2, Is, Ready}
 use Rattle.field.proofs.Solve.{Canon, below, zero-canon, mul-canon, #, quote, solve, combine}
 use Rattle.field.proofs.Inverse.{inv-small, inv-canon, inv-law, inv-unique, no-zero-divisor, pos, one-canon}
-use Rattle.polynomials.specs.Interp.{factor, apart, weight, weights}
+use Rattle.sharing_laws.specs.Interp.{factor, apart, weight, weights}
 use Rattle.sharing.proofs.Coding.{entry-below, filled-map}
 
 -- ---- the inverse of a product

@@ -127,7 +127,7 @@ fn openings(f: Field, t: usize, points: &[u64], shares: &[u64], secret: u64, c: 
             if t < points.len() {
                 if points.len() <= 15 {
                     if shares.len() == points.len() {
-                        return noted(c, openings::opened(f, t, points, shares) == secret);
+                        return noted(c, sharing_openings::opened(f, t, points, shares) == secret);
                     }
                 }
             }
@@ -145,7 +145,7 @@ fn place(f: Field, t: usize, points: &[u64], shares: &[u64]) -> usize
             if t < points.len() {
                 if points.len() <= 15 {
                     if shares.len() == points.len() {
-                        return match openings::first_off(f, t, points, shares) {
+                        return match sharing_openings::first_off(f, t, points, shares) {
                             Found::At(i) => i,
                             Found::Nothing => 99,
                         };
@@ -264,7 +264,7 @@ fn vanishing_of(f: Field, members: &[u64], points: &[u64], room: &mut [u64], c: 
 {
     if all_below(f.p, members) {
         if members.len() < room.len() {
-            delta::vanishing(f, members, room);
+            sharing_delta::vanishing(f, members, room);
             let m = members.len();
             return zero_past(room, m, vanishes(f.p, room, points, m, c));
         }

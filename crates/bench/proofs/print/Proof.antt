@@ -1,4 +1,4 @@
-use Rattle.report.proofs.Answering.{splitting}
+use Rattle.bench_report.proofs.Answering.{splitting}
 use Rattle.bench.proofs.print.Statement.{statement}
 use Rattle.bench.proofs.print.Tie as tie
 

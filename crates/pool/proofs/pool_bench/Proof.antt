@@ -1,11 +1,11 @@
 use borrow.Author.Needs.{needs}
-use Rattle.answers.proofs.Answers.{answering}
+use Rattle.pool_answers.proofs.Answers.{answering}
 use Rattle.pool.proofs.pool_bench.Statement.{statement}
 use Rattle.pool.proofs.pool_bench.Tie as tie
 use Rattle.pool.proofs.pool_bench.Reads as reads
 use Rattle.pool.proofs.pool_bench.Lts as lts
-use Rattle.answers.proofs.sent.Reads as sent-reads
-use Rattle.run.proofs.bench.Reads as bench-reads
+use Rattle.pool_answers.proofs.sent.Reads as sent-reads
+use Rattle.run_bench.proofs.bench.Reads as bench-reads
 
 -- src/lib.rt:177:10
 bench-requires : tie.Need-bench-requires

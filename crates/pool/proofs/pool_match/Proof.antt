@@ -1,11 +1,11 @@
 use borrow.Author.Needs.{needs}
-use Rattle.answers.proofs.Answers.{answering}
+use Rattle.pool_answers.proofs.Answers.{answering}
 use Rattle.pool.proofs.pool_match.Statement.{statement}
 use Rattle.pool.proofs.pool_match.Tie as tie
 use Rattle.pool.proofs.pool_match.Reads as reads
 use Rattle.pool.proofs.pool_match.Lts as lts
-use Rattle.matching.proofs.pair.Reads as pair-reads
-use Rattle.codes.proofs.code.Reads as code-reads
+use Rattle.match_call.proofs.pair.Reads as pair-reads
+use Rattle.plan_codes.proofs.code.Reads as code-reads
 
 -- src/lib.rt:195:16
 pair-requires : tie.Need-pair-requires

@@ -1,14 +1,14 @@
-use Rattle.answers.proofs.Answers.{answering}
+use Rattle.pool_answers.proofs.Answers.{answering}
 use Rattle.pool.proofs.pool_run_size.Statement.{statement}
 use Rattle.pool.proofs.pool_run_size.Tie as tie
 use Rattle.pool.proofs.pool_run_size.Reads as reads
 use Rattle.pool.proofs.pool_run_size.Lts as lts
-use Rattle.codes.proofs.code.Reads as code-reads
-use Rattle.reading.proofs.outcome.Reads as outcome-reads
-use Rattle.reading.proofs.read.Reads as read-reads
-use Rattle.coalition.proofs.set_ok.Reads as set-ok-reads
-use Rattle.answers.proofs.run_count.Reads as run-count-reads
-use Rattle.answers.proofs.value.Reads as value-reads
+use Rattle.plan_codes.proofs.code.Reads as code-reads
+use Rattle.plan_reading.proofs.outcome.Reads as outcome-reads
+use Rattle.plan_reading.proofs.read.Reads as read-reads
+use Rattle.plan_coalition.proofs.set_ok.Reads as set-ok-reads
+use Rattle.pool_answers.proofs.run_count.Reads as run-count-reads
+use Rattle.pool_answers.proofs.value.Reads as value-reads
 
 -- src/lib.rt:152:9
 read-requires : tie.Need-read-requires

@@ -1,11 +1,11 @@
 use borrow.Author.Needs.{needs}
-use Rattle.answers.proofs.Answers.{answering}
+use Rattle.pool_answers.proofs.Answers.{answering}
 use Rattle.pool.proofs.pool_seat_call.Statement.{statement}
 use Rattle.pool.proofs.pool_seat_call.Tie as tie
 use Rattle.pool.proofs.pool_seat_call.Reads as reads
 use Rattle.pool.proofs.pool_seat_call.Lts as lts
-use Rattle.party.proofs.call.Reads as call-reads
-use Rattle.codes.proofs.code.Reads as code-reads
+use Rattle.seat_call.proofs.call.Reads as call-reads
+use Rattle.plan_codes.proofs.code.Reads as code-reads
 
 -- src/lib.rt:120:16
 call-requires : tie.Need-call-requires

@@ -1,13 +1,13 @@
-use Rattle.answers.proofs.Answers.{answering}
+use Rattle.pool_answers.proofs.Answers.{answering}
 use Rattle.pool.proofs.pool_seat_size.Statement.{statement}
 use Rattle.pool.proofs.pool_seat_size.Tie as tie
 use Rattle.pool.proofs.pool_seat_size.Reads as reads
 use Rattle.pool.proofs.pool_seat_size.Lts as lts
-use Rattle.codes.proofs.code.Reads as code-reads
-use Rattle.reading.proofs.outcome.Reads as outcome-reads
-use Rattle.reading.proofs.read.Reads as read-reads
-use Rattle.answers.proofs.seat_count.Reads as seat-count-reads
-use Rattle.answers.proofs.value.Reads as value-reads
+use Rattle.plan_codes.proofs.code.Reads as code-reads
+use Rattle.plan_reading.proofs.outcome.Reads as outcome-reads
+use Rattle.plan_reading.proofs.read.Reads as read-reads
+use Rattle.pool_answers.proofs.seat_count.Reads as seat-count-reads
+use Rattle.pool_answers.proofs.value.Reads as value-reads
 
 -- src/lib.rt:77:9
 read-requires : tie.Need-read-requires

@@ -1,7 +1,7 @@
 use Prim.Native.Nat.{_-_}
 use lib.ListN.{length, getD}
 use Rattle.numbers.proofs.Fills.{Filled}
-use Rattle.polynomials.specs.Poly.{eval}
+use Rattle.sharing_laws.specs.Poly.{eval}
 use Rattle.sharing.proofs.Coding.{dealing}
 use Rattle.sharing.proofs.deal.Statement.{statement}
 use Rattle.sharing.proofs.deal.Tie as tie

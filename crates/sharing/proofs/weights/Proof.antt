@@ -1,7 +1,7 @@
 use Prim.Native.Nat.{_-_}
 use lib.ListN.{length, getD}
 use Rattle.numbers.proofs.Fills.{Filled}
-use Rattle.polynomials.specs.Interp.{weight}
+use Rattle.sharing_laws.specs.Interp.{weight}
 use Rattle.sharing.proofs.Weighing.{weightings}
 use Rattle.sharing.proofs.weights.Statement.{statement}
 use Rattle.sharing.proofs.weights.Tie as tie

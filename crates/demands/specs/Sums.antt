@@ -1,0 +1,76 @@
+-- The sums worked by hand of document 01, P1 to P10, as one table.
+use Prim.Native.Nat.{ℕ}
+use mathlib.Core.Path.{_≡_}
+use mathlib.Core.List.{List, [], _∷_, _++_, map}
+use lib.ListN.{length}
+use Rattle.numbers.specs.Bytes.{bytesOf}
+use Rattle.sharing_laws.specs.Interp.{weights, interpolate, delta}
+use Rattle.plan.specs.Refusals.{codeOf}
+use Rattle.plan.specs.Plans.{Plan}
+use Rattle.plan.specs.declared.Gate.the-variants.{Multiply}
+use Rattle.plan.specs.File.{planCheck, planOf}
+use Rattle.run_protocol.specs.Rounds.{results, view}
+use Rattle.run_protocol.specs.Shares.{wireAt, dealtAt, shareTable}
+use Rattle.run_bench.specs.BenchCalls.{benchAnswer}
+use Rattle.match_privacy.specs.Matching.{matchedCoins}
+
+-- the contents of a plan with four gates and one out: n, t, and the two bytes of p
+unfoldable pub contents : ℕ → ℕ → ℕ → ℕ → List ℕ
+contents n t low high = 80 ∷ 79 ∷ 79 ∷ 76 ∷ 1 ∷ n ∷ t ∷ 0 ∷ low ∷ high ∷ 18 ∷ 0 ∷ 4 ∷ 0 ∷ 42 ∷ 0 ∷ 1 ∷ 0 ∷ []
+
+-- input 1, input 2, multiply 0 1, add 2 0; one out: party 3, wire 3
+unfoldable pub bodies : List ℕ
+bodies =
+    1 ∷ 0 ∷ 1 ∷ 0 ∷ 0 ∷ 0
+    ∷ 1 ∷ 0 ∷ 2 ∷ 0 ∷ 0 ∷ 0
+    ∷ 5 ∷ 0 ∷ 0 ∷ 0 ∷ 1 ∷ 0
+    ∷ 2 ∷ 0 ∷ 2 ∷ 0 ∷ 0 ∷ 0
+    ∷ 3 ∷ 3 ∷ 0
+    ∷ []
+
+-- K's file, and K with another n, t and p
+unfoldable pub likeK : ℕ → ℕ → ℕ → ℕ → List ℕ
+likeK n t low high = contents n t low high ++ bodies
+
+unfoldable pub K : Plan
+K = planOf (likeK 3 1 11 0)
+
+-- P9's file: n = 1, t = 0, p = 2, input 1, one out: party 1, wire 0
+unfoldable pub single : List ℕ
+single = 80 ∷ 79 ∷ 79 ∷ 76 ∷ 1 ∷ 1 ∷ 0 ∷ 0 ∷ 2 ∷ 0 ∷ 18 ∷ 0 ∷ 1 ∷ 0 ∷ 24 ∷ 0 ∷ 1 ∷ 0 ∷ 1 ∷ 0 ∷ 1 ∷ 0 ∷ 0 ∷ 0 ∷ 1 ∷ 0 ∷ 0 ∷ []
+
+abbrev pub inputs1 : List ℕ
+inputs1 = 4 ∷ 5 ∷ []
+
+abbrev pub coins1 : List ℕ
+coins1 = 2 ∷ 3 ∷ 1 ∷ 5 ∷ 7 ∷ []
+
+-- wire w's shares in P1's run of K
+unfoldable pub sharesOf : ℕ → List ℕ
+sharesOf w = map (wireAt (shareTable K inputs1 coins1) w) (K .points)
+
+-- the bench's answer for K, a set, figures and P1's coins, with a buffer of so many numbers
+unfoldable pub benchOf : ℕ → List ℕ → ℕ → ℕ
+benchOf set xs room = codeOf (benchAnswer (likeK 3 1 11 0) set (bytesOf xs) (bytesOf coins1) room)
+
+pub record Sums : Type 0 where
+  pub p1 : map sharesOf (0 ∷ 1 ∷ []) ≡ (6 ∷ 8 ∷ 10 ∷ []) ∷ (8 ∷ 0 ∷ 3 ∷ []) ∷ []
+  pub p2-weights : weights 11 0 (1 ∷ 2 ∷ 3 ∷ []) ≡ 3 ∷ 8 ∷ 1 ∷ []
+  pub p2-products : dealtAt K (Multiply 0 1) (shareTable K inputs1 coins1) 0 ≡ 4 ∷ 0 ∷ 8 ∷ []
+  pub p2-value : interpolate 11 0 (1 ∷ 2 ∷ 3 ∷ []) (4 ∷ 0 ∷ 8 ∷ []) ≡ 9
+  pub p3-shares : map sharesOf (2 ∷ 3 ∷ []) ≡ (4 ∷ 10 ∷ 5 ∷ []) ∷ (10 ∷ 7 ∷ 4 ∷ []) ∷ []
+  pub p3-result : results K inputs1 coins1 3 ≡ 2 ∷ []
+  pub p4 : delta 11 (3 ∷ []) ≡ 1 ∷ 7 ∷ []
+  pub p5-coins : matchedCoins K (3 ∷ []) inputs1 (1 ∷ 1 ∷ []) coins1 ≡ 3 ∷ 8 ∷ 5 ∷ 2 ∷ 7 ∷ []
+  pub p5-view : view K (3 ∷ []) (1 ∷ 1 ∷ []) (3 ∷ 8 ∷ 5 ∷ 2 ∷ 7 ∷ []) ≡ view K (3 ∷ []) inputs1 coins1
+  pub p6-refused : codeOf (planCheck (likeK 2 1 11 0)) ≡ 4
+  pub p6-passes : codeOf (planCheck (likeK 15 7 17 0)) ≡ 0
+  pub p7-not-above : codeOf (planCheck (likeK 3 1 3 0)) ≡ 5
+  pub p7-nine : codeOf (planCheck (likeK 3 1 9 0)) ≡ 5
+  pub p7-largest : codeOf (planCheck (likeK 3 1 241 255)) ≡ 0
+  pub p7-even-larger : codeOf (planCheck (likeK 3 1 255 255)) ≡ 5
+  pub p8-passes : benchOf 0 (10 ∷ 5 ∷ []) 0 ≡ 0
+  pub p8-refused : benchOf 0 (11 ∷ 5 ∷ []) 0 ≡ 11
+  pub p9-passes : codeOf (planCheck single) ≡ 0
+  pub p9-result : results (planOf single) (1 ∷ []) [] 1 ≡ 1 ∷ []
+  pub p10 : benchOf 3 inputs1 0 ≡ 9

@@ -1,0 +1,207 @@
+use Rattle.plan.specs.Refusals.{placeOf}
+use Rattle.plan_codes.proofs.Codes.{coding}
+use Rattle.plan_codes.proofs.place.Statement.{statement}
+use Rattle.plan_codes.proofs.place.Tie as tie
+
+enum-told : tie.Need-enum-told
+enum-told c = search coding
+
+enum-told-2 : tie.Need-enum-told-2
+enum-told-2 c = search coding
+
+enum-told-3 : tie.Need-enum-told-3
+enum-told-3 c = search coding
+
+enum-told-4 : tie.Need-enum-told-4
+enum-told-4 c = search coding
+
+enum-told-5 : tie.Need-enum-told-5
+enum-told-5 c = search coding
+
+enum-told-6 : tie.Need-enum-told-6
+enum-told-6 c = search coding
+
+enum-known-r : tie.Need-enum-known-r
+enum-known-r c = search coding
+
+enum-known-r-2 : tie.Need-enum-known-r-2
+enum-known-r-2 c = search coding
+
+enum-told-7 : tie.Need-enum-told-7
+enum-told-7 c = search coding
+
+enum-told-8 : tie.Need-enum-told-8
+enum-told-8 c = search coding
+
+enum-known-r-3 : tie.Need-enum-known-r-3
+enum-known-r-3 c = search coding
+
+enum-told-9 : tie.Need-enum-told-9
+enum-told-9 c = search coding
+
+enum-known-r-4 : tie.Need-enum-known-r-4
+enum-known-r-4 c = search coding
+
+enum-told-10 : tie.Need-enum-told-10
+enum-told-10 c = search coding
+
+enum-told-11 : tie.Need-enum-told-11
+enum-told-11 c = search coding
+
+enum-told-12 : tie.Need-enum-told-12
+enum-told-12 c = search coding
+
+enum-told-13 : tie.Need-enum-told-13
+enum-told-13 c = search coding
+
+enum-known-r-5 : tie.Need-enum-known-r-5
+enum-known-r-5 c = search coding
+
+enum-told-14 : tie.Need-enum-told-14
+enum-told-14 c = search coding
+
+enum-known-r-6 : tie.Need-enum-known-r-6
+enum-known-r-6 c = search coding
+
+enum-known-r-7 : tie.Need-enum-known-r-7
+enum-known-r-7 c = search coding
+
+enum-known-r-8 : tie.Need-enum-known-r-8
+enum-known-r-8 c = search coding
+
+returns : tie.Need-returns
+unfolding placeOf
+returns c = search coding
+
+returns-2 : tie.Need-returns-2
+unfolding placeOf
+returns-2 c = search coding
+
+returns-3 : tie.Need-returns-3
+unfolding placeOf
+returns-3 c = search coding
+
+returns-4 : tie.Need-returns-4
+unfolding placeOf
+returns-4 c = search coding
+
+returns-5 : tie.Need-returns-5
+unfolding placeOf
+returns-5 c = search coding
+
+returns-6 : tie.Need-returns-6
+unfolding placeOf
+returns-6 c = search coding
+
+returns-7 : tie.Need-returns-7
+unfolding placeOf
+returns-7 c = search coding
+
+returns-8 : tie.Need-returns-8
+unfolding placeOf
+returns-8 c = search coding
+
+returns-9 : tie.Need-returns-9
+unfolding placeOf
+returns-9 c = search coding
+
+returns-10 : tie.Need-returns-10
+unfolding placeOf
+returns-10 c = search coding
+
+returns-11 : tie.Need-returns-11
+unfolding placeOf
+returns-11 c = search coding
+
+returns-12 : tie.Need-returns-12
+unfolding placeOf
+returns-12 c = search coding
+
+returns-13 : tie.Need-returns-13
+unfolding placeOf
+returns-13 c = search coding
+
+returns-14 : tie.Need-returns-14
+unfolding placeOf
+returns-14 c = search coding
+
+returns-15 : tie.Need-returns-15
+unfolding placeOf
+returns-15 c = search coding
+
+returns-16 : tie.Need-returns-16
+unfolding placeOf
+returns-16 c = search coding
+
+returns-17 : tie.Need-returns-17
+unfolding placeOf
+returns-17 c = search coding
+
+returns-18 : tie.Need-returns-18
+unfolding placeOf
+returns-18 c = search coding
+
+returns-19 : tie.Need-returns-19
+unfolding placeOf
+returns-19 c = search coding
+
+returns-20 : tie.Need-returns-20
+unfolding placeOf
+returns-20 c = search coding
+
+returns-21 : tie.Need-returns-21
+unfolding placeOf
+returns-21 c = search coding
+
+returns-22 : tie.Need-returns-22
+unfolding placeOf
+returns-22 c = search coding
+
+pub place-spec : {M : Type 1} → statement M
+place-spec =
+    tie.close
+    (tie.spec
+    enum-told
+    enum-told-2
+    enum-told-3
+    enum-told-4
+    enum-told-5
+    enum-told-6
+    enum-known-r
+    enum-known-r-2
+    enum-told-7
+    enum-told-8
+    enum-known-r-3
+    enum-told-9
+    enum-known-r-4
+    enum-told-10
+    enum-told-11
+    enum-told-12
+    enum-told-13
+    enum-known-r-5
+    enum-told-14
+    enum-known-r-6
+    enum-known-r-7
+    enum-known-r-8
+    returns
+    returns-2
+    returns-3
+    returns-4
+    returns-5
+    returns-6
+    returns-7
+    returns-8
+    returns-9
+    returns-10
+    returns-11
+    returns-12
+    returns-13
+    returns-14
+    returns-15
+    returns-16
+    returns-17
+    returns-18
+    returns-19
+    returns-20
+    returns-21
+    returns-22)

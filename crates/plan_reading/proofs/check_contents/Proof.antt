@@ -1,0 +1,52 @@
+use Rattle.plan.proofs.Ways.{contents}
+use Rattle.plan_reading.proofs.check_contents.Statement.{statement}
+use Rattle.plan_reading.proofs.check_contents.Tie as tie
+
+begins-requires : tie.Need-begins-requires
+begins-requires c κs = search contents
+
+returns : tie.Need-returns
+returns c = search contents
+
+byte-requires : tie.Need-byte-requires
+byte-requires c κs = search contents
+
+returns-2 : tie.Need-returns-2
+returns-2 c = search contents
+
+byte-requires-2 : tie.Need-byte-requires-2
+byte-requires-2 c κs = search contents
+
+is-between-requires : tie.Need-is-between-requires
+is-between-requires c κs = search contents
+
+returns-3 : tie.Need-returns-3
+returns-3 c = search contents
+
+byte-requires-3 : tie.Need-byte-requires-3
+byte-requires-3 c κs = search contents
+
+mul-if4 : tie.Need-mul-if4
+mul-if4 c = search contents
+
+returns-4 : tie.Need-returns-4
+returns-4 c = search contents
+
+returns-5 : tie.Need-returns-5
+returns-5 c = search contents
+
+pub check-contents-spec : {M : Type 1} → statement M
+check-contents-spec =
+    tie.close
+    (tie.spec
+    begins-requires
+    returns
+    byte-requires
+    returns-2
+    byte-requires-2
+    is-between-requires
+    returns-3
+    byte-requires-3
+    mul-if4
+    returns-4
+    returns-5)

@@ -1,0 +1,232 @@
+-- What the calls of the C interface answer.
+use Prim.Native.Nat.{ℕ, zero, suc, _+_, _*_, _%_, _^_, _<_, _≤_}
+use mathlib.Core.Path.{_≡_, refl, sym, ap, _∙_}
+use mathlib.Core.Bool.{Bool, true, false, cond, not, _&&_}
+use mathlib.Core.List.{List, [], _∷_, _++_}
+use native.Mathlib.Nat.{mul-le-mul, mod-lt}
+use native.Mathlib.Omega.{arith}
+use borrow.Author.Needs.{needs}
+use borrow.Author.Tests.{le-leb, lt-leb, ne-eqb}
+use lib.Dec.{eqb, leb}
+use lib.ListN.{length}
+use mir.Syntax.{w64}
+use mir.Val.{Fits}
+use Rattle.numbers.specs.Tables.{countWhere}
+use Rattle.plan.specs.declared.Header.{Header}
+use Rattle.plan.specs.declared.Reading.{Reading}
+use Rattle.plan.specs.declared.Reading.the-variants as reading
+use Rattle.plan.specs.declared.Refusal.{Refusal}
+use Rattle.plan.specs.declared.Refusal.the-variants as refusal
+use Rattle.plan.specs.declared.Checked.{Checked}
+use Rattle.plan.specs.declared.Checked.the-variants.{Passed, Refused}
+use Rattle.plan.specs.Refusals.{codeOf, andThen, firstOf, need}
+use Rattle.plan.specs.Plans.{Plan, partyCount, multiplies, inputCount, coinCount, dealings, ownInputCount, ownCoinCount, deals, mailCount, writtenCount}
+use Rattle.plan.specs.File.{between, planChecks, planCheck, planOf, outcomeOf}
+use Rattle.plan_coalition.specs.Coalitions.{members, setFits, setOk}
+use Rattle.plan.specs.Planned.{Planned, ReadAs}
+use Rattle.plan.proofs.Refusals.{firstOf-append, andThen-passed, andThen-refused}
+use Rattle.plan.proofs.Planned.{planned-read, refused-read, plan-t, plan-n, plan-gates}
+use Rattle.plan.proofs.Ways.{read-outcome}
+use Rattle.plan_coalition.proofs.Coalitions.{set-ok}
+use Rattle.run_bench.specs.declared.Benched.{Benched}
+use Rattle.run_bench.specs.declared.Benched.the-variants as benched
+use Rattle.run_views.specs.ViewCounts.{viewCount}
+use Rattle.pool_answers.specs.Sizes.{valueOf, mailOfCall, writtenByCall, seatCount, seatSize, callCount, runCount, runSize, answerOf}
+
+pub code-answered : (a c : Checked) (r : ℕ) → c ≡ a → r ≡ codeOf c → r ≡ codeOf a
+code-answered a c r e f = f ∙ ap codeOf e
+
+-- ---- an answer with a value
+value-refused : (c : Checked) (q : Refusal) (v : ℕ) → c ≡ Refused q → valueOf c v ≡ codeOf c
+unfolding valueOf
+value-refused c q v e = rw e
+
+value-passed : (c : Checked) (v : ℕ) → c ≡ Passed → valueOf c v ≡ 256 * v
+unfolding valueOf
+value-passed c v e = rw e
+
+-- a refused plan, whatever else is checked
+module _ (bs : List ℕ) (r : Reading) (q : Refusal) (c : Checked) (k : ℕ) (read : ReadAs bs r) (turned : r ≡ reading.Refused q) (handed : c ≡ outcomeOf r) (is : k ≡ codeOf c) where
+  first : planCheck bs ≡ Refused q
+  first = refused-read bs r q read turned
+
+  plan-refused : (checks : List Checked) (v : ℕ) → k ≡ valueOf (firstOf (planChecks bs ++ checks)) v
+  unfolding planCheck
+  plan-refused checks v =
+      let whole : firstOf (planChecks bs ++ checks) ≡ Refused q = firstOf-append (planChecks bs) checks ∙ andThen-refused _ _ q first in
+      is ∙ ap codeOf (read-outcome bs r c read handed ∙ first ∙ sym whole) ∙ sym (value-refused _ q v whole)
+
+  pub seat-plan-refused : (i call what : ℕ) → k ≡ seatSize bs i call what
+  unfolding seatSize
+  seat-plan-refused i call what = plan-refused _ _
+
+  pub run-plan-refused : (set what : ℕ) → k ≡ runSize bs set what
+  unfolding runSize
+  run-plan-refused set what = plan-refused _ _
+
+  pub calls-refused : k ≡ callCount bs
+  unfolding callCount
+  calls-refused = is ∙ ap codeOf (read-outcome bs r c read handed) ∙ sym (value-refused _ q _ first)
+
+-- a plan that passes, then one check more
+module _ (bs : List ℕ) (r : Reading) (h : Header) (read : ReadAs bs r) (went : r ≡ reading.Passed h) where
+  pub read-planned : Planned bs h
+  read-planned = planned-read bs r h read went
+
+  then : (c : Checked) → firstOf (planChecks bs ++ (c ∷ [])) ≡ c
+  unfolding planCheck
+  then c = firstOf-append (planChecks bs) (c ∷ []) ∙ andThen-passed _ _ (read-planned .passes) ∙ end c
+    where
+      end : (c : Checked) → firstOf (c ∷ []) ≡ c
+      end Passed = unfold firstOf in unfold andThen in refl
+      end (Refused q) = unfold firstOf in unfold andThen in refl
+
+  parties : partyCount (planOf bs) ≡ h .n
+  parties = plan-n read-planned
+
+  refused-seat : (i : ℕ) → between 1 (partyCount (planOf bs)) i ≡ false → (k call what : ℕ) → k ≡ codeOf (Refused refusal.Coalition) → k ≡ seatSize bs i call what
+  unfolding seatSize need
+  refused-seat i out k call what e =
+      let whole : firstOf (planChecks bs ++ (need refusal.Coalition (between 1 (partyCount (planOf bs)) i) ∷ [])) ≡ Refused refusal.Coalition = then _ ∙ rw out refl in
+      e ∙ ap codeOf (sym whole) ∙ sym (value-refused _ _ _ whole)
+
+  pub seat-below : (i k call what : ℕ) → i < 1 → k ≡ codeOf (Refused refusal.Coalition) → k ≡ seatSize bs i call what
+  unfolding between
+  seat-below i k call what l e = refused-seat i (rw (lt-leb 1 i l) refl) k call what e
+
+  pub seat-above : (i k call what : ℕ) → 1 ≤ i → h .n < i → k ≡ codeOf (Refused refusal.Coalition) → k ≡ seatSize bs i call what
+  unfolding between
+  seat-above i k call what l m e =
+      let past : partyCount (planOf bs) < i = omega (arith, parties) in
+      refused-seat i (rw (le-leb 1 i l, lt-leb i (partyCount (planOf bs)) past) refl) k call what e
+
+  pub seat-sized : (i k call what s : ℕ) → 1 ≤ i → i ≤ h .n → s ≡ seatCount (planOf bs) i call what → k ≡ 256 * (2 * s) → k ≡ seatSize bs i call what
+  unfolding seatSize need between
+  seat-sized i k call what s l m e f =
+      let upto : i ≤ partyCount (planOf bs) = omega (arith, parties) in
+      f ∙ ap (λ (n : ℕ). 256 * (2 * n)) e ∙ sym (value-passed _ _ (then _ ∙ rw (le-leb 1 i l, le-leb i (partyCount (planOf bs)) upto) refl))
+
+  set-is : (set : ℕ) (t : Bool) → t ≡ setFits (h .n) (h .t) set → setOk (planOf bs) set ≡ t
+  set-is set t e = sym (e ∙ set-ok bs h set read-planned)
+
+  pub set-refused : (set k what : ℕ) (t : Bool) → t ≡ setFits (h .n) (h .t) set → not t ≡ true → k ≡ codeOf (Refused refusal.Coalition) → k ≡ runSize bs set what
+  unfolding runSize need
+  set-refused set k what true e n f = let z : _≡_ {A = ℕ} 0 1 = cc in absurd (omega arith)
+  set-refused set k what false e n f =
+      let whole : firstOf (planChecks bs ++ (need refusal.Coalition (setOk (planOf bs) set) ∷ [])) ≡ Refused refusal.Coalition = then _ ∙ rw (set-is set false e) refl in
+      f ∙ ap codeOf (sym whole) ∙ sym (value-refused _ _ _ whole)
+
+  pub run-sized : (set k what s : ℕ) (t : Bool) → t ≡ setFits (h .n) (h .t) set → not t ≡ false → s ≡ runCount (planOf bs) set what → k ≡ 256 * (2 * s) → k ≡ runSize bs set what
+  unfolding runSize need
+  run-sized set k what s false e n f g = let z : _≡_ {A = ℕ} 0 1 = cc in absurd (omega arith)
+  run-sized set k what s true e n f g =
+      g ∙ ap (λ (m : ℕ). 256 * (2 * m)) f ∙ sym (value-passed _ _ (then _ ∙ rw (set-is set true e) refl))
+
+  pub calls-counted : (k m : ℕ) → m ≡ multiplies (planOf bs) → k ≡ 256 * (m + 3) → k ≡ callCount bs
+  unfolding callCount
+  calls-counted k m e f = f ∙ ap (λ (n : ℕ). 256 * (n + 3)) e ∙ sym (value-passed _ _ (read-planned .passes))
+
+-- ---- the numbers of a party's lists
+pub mail-there : (plan : Plan) (i call m s : ℕ) → m ≡ multiplies plan → call ≤ m + 2 → s ≡ mailCount plan i call → s ≡ mailOfCall plan i call
+unfolding mailOfCall
+mail-there plan i call m s e l f = let l′ : call ≤ multiplies plan + 2 = omega arith in f ∙ rw (le-leb call (multiplies plan + 2) l′) refl
+
+pub mail-none : (plan : Plan) (i call m : ℕ) → m ≡ multiplies plan → m + 2 < call → 0 ≡ mailOfCall plan i call
+unfolding mailOfCall
+mail-none plan i call m e l = let l′ : multiplies plan + 2 < call = omega arith in rw (lt-leb call (multiplies plan + 2) l′) refl
+
+pub written-there : (plan : Plan) (i call m s : ℕ) → m ≡ multiplies plan → call ≤ m + 2 → s ≡ writtenCount plan i call → s ≡ writtenByCall plan i call
+unfolding writtenByCall
+written-there plan i call m s e l f = let l′ : call ≤ multiplies plan + 2 = omega arith in f ∙ rw (le-leb call (multiplies plan + 2) l′) refl
+
+pub written-none : (plan : Plan) (i call m : ℕ) → m ≡ multiplies plan → m + 2 < call → 0 ≡ writtenByCall plan i call
+unfolding writtenByCall
+written-none plan i call m e l = let l′ : multiplies plan + 2 < call = omega arith in rw (lt-leb call (multiplies plan + 2) l′) refl
+
+module _ (bs : List ℕ) (h : Header) (planned : Planned bs h) where
+  few-coins : (d : ℕ) → d ≤ 1024 → h .t * d ≤ 7 * 1024
+  few-coins d l = mul-le-mul {n₁ = h .t} {m₁ = d} {n₂ = 7} {m₂ = 1024} (omega (arith, planned .majority, planned .n-high)) l
+
+  pub own-coins-fit : (d : ℕ) → d ≤ 1024 → Fits w64 (h .t * d)
+  own-coins-fit d l = record { fits = omega (arith, few-coins d l) }
+
+  pub own-coins-le : (d : ℕ) → d ≤ 1024 → h .t * d ≤ 15360
+  own-coins-le d l = omega (arith, few-coins d l)
+
+  pub own-coins-eq : (i d : ℕ) → d ≡ countWhere (deals (planOf bs) i) (planOf bs .gates) → h .t * d ≡ ownCoinCount (planOf bs) i
+  unfolding ownCoinCount
+  own-coins-eq i d e = ap (λ (n : ℕ). n * d) (sym (plan-t planned)) ∙ ap (λ (n : ℕ). planOf bs .t * n) e
+
+  many-coins : (d : ℕ) → d ≤ 15360 → h .t * d ≤ 7 * 15360
+  many-coins d l = mul-le-mul {n₁ = h .t} {m₁ = d} {n₂ = 7} {m₂ = 15360} (omega (arith, planned .majority, planned .n-high)) l
+
+  pub coins-fit : (d : ℕ) → d ≤ 15360 → Fits w64 (h .t * d)
+  coins-fit d l = record { fits = omega (arith, many-coins d l) }
+
+  pub coins-le : (d : ℕ) → d ≤ 15360 → h .t * d ≤ 409600
+  coins-le d l = omega (arith, many-coins d l)
+
+  pub coins-eq : (d : ℕ) → d ≡ length (dealings (planOf bs)) → h .t * d ≡ coinCount (planOf bs)
+  unfolding coinCount
+  coins-eq d e = ap (λ (n : ℕ). n * d) (sym (plan-t planned)) ∙ ap (λ (n : ℕ). planOf bs .t * n) e
+
+  pub state-count : (i call what : ℕ) → what ≡ 2 → 1 + h .gates ≡ seatCount (planOf bs) i call what
+  unfolding seatCount
+  state-count i call what k = rw k (ap (λ (n : ℕ). 1 + n) (sym (plan-gates planned)))
+
+module _ (plan : Plan) (i call what s : ℕ) where
+  pub count-0 : what ≡ 0 → s ≡ ownInputCount plan i → s ≡ seatCount plan i call what
+  unfolding seatCount
+  count-0 k e = rw k e
+
+  pub count-1 : what ≡ 1 → s ≡ ownCoinCount plan i → s ≡ seatCount plan i call what
+  unfolding seatCount
+  count-1 k e = rw k e
+
+  pub count-3 : what ≡ 3 → s ≡ mailOfCall plan i call → s ≡ seatCount plan i call what
+  unfolding seatCount
+  count-3 k e = rw k e
+
+  pub count-4 : what ≡ 4 → s ≡ writtenByCall plan i call → s ≡ seatCount plan i call what
+  unfolding seatCount
+  count-4 k e = rw k e
+
+module _ (plan : Plan) (set what s : ℕ) where
+  pub all-0 : what ≡ 0 → s ≡ inputCount plan → s ≡ runCount plan set what
+  unfolding runCount
+  all-0 k e = rw k e
+
+  pub all-1 : what ≡ 1 → s ≡ coinCount plan → s ≡ runCount plan set what
+  unfolding runCount
+  all-1 k e = rw k e
+
+  pub all-2 : what ≡ 2 → s ≡ viewCount plan (members set) → s ≡ runCount plan set what
+  unfolding runCount
+  all-2 k e = rw k e
+
+pub all-other : (plan : Plan) (set what : ℕ) → (what ≡ 0 → ⊥) → (what ≡ 1 → ⊥) → (what ≡ 2 → ⊥) → 0 ≡ runCount plan set what
+unfolding runCount
+all-other plan set what a b c = rw (ne-eqb what 0 a, ne-eqb what 1 b, ne-eqb what 2 c) refl
+
+-- ---- the bench
+pub sent-value : (b : Benched) (n k : ℕ) → b ≡ benched.Sent n → k ≡ 256 * (n % 4294967296) → k ≡ answerOf b
+unfolding answerOf
+sent-value b n k e f = f ∙ sym (rw e refl)
+
+pub sent-refused : (b : Benched) (r : Refusal) (k : ℕ) → b ≡ benched.Refused r → k ≡ codeOf (Refused r) → k ≡ answerOf b
+unfolding answerOf
+sent-refused b r k e f = f ∙ sym (rw e refl)
+
+pub small-rest : (n : ℕ) → n % 4294967296 < 4294967296
+small-rest n = mod-lt n (omega arith)
+
+pub bench-answered : (b w : Benched) (r : ℕ) → b ≡ w → r ≡ answerOf b → r ≡ answerOf w
+bench-answered b w r e f = f ∙ ap answerOf e
+
+pub count-other : (plan : Plan) (i call what : ℕ) → (what ≡ 0 → ⊥) → (what ≡ 1 → ⊥) → (what ≡ 2 → ⊥) → (what ≡ 3 → ⊥) → (what ≡ 4 → ⊥) → 0 ≡ seatCount plan i call what
+unfolding seatCount
+count-other plan i call what a b c d e = rw (ne-eqb what 0 a, ne-eqb what 1 b, ne-eqb what 2 c, ne-eqb what 3 d, ne-eqb what 4 e) refl
+
+pub ruleset answering = (needs, code-answered, seat-plan-refused, calls-refused, read-planned, seat-below, seat-above, seat-sized, calls-counted, run-plan-refused, set-refused, run-sized, sent-value, sent-refused, small-rest, bench-answered)
+
+pub ruleset counting = (needs, mail-there, mail-none, written-there, written-none, own-coins-fit, own-coins-le, own-coins-eq, state-count, count-0, count-1, count-3, count-4, count-other, coins-fit, coins-le, coins-eq, all-0, all-1, all-2, all-other)

@@ -1,0 +1,44 @@
+use Rattle.run_bench.proofs.RunCheckLaws.{giving, dealing-fits}
+use Rattle.run_bench.proofs.checking.check_given.Statement.{statement}
+use Rattle.run_bench.proofs.checking.check_given.Tie as tie
+
+input-count-requires : tie.Need-input-count-requires
+input-count-requires c κs = search giving
+
+check-inputs-requires : tie.Need-check-inputs-requires
+check-inputs-requires c κs = search giving
+
+enum-told : tie.Need-enum-told
+enum-told c = search giving
+
+enum-told-2 : tie.Need-enum-told-2
+enum-told-2 c = search giving
+
+returns : tie.Need-returns
+returns c = search giving
+
+dealing-count-requires : tie.Need-dealing-count-requires
+dealing-count-requires c κs = search giving
+
+mul-count : tie.Need-mul-count
+mul-count c = search dealing-fits
+
+check-coins-requires : tie.Need-check-coins-requires
+check-coins-requires c κs = search giving
+
+returns-2 : tie.Need-returns-2
+returns-2 c = search giving
+
+pub check-given-spec : {M : Type 1} → statement M
+check-given-spec =
+    tie.close
+    (tie.spec
+    input-count-requires
+    check-inputs-requires
+    enum-told
+    enum-told-2
+    returns
+    dealing-count-requires
+    mul-count
+    check-coins-requires
+    returns-2)

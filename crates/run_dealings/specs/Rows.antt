@@ -1,0 +1,119 @@
+-- The table of shares as the code keeps it: a row for each wire, in it each party's share. The code deals by powers of the points.
+use Prim.Native.Nat.{ℕ, zero, suc, _+_, _*_, _%_, _≤_, _<_}
+use mathlib.Core.Path.{_≡_}
+use mathlib.Core.Bool.{true}
+use mathlib.Core.List.{List, [], _∷_, _++_, map, flatMap}
+use lib.ListN.{length, take, drop, getD}
+use Rattle.numbers.specs.Tables.{tab}
+use Rattle.numbers.specs.Bytes.{numbers, allBelow}
+use Rattle.field.specs.Mod.{mul}
+use Rattle.sharing_laws.specs.Poly.{eval}
+use Rattle.sharing_laws.specs.Interp.{weights, dot}
+use Rattle.field.specs.Field.{Ready}
+use Rattle.plan.specs.declared.Gate.{Gate}
+use Rattle.plan.specs.declared.Header.{Header}
+use Rattle.plan.specs.Plans.{Plan, inputCount, coinCount}
+use Rattle.run_protocol.specs.Shares.{gateShare, coinsTaken}
+
+-- the rows of these wires, one after the other: each wire's shares at the points
+unfoldable pub rowsOf : List ℕ → List (ℕ → ℕ) → List ℕ
+rowsOf points env = flatMap (λ h. map h points) env
+
+-- x to the k
+unfoldable pub power : ℕ → ℕ → ℕ → ℕ
+power p x zero = 1
+power p x (suc k) = mul p (power p x k) x
+
+-- 1, x, x², .. m of them
+unfoldable pub powers : ℕ → ℕ → ℕ → List ℕ
+powers p x m = tab (power p x) m
+
+-- the powers of the points, a row for each
+unfoldable pub powerRows : ℕ → ℕ → List ℕ → List ℕ
+powerRows p m points = flatMap (λ x. powers p x m) points
+
+-- what the first m parties deal where the table's wires a and b are multiplied: the products of their shares
+unfoldable pub productsOf : ℕ → ℕ → ℕ → ℕ → ℕ → List ℕ → List ℕ
+productsOf p n m a b table = tab (λ j. mul p (getD table (n * a + j) 0) (getD table (n * b + j) 0)) m
+
+-- the weighted sum of the values of these polynomials at x
+unfoldable pub mixedAt : ℕ → List ℕ → List (List ℕ) → ℕ → ℕ
+mixedAt p ws fs x = dot p ws (map (λ f. eval p f x) fs)
+
+-- a grid's column: in it what each row gives to one receiver
+unfoldable pub column : List (List ℕ) → ℕ → List ℕ
+column grid j = map (λ row. getD row j 0) grid
+
+-- sums with w times a row added, entry by entry
+unfoldable pub addedAt : ℕ → List ℕ → List ℕ → ℕ → ℕ
+addedAt w row sums j = getD sums j 0 + w * getD row j 0
+
+unfoldable pub added : ℕ → List ℕ → List ℕ → List ℕ
+added w row sums = tab (addedAt w row sums) (length sums)
+
+-- the sums' remainders
+unfoldable pub rests : ℕ → List ℕ → List ℕ
+rests p sums = map (λ x. x % p) sums
+
+-- the bounds of a plan's contents
+pub record Sized (h : Header) : Type 0 where
+  pub ready : Ready (h .field .p)
+  pub many : h .n ≤ 15
+  pub majority : 2 * h .t < h .n
+  pub small : h .n < h .field .p
+
+-- what is worked out once for a plan: eight powers of all parties' points, and the weights at 0 of the dealers'
+pub record Prepared (h : Header) (rows ws : List ℕ) : Type 0 where
+  pub room : 8 * h .n ≤ length rows
+  pub powers : take (8 * h .n) rows ≡ powerRows (h .field .p) 8 (tab suc (h .n))
+  pub wide : h .t + h .t + 1 ≤ length ws
+  pub weighs : take (h .t + h .t + 1) ws ≡ weights (h .field .p) 0 (take (h .t + h .t + 1) (tab suc (h .n)))
+
+-- the power rows of the points stand in front
+pub record Powered (p k : ℕ) (points rows : List ℕ) : Type 0 where
+  pub room : k * length points ≤ length rows
+  pub front : take (k * length points) rows ≡ powerRows p k points
+
+-- t coins for each of m dealings stand from place `at` on, and are below p
+pub record Coined (p t m at : ℕ) (cs : List ℕ) : Type 0 where
+  pub room : at + t * m ≤ length cs
+  pub below : allBelow p (take (t * m) (drop at cs)) ≡ true
+
+-- a grid of pieces: column j holds the values at point j of the polynomials
+pub record Dealt (p : ℕ) (points : List ℕ) (fs : List (List ℕ)) (grid : List (List ℕ)) : Type 0 where
+  pub columns : (j : ℕ) → j < length points → take (length fs) (column grid j) ≡ map (λ f. eval p f (getD points j 0)) fs
+
+-- the first m entries of the first n columns are below p
+pub record Elements (p n m : ℕ) (grid : List (List ℕ)) : Type 0 where
+  pub each : (j : ℕ) → j < n → allBelow p (take m (column grid j)) ≡ true
+
+-- row w of a table stands, with elements
+pub record Rowed (p n w : ℕ) (table : List ℕ) : Type 0 where
+  pub room : n * w + n ≤ length table
+  pub below : allBelow p (take n (drop (n * w) table)) ≡ true
+
+-- the rows of g wires stand in front, with elements
+pub record Standing (p n g : ℕ) (table : List ℕ) : Type 0 where
+  pub room : n * g ≤ length table
+  pub below : allBelow p (take (n * g) table) ≡ true
+
+-- the coins that a gate takes, from place `at` on, are there and below p
+pub record Taking (plan : Plan) (gate : Gate) (at : ℕ) (cs : List ℕ) : Type 0 where
+  pub room : at + coinsTaken plan gate ≤ length cs
+  pub below : allBelow (plan .p) (take (coinsTaken plan gate) (drop at cs)) ≡ true
+
+-- the row of gate g's wire, where the rows of the wires below g stand
+pub record Worked (plan : Plan) (n : ℕ) (gate : Gate) (g x : ℕ) (cs table row : List ℕ) : Type 0 where
+  pub is : (env : List (ℕ → ℕ)) → take (n * g) table ≡ rowsOf (plan .points) env → take n row ≡ map (gateShare plan gate env x cs) (plan .points)
+
+-- a step over gate g: where the rows of the wires below g stand, the rows of those wires and of wire g stand afterwards
+pub record Stepped (plan : Plan) (n : ℕ) (gate : Gate) (g x : ℕ) (cs old new : List ℕ) : Type 0 where
+  pub next : (env : List (ℕ → ℕ)) → take (n * g) old ≡ rowsOf (plan .points) env → take (n * (g + 1)) new ≡ rowsOf (plan .points) (env ++ (gateShare plan gate env x cs ∷ []))
+  pub rest : drop (n * (g + 1)) new ≡ drop (n * (g + 1)) old
+
+-- what a run is given: a full list of inputs and a full setting of coins, lent as bytes
+pub record Given (plan : Plan) (inputs coins : List ℕ) : Type 0 where
+  pub inputs-count : length inputs ≡ 2 * inputCount plan
+  pub inputs-below : allBelow (plan .p) (numbers inputs) ≡ true
+  pub coins-count : length coins ≡ 2 * coinCount plan
+  pub coins-below : allBelow (plan .p) (numbers coins) ≡ true

@@ -1,0 +1,84 @@
+use Rattle.run_tables.proofs.GateLaws.{working}
+use Rattle.run_tables.proofs.gate_row.Statement.{statement}
+use Rattle.run_tables.proofs.gate_row.Tie as tie
+
+add-dealers : tie.Need-add-dealers
+add-dealers c = search working
+
+add-dealers-2 : tie.Need-add-dealers-2
+add-dealers-2 c = search working
+
+gate-at-requires : tie.Need-gate-at-requires
+gate-at-requires c κs = search working
+
+enum-told : tie.Need-enum-told
+enum-told c = search working
+
+input-row-requires : tie.Need-input-row-requires
+input-row-requires c κs = (search working, (search working, (search working, (search working, search working))))
+
+enum-known-gate : tie.Need-enum-known-gate
+enum-known-gate c = search working
+
+add-row-requires : tie.Need-add-row-requires
+add-row-requires c κs = (search working, (search working, (search working, search working)))
+
+enum-known-gate-2 : tie.Need-enum-known-gate-2
+enum-known-gate-2 c = search working
+
+scale-row-requires : tie.Need-scale-row-requires
+scale-row-requires c κs = (search working, (search working, (search working, search working)))
+
+enum-known-gate-3 : tie.Need-enum-known-gate-3
+enum-known-gate-3 c = search working
+
+offset-row-requires : tie.Need-offset-row-requires
+offset-row-requires c κs = (search working, (search working, (search working, search working)))
+
+enum-known-gate-4 : tie.Need-enum-known-gate-4
+enum-known-gate-4 c = search working
+
+slice-aggregate-multiply-row : tie.Need-slice-aggregate-multiply-row
+slice-aggregate-multiply-row c = search working
+
+multiply-row-requires : tie.Need-multiply-row-requires
+multiply-row-requires c κs = (search working, (search working, (search working, (search working, (search working, (search working, search working))))))
+
+returns : tie.Need-returns
+returns c = search working
+
+returns-2 : tie.Need-returns-2
+returns-2 c = search working
+
+returns-3 : tie.Need-returns-3
+returns-3 c = search working
+
+returns-4 : tie.Need-returns-4
+returns-4 c = search working
+
+returns-5 : tie.Need-returns-5
+returns-5 c = search working
+
+pub gate-row-spec : {M : Type 1} → statement M
+gate-row-spec =
+    tie.close
+    (tie.spec
+    add-dealers
+    add-dealers-2
+    gate-at-requires
+    enum-told
+    input-row-requires
+    enum-known-gate
+    add-row-requires
+    enum-known-gate-2
+    scale-row-requires
+    enum-known-gate-3
+    offset-row-requires
+    enum-known-gate-4
+    slice-aggregate-multiply-row
+    multiply-row-requires
+    returns
+    returns-2
+    returns-3
+    returns-4
+    returns-5)

@@ -1,0 +1,225 @@
+// The table of shares of a run: a row for each wire, in it every party's share. Gates are worked one after the other, all parties at once.
+use field::Field;
+use plan::Gate;
+use plan::Header;
+ghost use mathlib.Core.Path.{_≡_};
+ghost use Prim.Native.Nat.{_+_, _-_, _*_, _/_, _<_, _≤_};
+ghost use lib.ListN.{length, take, drop, getD};
+ghost use lib.Seq.{paste};
+ghost use Rattle.numbers.specs.Tables.{tab};
+ghost use Rattle.numbers.specs.Bytes.{numbers};
+ghost use Rattle.field.specs.Mod.{add, mul};
+ghost use Rattle.field.specs.Field.{Ready};
+ghost use Rattle.plan.specs.Planned.{Planned};
+ghost use Rattle.plan.specs.File.{planOf, gateAt};
+ghost use Rattle.run_protocol.specs.Ideal.{inputsTaken};
+ghost use Rattle.run_protocol.specs.Shares.{coinsTaken, shareTable};
+ghost use Rattle.run_dealings.specs.Rows.{rowsOf, Prepared, Rowed, Standing, Taking, Worked, Stepped, Given};
+
+// ---- gates that each party works on its own shares
+
+// Each party's share of wire a plus that of wire b.
+fn add_row(f: Field, n: usize, a: usize, b: usize, table: &[u64]) -> [u64; 15]
+    requires { ⌜ Ready (f .p) ⌝ }
+    requires { ⌜ n ≤ 15 ⌝ }
+    requires { ⌜ Rowed (f .p) n a (now table) ⌝ }
+    requires { ⌜ Rowed (f .p) n b (now table) ⌝ }
+    ensures { λ r. ⌜ take n r ≡ tab (λ j. add (f .p) (getD (now (table .entry)) (n * a + j) 0) (getD (now (table .entry)) (n * b + j) 0)) n ⌝ }
+{
+    let left = n * a;
+    let right = n * b;
+    let mut row = [0u64; 15];
+    let mut j: usize = 0;
+    while j < n {
+        row[j] = f.add(table[left + j], table[right + j]);
+        j += 1;
+    }
+    row
+}
+
+// Each party's share of wire a times c.
+fn scale_row(f: Field, n: usize, a: usize, c: u64, table: &[u64]) -> [u64; 15]
+    requires { ⌜ Ready (f .p) ⌝ }
+    requires { ⌜ n ≤ 15 ⌝ }
+    requires { ⌜ Rowed (f .p) n a (now table) ⌝ }
+    requires { ⌜ c < f .p ⌝ }
+    ensures { λ r. ⌜ take n r ≡ tab (λ j. mul (f .p) (getD (now (table .entry)) (n * a + j) 0) c) n ⌝ }
+{
+    let left = n * a;
+    let mut row = [0u64; 15];
+    let mut j: usize = 0;
+    while j < n {
+        row[j] = f.mul(table[left + j], c);
+        j += 1;
+    }
+    row
+}
+
+// Each party's share of wire a plus c.
+fn offset_row(f: Field, n: usize, a: usize, c: u64, table: &[u64]) -> [u64; 15]
+    requires { ⌜ Ready (f .p) ⌝ }
+    requires { ⌜ n ≤ 15 ⌝ }
+    requires { ⌜ Rowed (f .p) n a (now table) ⌝ }
+    requires { ⌜ c < f .p ⌝ }
+    ensures { λ r. ⌜ take n r ≡ tab (λ j. add (f .p) (getD (now (table .entry)) (n * a + j) 0) c) n ⌝ }
+{
+    let left = n * a;
+    let mut row = [0u64; 15];
+    let mut j: usize = 0;
+    while j < n {
+        row[j] = f.add(table[left + j], c);
+        j += 1;
+    }
+    row
+}
+
+// ---- one gate
+
+// The row of gate g's wire, from the rows of the wires below it.
+fn gate_row(
+    plan: &[u8],
+    h: Header,
+    rows: &[u64],
+    weights: &[u64],
+    g: usize,
+    x: u64,
+    coins: &[u8],
+    at: usize,
+    table: &[u64],
+) -> [u64; 15]
+    requires { ⌜ Planned (now plan) h ⌝ }
+    requires { ⌜ g < h .gates ⌝ }
+    requires { ⌜ Prepared h (now rows) (now weights) ⌝ }
+    requires { ⌜ x < h .field .p ⌝ }
+    requires { ⌜ Taking (planOf (now plan)) (gateAt (now plan) g) at (numbers (now coins)) ⌝ }
+    requires { ⌜ Standing (h .field .p) (h .n) g (now table) ⌝ }
+    ensures { λ r. ⌜ Worked (planOf (now (plan .entry))) (h .n) (gateAt (now (plan .entry)) g) g x (drop at (numbers (now (coins .entry)))) (now (table .entry)) r ⌝ }
+{
+    let f = h.field;
+    let n = h.n;
+    let t = h.t;
+    let dealers = t + t + 1;
+    let gate = plan::gate_at(plan, g);
+    match gate {
+        Gate::Input(_) => run_dealings::input_row(f, n, t, rows, x, coins, at),
+        Gate::Add(a, b) => add_row(f, n, a, b, table),
+        Gate::Scale(a, c) => scale_row(f, n, a, c, table),
+        Gate::Offset(a, c) => offset_row(f, n, a, c, table),
+        Gate::Multiply(a, b) => run_dealings::multiply_row(
+            f,
+            n,
+            t,
+            rows,
+            &weights[..dealers],
+            a,
+            b,
+            coins,
+            at,
+            table,
+        ),
+    }
+}
+
+// Writes a row's first n entries from one place of the table on.
+fn put_row(table: &mut [u64], at: usize, row: [u64; 15], n: usize)
+    requires { ⌜ n ≤ 15 ⌝ }
+    requires { ⌜ at + n ≤ length (now table) ⌝ }
+    ensures { λ _. ⌜ now (table .exit) ≡ paste (now (table .entry)) at row n ⌝ }
+{
+    let mut j: usize = 0;
+    while j < n {
+        table[at + j] = row[j];
+        j += 1;
+    }
+}
+
+// Works gate g for all parties: sets the row of its wire, from the rows of the wires below it. x is the next input; the gate's coins stand from place `at` on.
+pub fn step(
+    plan: &[u8],
+    h: Header,
+    rows: &[u64],
+    weights: &[u64],
+    g: usize,
+    x: u64,
+    coins: &[u8],
+    at: usize,
+    table: &mut [u64],
+)
+    requires { ⌜ Planned (now plan) h ⌝ }
+    requires { ⌜ g < h .gates ⌝ }
+    requires { ⌜ Prepared h (now rows) (now weights) ⌝ }
+    requires { ⌜ x < h .field .p ⌝ }
+    requires { ⌜ Taking (planOf (now plan)) (gateAt (now plan) g) at (numbers (now coins)) ⌝ }
+    requires { ⌜ Standing (h .field .p) (h .n) g (now table) ⌝ }
+    requires { ⌜ h .n * h .gates ≤ length (now table) ⌝ }
+    ensures { λ _. ⌜ Stepped (planOf (now (plan .entry))) (h .n) (gateAt (now (plan .entry)) g) g x (drop at (numbers (now (coins .entry)))) (now (table .entry)) (now (table .exit)) ⌝ }
+{
+    let n = h.n;
+    let start = n * g;
+    let row = gate_row(plan, h, rows, weights, g, x, coins, at, table);
+    put_row(table, start, row, n);
+}
+
+// ---- a run
+
+// How many inputs and coins are taken.
+pub struct Taken {
+    pub inputs: usize,
+    pub coins: usize,
+}
+
+// What gate g takes of the inputs and of the coins.
+pub fn taken_at(plan: &[u8], h: Header, g: usize) -> Taken
+    requires { ⌜ Planned (now plan) h ⌝ }
+    ensures { λ r. ⌜ (r .inputs ≡ inputsTaken (gateAt (now (plan .entry)) g)) × (r .coins ≡ coinsTaken (planOf (now (plan .entry))) (gateAt (now (plan .entry)) g)) ⌝ }
+{
+    let t = h.t;
+    let gate = plan::gate_at(plan, g);
+    match gate {
+        Gate::Input(_) => Taken {
+            inputs: 1,
+            coins: t,
+        },
+        Gate::Add(_, _) => Taken {
+            inputs: 0,
+            coins: 0,
+        },
+        Gate::Scale(_, _) => Taken {
+            inputs: 0,
+            coins: 0,
+        },
+        Gate::Offset(_, _) => Taken {
+            inputs: 0,
+            coins: 0,
+        },
+        Gate::Multiply(_, _) => Taken {
+            inputs: 0,
+            coins: t * (t + t + 1),
+        },
+    }
+}
+
+// The table of a run: every party's share of every wire, in front of what the table holds beyond.
+pub fn fill(plan: &[u8], h: Header, inputs: &[u8], coins: &[u8], table: &mut [u64])
+    requires { ⌜ Planned (now plan) h ⌝ }
+    requires { ⌜ Given (planOf (now plan)) (now inputs) (now coins) ⌝ }
+    requires { ⌜ h .n * h .gates ≤ length (now table) ⌝ }
+    ensures { λ _. ⌜ take (h .n * h .gates) (now (table .exit)) ≡ rowsOf (planOf (now (plan .entry)) .points) (shareTable (planOf (now (plan .entry))) (numbers (now (inputs .entry))) (numbers (now (coins .entry)))) ⌝ }
+    ensures { λ _. ⌜ drop (h .n * h .gates) (now (table .exit)) ≡ drop (h .n * h .gates) (now (table .entry)) ⌝ }
+{
+    let mut rows = [0u64; 120];
+    let mut weights = [0u64; 15];
+    run_dealings::prepare(h, &mut rows, &mut weights);
+    let gates = h.gates;
+    let mut i: usize = 0;
+    let mut at: usize = 0;
+    let mut g: usize = 0;
+    while g < gates {
+        let x = numbers::read(inputs, i);
+        step(plan, h, &rows, &weights, g, x, coins, at, table);
+        let taken = taken_at(plan, h, g);
+        i += taken.inputs;
+        at += taken.coins;
+        g += 1;
+    }
+}

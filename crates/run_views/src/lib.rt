@@ -1,0 +1,657 @@
+// The view of a coalition's members, written to the lent buffer number by number: a member's inputs, its coins, its mail and
+// its results. Each function writes from number `at` on and answers the place after what it wrote.
+use field::Field;
+use plan::Gate;
+use plan::Header;
+use plan::Output;
+ghost use mathlib.Core.Path.{_≡_};
+ghost use mathlib.Core.Bool.{true, cond};
+ghost use mathlib.Core.List.{[], _∷_, map, flatMap};
+ghost use Prim.Native.Nat.{_+_, _*_, _/_, _<_, _≤_};
+ghost use lib.Dec.{eqb};
+ghost use lib.ListN.{getD, length, take};
+ghost use Rattle.numbers.specs.Tables.{tab};
+ghost use Rattle.numbers.specs.Bytes.{numbers, bytesOf, allBelow};
+ghost use Rattle.field.specs.Mod.{mul};
+ghost use Rattle.field.specs.Field.{Is, reciprocal, Ready};
+ghost use Rattle.sharing_laws.specs.Interp.{dot};
+ghost use Rattle.plan.specs.Plans.{isInputOf, inputWires, outWires, coinCount, ownInputs, ownCoins};
+ghost use Rattle.seat_sending.specs.Sending.{coinsFrom};
+ghost use Rattle.plan.specs.File.{planOf, gateAt};
+ghost use Rattle.plan.specs.Planned.{Planned};
+ghost use Rattle.plan_coalition.specs.Coalitions.{inSet, members, setFits};
+ghost use Rattle.run_protocol.specs.Shares.{shareTable, tableViewOf};
+ghost use Rattle.run_dealings.specs.Rows.{rowsOf, powers, Given};
+ghost use Rattle.run_views.specs.ViewCounts.{viewCount};
+ghost use Rattle.run_views.specs.Flat.{shareIn, firstIn, outsIn, openedIn, pieceIn, piecesIn, middleIn, coinsIn, ownAt, mailIn, viewIn, Running, PowerRow, Ran};
+ghost use Rattle.run_views.specs.Writing.{Wrote};
+
+// One number, of which the two low bytes are kept.
+fn put(v: u64, at: usize, out: &mut [u8]) -> usize
+    requires { ⌜ at ≤ 3000000 ⌝ }
+    ensures { λ r. ⌜ Wrote 1 (v ∷ []) at (now (out .entry)) (now (out .exit)) r ⌝ }
+{
+    numbers::write(out, at, v);
+    at + 1
+}
+
+// One number, where it is wanted.
+fn put_if(wanted: bool, v: u64, at: usize, out: &mut [u8]) -> usize
+    requires { ⌜ at ≤ 2000000 ⌝ }
+    ensures { λ r. ⌜ Wrote 1 (cond wanted (v ∷ []) []) at (now (out .entry)) (now (out .exit)) r ⌝ }
+{
+    if !wanted {
+        return at;
+    }
+    put(v, at, out)
+}
+
+// Input k, where its gate is party i's.
+fn put_input(i: usize, gate: Gate, inputs: &[u8], k: usize, at: usize, out: &mut [u8]) -> usize
+    requires { ⌜ at ≤ 2000000 ⌝ }
+    ensures { λ r. ⌜ Wrote 1 (cond (isInputOf i gate) (getD (numbers (now (inputs .entry))) k 0 ∷ []) []) at (now (out .entry)) (now (out .exit)) r ⌝ }
+{
+    put_if(
+        plan_counts::is_input_of(i, gate),
+        numbers::read(inputs, k),
+        at,
+        out,
+    )
+}
+
+// Party i's own inputs.
+fn write_inputs(plan: &[u8], h: Header, i: usize, inputs: &[u8], at: usize, out: &mut [u8]) -> usize
+    requires { ⌜ Planned (now plan) h ⌝ }
+    requires { ⌜ at ≤ 1000000 ⌝ }
+    ensures { λ r. ⌜ Wrote 1024 (ownInputs (planOf (now (plan .entry))) i (numbers (now (inputs .entry)))) at (now (out .entry)) (now (out .exit)) r ⌝ }
+{
+    let mut next = at;
+    let mut k: usize = 0;
+    let mut g: usize = 0;
+    while g < h.gates {
+        let gate = plan::gate_at(plan, g);
+        next = put_input(i, gate, inputs, k, next, out);
+        k += run_ideal::inputs_taken(gate);
+        g += 1;
+    }
+    next
+}
+
+// ---- shares
+
+// Party i's share of wire w, of n parties.
+fn share_in(table: &[u64], n: usize, i: usize, w: usize) -> u64
+    requires { ⌜ 1 ≤ n ⌝ }
+    requires { ⌜ n ≤ 15 ⌝ }
+    requires { ⌜ 1 ≤ i ⌝ }
+    requires { ⌜ i ≤ 15 ⌝ }
+    ensures { λ r. ⌜ r ≡ shareIn n (now (table .entry)) i w ⌝ }
+{
+    if table.len() <= w {
+        return 0;
+    }
+    let at = n * w + (i - 1);
+    if at < table.len() {
+        return table[at];
+    }
+    0
+}
+
+// Whether gate g is an input of party j. The first byte tells apart the gates that are no inputs.
+fn is_input_at(plan: &[u8], h: Header, g: usize, j: usize) -> bool
+    requires { ⌜ Planned (now plan) h ⌝ }
+    requires { ⌜ g < h .gates ⌝ }
+    requires { ⌜ 1 ≤ j ⌝ }
+    ensures { λ r. ⌜ r ≡ isInputOf j (gateAt (now (plan .entry)) g) ⌝ }
+{
+    let at = 18 + 6 * g;
+    if plan[at] != 1 {
+        return false;
+    }
+    let gate = plan::gate_at(plan, g);
+    plan_counts::is_input_of(j, gate)
+}
+
+// Party i's share of wire g, where gate g is an input of party j.
+fn put_share(
+    plan: &[u8],
+    h: Header,
+    j: usize,
+    g: usize,
+    table: &[u64],
+    i: usize,
+    at: usize,
+    out: &mut [u8],
+) -> usize
+    requires { ⌜ Planned (now plan) h ⌝ }
+    requires { ⌜ g < h .gates ⌝ }
+    requires { ⌜ 1 ≤ j ⌝ }
+    requires { ⌜ 1 ≤ i ⌝ }
+    requires { ⌜ i ≤ 15 ⌝ }
+    requires { ⌜ at ≤ 2000000 ⌝ }
+    ensures { λ r. ⌜ Wrote 1 (cond (isInputOf j (gateAt (now (plan .entry)) g)) (shareIn (h .n) (now (table .entry)) i g ∷ []) []) at (now (out .entry)) (now (out .exit)) r ⌝ }
+{
+    if !is_input_at(plan, h, g, j) {
+        return at;
+    }
+    put(share_in(table, h.n, i, g), at, out)
+}
+
+// Party i's shares of party j's inputs.
+fn write_inputs_from(
+    plan: &[u8],
+    h: Header,
+    j: usize,
+    table: &[u64],
+    i: usize,
+    at: usize,
+    out: &mut [u8],
+) -> usize
+    requires { ⌜ Planned (now plan) h ⌝ }
+    requires { ⌜ 1 ≤ j ⌝ }
+    requires { ⌜ 1 ≤ i ⌝ }
+    requires { ⌜ i ≤ 15 ⌝ }
+    requires { ⌜ at ≤ 1500000 ⌝ }
+    ensures { λ r. ⌜ Wrote 1024 (map (shareIn (h .n) (now (table .entry)) i) (inputWires (planOf (now (plan .entry))) j)) at (now (out .entry)) (now (out .exit)) r ⌝ }
+{
+    let mut next = at;
+    let mut g: usize = 0;
+    while g < h.gates {
+        next = put_share(plan, h, j, g, table, i, next, out);
+        g += 1;
+    }
+    next
+}
+
+// The mail of round 0 to party i: its shares of all inputs, by the party that gave them.
+fn write_first(plan: &[u8], h: Header, table: &[u64], i: usize, at: usize, out: &mut [u8]) -> usize
+    requires { ⌜ Planned (now plan) h ⌝ }
+    requires { ⌜ 1 ≤ i ⌝ }
+    requires { ⌜ i ≤ 15 ⌝ }
+    requires { ⌜ at ≤ 1000000 ⌝ }
+    ensures { λ r. ⌜ Wrote 15360 (firstIn (planOf (now (plan .entry))) (h .n) (now (table .entry)) i) at (now (out .entry)) (now (out .exit)) r ⌝ }
+{
+    let mut next = at;
+    let mut j: usize = 0;
+    while j < h.n {
+        next = write_inputs_from(plan, h, j + 1, table, i, next, out);
+        j += 1;
+    }
+    next
+}
+
+// ---- outs
+
+// Party j's share of an out, where it is party i's.
+fn put_out(
+    i: usize,
+    o: Output,
+    table: &[u64],
+    n: usize,
+    j: usize,
+    at: usize,
+    out: &mut [u8],
+) -> usize
+    requires { ⌜ 1 ≤ n ⌝ }
+    requires { ⌜ n ≤ 15 ⌝ }
+    requires { ⌜ 1 ≤ j ⌝ }
+    requires { ⌜ j ≤ 15 ⌝ }
+    requires { ⌜ at ≤ 2000000 ⌝ }
+    ensures { λ r. ⌜ Wrote 1 (cond (eqb i (o .party)) (shareIn n (now (table .entry)) j (o .wire) ∷ []) []) at (now (out .entry)) (now (out .exit)) r ⌝ }
+{
+    put_if(i == o.party, share_in(table, n, j, o.wire), at, out)
+}
+
+// Party j's shares of party i's outs.
+fn write_outs_from(
+    plan: &[u8],
+    h: Header,
+    j: usize,
+    table: &[u64],
+    i: usize,
+    at: usize,
+    out: &mut [u8],
+) -> usize
+    requires { ⌜ Planned (now plan) h ⌝ }
+    requires { ⌜ 1 ≤ j ⌝ }
+    requires { ⌜ j ≤ 15 ⌝ }
+    requires { ⌜ at ≤ 1500000 ⌝ }
+    ensures { λ r. ⌜ Wrote 64 (map (shareIn (h .n) (now (table .entry)) j) (outWires (planOf (now (plan .entry))) i)) at (now (out .entry)) (now (out .exit)) r ⌝ }
+{
+    let n = h.n;
+    let mut next = at;
+    let mut k: usize = 0;
+    while k < h.outs {
+        let o = plan::out_at(plan, k);
+        next = put_out(i, o, table, n, j, next, out);
+        k += 1;
+    }
+    next
+}
+
+// The mail of the last round to party i: all parties' shares of its outs.
+fn write_outs(plan: &[u8], h: Header, table: &[u64], i: usize, at: usize, out: &mut [u8]) -> usize
+    requires { ⌜ Planned (now plan) h ⌝ }
+    requires { ⌜ at ≤ 1000000 ⌝ }
+    ensures { λ r. ⌜ Wrote 960 (outsIn (planOf (now (plan .entry))) (h .n) (now (table .entry)) i) at (now (out .entry)) (now (out .exit)) r ⌝ }
+{
+    let mut next = at;
+    let mut j: usize = 0;
+    while j < h.n {
+        next = write_outs_from(plan, h, j + 1, table, i, next, out);
+        j += 1;
+    }
+    next
+}
+
+// ---- results
+
+// Wire w's opening, from the shares of the first t + 1 parties.
+fn opening(h: Header, table: &[u64], w: usize) -> u64
+    requires { ⌜ Running h (now table) ⌝ }
+    requires { ⌜ w < h .gates ⌝ }
+    ensures { λ r. ⌜ Is (h .field .p) (openedIn h (now (table .entry)) w) r ⌝ }
+{
+    let points = seat_messages::points();
+    let n = h.n;
+    let a = n * w;
+    let e = a + n;
+    sharing_openings::opened(h.field, h.t, &points[..n], &table[a..e])
+}
+
+// The result of an out, where it is party i's.
+fn put_result(i: usize, o: Output, h: Header, table: &[u64], at: usize, out: &mut [u8]) -> usize
+    requires { ⌜ Running h (now table) ⌝ }
+    requires { ⌜ o .wire < h .gates ⌝ }
+    requires { ⌜ at ≤ 2000000 ⌝ }
+    ensures { λ r. ⌜ Wrote 1 (cond (eqb i (o .party)) (openedIn h (now (table .entry)) (o .wire) ∷ []) []) at (now (out .entry)) (now (out .exit)) r ⌝ }
+{
+    if i != o.party {
+        return at;
+    }
+    put(opening(h, table, o.wire), at, out)
+}
+
+// Party i's results.
+fn write_results(
+    plan: &[u8],
+    h: Header,
+    table: &[u64],
+    i: usize,
+    at: usize,
+    out: &mut [u8],
+) -> usize
+    requires { ⌜ Planned (now plan) h ⌝ }
+    requires { ⌜ Running h (now table) ⌝ }
+    requires { ⌜ at ≤ 1000000 ⌝ }
+    ensures { λ r. ⌜ Wrote 64 (map (openedIn h (now (table .entry))) (outWires (planOf (now (plan .entry))) i)) at (now (out .entry)) (now (out .exit)) r ⌝ }
+{
+    let mut next = at;
+    let mut k: usize = 0;
+    while k < h.outs {
+        let o = plan::out_at(plan, k);
+        next = put_result(i, o, h, table, next, out);
+        k += 1;
+    }
+    next
+}
+
+// ---- coins
+
+// The coins that a gate takes from the list of all.
+fn coins_taken(t: usize, gate: Gate) -> usize
+    requires { ⌜ t ≤ 7 ⌝ }
+    ensures { λ r. ⌜ record { eq : r ≡ coinsIn t gate; most : r ≤ 105 } ⌝ }
+{
+    match gate {
+        Gate::Input(_) => t,
+        Gate::Add(_, _) => 0,
+        Gate::Scale(_, _) => 0,
+        Gate::Offset(_, _) => 0,
+        Gate::Multiply(_, _) => t * (t + t + 1),
+    }
+}
+
+// The t coins from number `from` on.
+fn put_coins(t: usize, coins: &[u8], from: usize, at: usize, out: &mut [u8]) -> usize
+    requires { ⌜ t ≤ 7 ⌝ }
+    requires { ⌜ from ≤ 1000000 ⌝ }
+    requires { ⌜ at ≤ 1500000 ⌝ }
+    ensures { λ r. ⌜ Wrote 7 (coinsFrom t from (numbers (now (coins .entry)))) at (now (out .entry)) (now (out .exit)) r ⌝ }
+{
+    let mut next = at;
+    let mut j: usize = 0;
+    while j < t {
+        next = put(numbers::read(coins, from + j), next, out);
+        j += 1;
+    }
+    next
+}
+
+// Party i's coins of its dealing at a gate, whose coins begin at number `from`.
+fn put_dealing(
+    t: usize,
+    i: usize,
+    gate: Gate,
+    coins: &[u8],
+    from: usize,
+    at: usize,
+    out: &mut [u8],
+) -> usize
+    requires { ⌜ t ≤ 7 ⌝ }
+    requires { ⌜ 1 ≤ i ⌝ }
+    requires { ⌜ i ≤ 15 ⌝ }
+    requires { ⌜ from ≤ 500000 ⌝ }
+    requires { ⌜ at ≤ 1500000 ⌝ }
+    ensures { λ r. ⌜ Wrote 7 (ownAt t i (numbers (now (coins .entry))) from gate) at (now (out .entry)) (now (out .exit)) r ⌝ }
+{
+    match gate {
+        Gate::Input(s) => {
+            if i == s {
+                return put_coins(t, coins, from, at, out);
+            }
+            at
+        }
+        Gate::Add(_, _) => at,
+        Gate::Scale(_, _) => at,
+        Gate::Offset(_, _) => at,
+        Gate::Multiply(_, _) => {
+            if i <= t + t + 1 {
+                return put_coins(t, coins, from + t * (i - 1), at, out);
+            }
+            at
+        }
+    }
+}
+
+// Party i's own coins.
+fn write_coins(plan: &[u8], h: Header, i: usize, coins: &[u8], at: usize, out: &mut [u8]) -> usize
+    requires { ⌜ Planned (now plan) h ⌝ }
+    requires { ⌜ 1 ≤ i ⌝ }
+    requires { ⌜ i ≤ 15 ⌝ }
+    requires { ⌜ length (numbers (now coins)) ≡ coinCount (planOf (now plan)) ⌝ }
+    requires { ⌜ at ≤ 1000000 ⌝ }
+    ensures { λ r. ⌜ Wrote 7168 (ownCoins (planOf (now (plan .entry))) i (numbers (now (coins .entry)))) at (now (out .entry)) (now (out .exit)) r ⌝ }
+{
+    let t = h.t;
+    let mut next = at;
+    let mut from: usize = 0;
+    let mut g: usize = 0;
+    while g < h.gates {
+        let gate = plan::gate_at(plan, g);
+        next = put_dealing(t, i, gate, coins, from, next, out);
+        from += coins_taken(t, gate);
+        g += 1;
+    }
+    next
+}
+
+// ---- pieces
+
+// The share of the dealing of s with the t coins from number `from` on, at the point whose powers are lent; m is the reciprocal.
+fn dealt(f: Field, m: u64, t: usize, powers: &[u64], s: u64, coins: &[u8], from: usize) -> u64
+    requires { ⌜ Ready (f .p) ⌝ }
+    requires { ⌜ m ≡ reciprocal (f .p) ⌝ }
+    requires { ⌜ t ≤ 7 ⌝ }
+    requires { ⌜ length (now powers) ≡ t + 1 ⌝ }
+    requires { ⌜ allBelow (f .p) (now powers) ≡ true ⌝ }
+    requires { ⌜ s < f .p ⌝ }
+    requires { ⌜ from + t ≤ length (now coins) / 2 ⌝ }
+    requires { ⌜ allBelow (f .p) (numbers (now coins)) ≡ true ⌝ }
+    ensures { λ r. ⌜ Is (f .p) (dot (f .p) (now (powers .entry)) (s ∷ coinsFrom t from (numbers (now (coins .entry))))) r ⌝ }
+{
+    let mut sum = f.product(powers[0], s);
+    let mut j: usize = 0;
+    while j < t {
+        let k = j + 1;
+        sum += f.product(powers[k], numbers::number(coins, from + j));
+        j = k;
+    }
+    f.reduced(m, sum)
+}
+
+// Party i's product of its shares of two wires; m is the reciprocal.
+fn product(h: Header, m: u64, table: &[u64], a: usize, b: usize, i: usize) -> u64
+    requires { ⌜ Running h (now table) ⌝ }
+    requires { ⌜ m ≡ reciprocal (h .field .p) ⌝ }
+    requires { ⌜ 1 ≤ i ⌝ }
+    requires { ⌜ i ≤ 15 ⌝ }
+    ensures { λ r. ⌜ Is (h .field .p) (mul (h .field .p) (shareIn (h .n) (now (table .entry)) i a) (shareIn (h .n) (now (table .entry)) i b)) r ⌝ }
+{
+    let f = h.field;
+    let n = h.n;
+    f.reduced(
+        m,
+        f.product(share_in(table, n, i, a), share_in(table, n, i, b)),
+    )
+}
+
+// The piece of dealer d's product, d counted from 0, when its coins begin at number `from`; m is the reciprocal.
+fn put_piece(
+    h: Header,
+    m: u64,
+    a: usize,
+    b: usize,
+    d: usize,
+    table: &[u64],
+    coins: &[u8],
+    from: usize,
+    powers: &[u64],
+    at: usize,
+    out: &mut [u8],
+) -> usize
+    requires { ⌜ Running h (now table) ⌝ }
+    requires { ⌜ m ≡ reciprocal (h .field .p) ⌝ }
+    requires { ⌜ PowerRow h (now powers) ⌝ }
+    requires { ⌜ allBelow (h .field .p) (numbers (now coins)) ≡ true ⌝ }
+    requires { ⌜ d ≤ 14 ⌝ }
+    requires { ⌜ from + h .t ≤ length (now coins) / 2 ⌝ }
+    requires { ⌜ at ≤ 2000000 ⌝ }
+    ensures { λ r. ⌜ Wrote 1 (dot (h .field .p) (now (powers .entry)) (mul (h .field .p) (shareIn (h .n) (now (table .entry)) (d + 1) a) (shareIn (h .n) (now (table .entry)) (d + 1) b) ∷ coinsFrom (h .t) from (numbers (now (coins .entry)))) ∷ []) at (now (out .entry)) (now (out .exit)) r ⌝ }
+{
+    let s = product(h, m, table, a, b, d + 1);
+    put(dealt(h.field, m, h.t, powers, s, coins, from), at, out)
+}
+
+// The pieces of all dealers' products, when the first dealer's coins begin at number `from`.
+fn put_pieces(
+    h: Header,
+    a: usize,
+    b: usize,
+    table: &[u64],
+    coins: &[u8],
+    from: usize,
+    powers: &[u64],
+    at: usize,
+    out: &mut [u8],
+) -> usize
+    requires { ⌜ Running h (now table) ⌝ }
+    requires { ⌜ PowerRow h (now powers) ⌝ }
+    requires { ⌜ allBelow (h .field .p) (numbers (now coins)) ≡ true ⌝ }
+    requires { ⌜ from + h .t * (h .t + h .t + 1) ≤ length (now coins) / 2 ⌝ }
+    requires { ⌜ at ≤ 1500000 ⌝ }
+    ensures { λ r. ⌜ Wrote 15 (tab (pieceIn h (now (table .entry)) a b (numbers (now (coins .entry))) from (now (powers .entry))) (h .t + h .t + 1)) at (now (out .entry)) (now (out .exit)) r ⌝ }
+{
+    let t = h.t;
+    let dealers = t + t + 1;
+    let m = h.field.reciprocal();
+    let mut next = at;
+    let mut place = from;
+    let mut d: usize = 0;
+    while d < dealers {
+        next = put_piece(h, m, a, b, d, table, coins, place, powers, next, out);
+        place += t;
+        d += 1;
+    }
+    next
+}
+
+// The pieces of a gate's products.
+fn put_multiply(
+    h: Header,
+    gate: Gate,
+    table: &[u64],
+    coins: &[u8],
+    from: usize,
+    powers: &[u64],
+    at: usize,
+    out: &mut [u8],
+) -> usize
+    requires { ⌜ Running h (now table) ⌝ }
+    requires { ⌜ PowerRow h (now powers) ⌝ }
+    requires { ⌜ allBelow (h .field .p) (numbers (now coins)) ≡ true ⌝ }
+    requires { ⌜ from + coinsIn (h .t) gate ≤ length (now coins) / 2 ⌝ }
+    requires { ⌜ at ≤ 1500000 ⌝ }
+    ensures { λ r. ⌜ Wrote 15 (piecesIn h (now (table .entry)) (numbers (now (coins .entry))) from (now (powers .entry)) gate) at (now (out .entry)) (now (out .exit)) r ⌝ }
+{
+    match gate {
+        Gate::Input(_) => at,
+        Gate::Add(_, _) => at,
+        Gate::Scale(_, _) => at,
+        Gate::Offset(_, _) => at,
+        Gate::Multiply(a, b) => put_pieces(h, a, b, table, coins, from, powers, at, out),
+    }
+}
+
+// The mail of the multiplies' rounds at the point whose powers are lent: the pieces of each.
+fn write_middle(
+    plan: &[u8],
+    h: Header,
+    table: &[u64],
+    coins: &[u8],
+    powers: &[u64],
+    at: usize,
+    out: &mut [u8],
+) -> usize
+    requires { ⌜ Planned (now plan) h ⌝ }
+    requires { ⌜ Ran (planOf (now plan)) h (numbers (now coins)) (now table) ⌝ }
+    requires { ⌜ PowerRow h (now powers) ⌝ }
+    requires { ⌜ at ≤ 1000000 ⌝ }
+    ensures { λ r. ⌜ Wrote 15360 (middleIn (planOf (now (plan .entry))) h (now (table .entry)) (numbers (now (coins .entry))) (now (powers .entry))) at (now (out .entry)) (now (out .exit)) r ⌝ }
+{
+    let t = h.t;
+    let mut next = at;
+    let mut from: usize = 0;
+    let mut g: usize = 0;
+    while g < h.gates {
+        let gate = plan::gate_at(plan, g);
+        next = put_multiply(h, gate, table, coins, from, powers, next, out);
+        from += coins_taken(t, gate);
+        g += 1;
+    }
+    next
+}
+
+// ---- views
+
+// The powers of party i's point, t + 1 of them.
+fn power_row(h: Header, i: usize) -> [u64; 8]
+    requires { ⌜ Ready (h .field .p) ⌝ }
+    requires { ⌜ h .t ≤ 7 ⌝ }
+    requires { ⌜ i < h .field .p ⌝ }
+    ensures { λ r. ⌜ take (h .t + 1) r ≡ powers (h .field .p) i (h .t + 1) ⌝ }
+{
+    let mut row = [0u64; 8];
+    let k = h.t + 1;
+    run_dealings::powers(h.field, i as u64, &mut row[..k]);
+    row
+}
+
+// All mail to party i.
+fn write_mail(
+    plan: &[u8],
+    h: Header,
+    coins: &[u8],
+    table: &[u64],
+    i: usize,
+    at: usize,
+    out: &mut [u8],
+) -> usize
+    requires { ⌜ Planned (now plan) h ⌝ }
+    requires { ⌜ Ran (planOf (now plan)) h (numbers (now coins)) (now table) ⌝ }
+    requires { ⌜ 1 ≤ i ⌝ }
+    requires { ⌜ i ≤ h .n ⌝ }
+    requires { ⌜ at ≤ 900000 ⌝ }
+    ensures { λ r. ⌜ Wrote 31680 (mailIn (planOf (now (plan .entry))) h (now (table .entry)) (numbers (now (coins .entry))) i) at (now (out .entry)) (now (out .exit)) r ⌝ }
+{
+    let row = power_row(h, i);
+    let k = h.t + 1;
+    let a = write_first(plan, h, table, i, at, out);
+    let b = write_middle(plan, h, table, coins, &row[..k], a, out);
+    write_outs(plan, h, table, i, b, out)
+}
+
+// Party i's view.
+fn write_view(
+    plan: &[u8],
+    h: Header,
+    inputs: &[u8],
+    coins: &[u8],
+    table: &[u64],
+    i: usize,
+    at: usize,
+    out: &mut [u8],
+) -> usize
+    requires { ⌜ Planned (now plan) h ⌝ }
+    requires { ⌜ Ran (planOf (now plan)) h (numbers (now coins)) (now table) ⌝ }
+    requires { ⌜ 1 ≤ i ⌝ }
+    requires { ⌜ i ≤ h .n ⌝ }
+    requires { ⌜ at ≤ 800000 ⌝ }
+    ensures { λ r. ⌜ Wrote 39936 (viewIn (planOf (now (plan .entry))) h (now (table .entry)) (numbers (now (inputs .entry))) (numbers (now (coins .entry))) i) at (now (out .entry)) (now (out .exit)) r ⌝ }
+{
+    let a = write_inputs(plan, h, i, inputs, at, out);
+    let b = write_coins(plan, h, i, coins, a, out);
+    let c = write_mail(plan, h, coins, table, i, b, out);
+    write_results(plan, h, table, i, c, out)
+}
+
+// Party i's view, where it is a member.
+fn write_member(
+    plan: &[u8],
+    h: Header,
+    set: u16,
+    inputs: &[u8],
+    coins: &[u8],
+    table: &[u64],
+    i: usize,
+    at: usize,
+    out: &mut [u8],
+) -> usize
+    requires { ⌜ Planned (now plan) h ⌝ }
+    requires { ⌜ Ran (planOf (now plan)) h (numbers (now coins)) (now table) ⌝ }
+    requires { ⌜ setFits (h .n) (h .t) set ≡ true ⌝ }
+    requires { ⌜ 1 ≤ i ⌝ }
+    requires { ⌜ i ≤ 16 ⌝ }
+    requires { ⌜ at ≤ 800000 ⌝ }
+    ensures { λ r. ⌜ Wrote 39936 (cond (inSet set i) (viewIn (planOf (now (plan .entry))) h (now (table .entry)) (numbers (now (inputs .entry))) (numbers (now (coins .entry))) i) []) at (now (out .entry)) (now (out .exit)) r ⌝ }
+{
+    if !plan_coalition::is_member(set, i) {
+        return at;
+    }
+    write_view(plan, h, inputs, coins, table, i, at, out)
+}
+
+// The view of a coalition, its members ascending, from the table of shares of the run.
+pub fn write_views(
+    plan: &[u8],
+    h: Header,
+    set: u16,
+    inputs: &[u8],
+    coins: &[u8],
+    table: &[u64],
+    out: &mut [u8],
+)
+    requires { ⌜ Planned (now plan) h ⌝ }
+    requires { ⌜ Given (planOf (now plan)) (now inputs) (now coins) ⌝ }
+    requires { ⌜ now table ≡ rowsOf (planOf (now plan) .points) (shareTable (planOf (now plan)) (numbers (now inputs)) (numbers (now coins))) ⌝ }
+    requires { ⌜ setFits (h .n) (h .t) set ≡ true ⌝ }
+    requires { ⌜ length (now out) ≡ 2 * viewCount (planOf (now plan)) (members set) ⌝ }
+    ensures { λ _. ⌜ now (out .exit) ≡ bytesOf (flatMap (tableViewOf (planOf (now (plan .entry))) (numbers (now (inputs .entry))) (numbers (now (coins .entry)))) (members set)) ⌝ }
+{
+    let mut at: usize = 0;
+    let mut i: usize = 1;
+    while i <= 16 {
+        at = write_member(plan, h, set, inputs, coins, table, i, at, out);
+        i += 1;
+    }
+}

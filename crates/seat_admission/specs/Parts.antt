@@ -1,0 +1,65 @@
+-- Refusals 9 to 20 in parts: one list of checks for each thing that a call takes.
+use Prim.Native.Nat.{ℕ, suc, _+_, _*_, _≤_, _<_}
+use mathlib.Core.Bool.{Bool, not, _&&_}
+use mathlib.Core.List.{List, [], _∷_, _++_}
+use lib.Dec.{eqb, leb}
+use lib.ListN.{drop, getD}
+use Rattle.numbers.specs.Tables.{tab, firstFailing}
+use Rattle.numbers.specs.Bytes.{numbers, holdsCount, firstOver, allBelow}
+use Rattle.sharing_laws.specs.Sharing.{firstOff}
+use Rattle.field.specs.Field.{Ready}
+use Rattle.plan.specs.declared.Header.{Header}
+use Rattle.plan.specs.declared.Checked.{Checked}
+use Rattle.plan.specs.declared.Refusal.{Refusal}
+use Rattle.plan.specs.declared.Refusal.the-variants as refusal
+use Rattle.plan.specs.Refusals.{need, unlessFound}
+use Rattle.plan.specs.Plans.{Plan, partyCount, ownInputCount, ownCoinCount, ownOutCount, mailCount, writtenCount}
+use Rattle.plan.specs.File.{between}
+use Rattle.seat_messages.specs.Messages.{sharesOfOut}
+use Rattle.seat_messages.specs.Calls.{nothingFound, openingCheck}
+
+-- the checks of a lent list: its count, then the first of its numbers that isn't below p
+unfoldable pub listChecks : Refusal → (ℕ → Refusal) → ℕ → ℕ → List ℕ → List Checked
+listChecks few over p count bs = need few (holdsCount count bs) ∷ unlessFound over (firstOver p (numbers bs)) ∷ []
+
+-- refusals 9 to 13
+unfoldable pub ownChecks : Plan → ℕ → List ℕ → List ℕ → List Checked
+ownChecks plan i inputs coins =
+    need refusal.Coalition (between 1 (partyCount plan) i)
+    ∷ listChecks refusal.InputCount refusal.InputValue (plan .p) (ownInputCount plan i) inputs
+    ++ listChecks refusal.CoinCount refusal.CoinValue (plan .p) (ownCoinCount plan i) coins
+
+-- refusals 14 to 16 for a plan of so many gates, of which so many are multiplies
+unfoldable pub stateChecks : ℕ → ℕ → ℕ → List ℕ → List Checked
+stateChecks p gates mults state =
+    need refusal.StateCount (holdsCount (1 + gates) state)
+    ∷ need refusal.StateValue (leb (getD (numbers state) 0 0) (mults + 3) && allBelow p (drop 1 (numbers state)))
+    ∷ need refusal.Finished (not (eqb (getD (numbers state) 0 0) (mults + 3)))
+    ∷ []
+
+-- refusals 17 to 20
+unfoldable pub mailChecks : Plan → ℕ → ℕ → List ℕ → ℕ → List Checked
+mailChecks plan i k mail room =
+    listChecks refusal.MailCount refusal.MailValue (plan .p) (mailCount plan i k) mail
+    ++ need refusal.BufferLength (eqb room (2 * writtenCount plan i k))
+    ∷ openingCheck plan i k (numbers mail)
+    ∷ []
+
+-- whether the n shares of a party's own out j lie on one polynomial of degree t or less
+unfoldable pub outLies : Header → ℕ → List ℕ → ℕ → Bool
+outLies h own mail j = nothingFound (firstOff (h .field .p) (h .t) (tab suc (h .n)) (sharesOfOut (h .n) own j mail))
+
+-- refusal 20 of the last call
+unfoldable pub outsCheck : Plan → ℕ → List ℕ → Checked
+outsCheck plan i mail =
+    unlessFound refusal.OffPolynomial
+    (firstFailing (λ j. nothingFound (firstOff (plan .p) (plan .t) (plan .points) (sharesOfOut (partyCount plan) (ownOutCount plan i) j mail)))
+    (ownOutCount plan i))
+
+-- contents of a plan whose outs can be opened, and a party's number of outs
+pub record OwnOuts (h : Header) (own : ℕ) : Type 0 where
+  pub ready : Ready (h .field .p)
+  pub n-high : h .n ≤ 15
+  pub majority : 2 * h .t < h .n
+  pub p-low : h .n < h .field .p
+  pub own-high : own ≤ 64

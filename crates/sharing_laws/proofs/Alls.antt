@@ -1,0 +1,37 @@
+-- What holds of every entry of a list, of parts of it; points apart from each other.
+use mathlib.Core.Logic.{_≢_}
+use mathlib.Core.List.{List, [], _∷_, _++_}
+use Prim.Native.Nat.{ℕ, zero, suc, _%_, _<_}
+use native.Mathlib.Omega.{arith}
+use lib.ListN.{length, take, drop, getD}
+use Rattle.numbers.specs.Tables.{tab}
+use Rattle.sharing_laws.specs.Interp.{All, Distinct}
+
+pub all-tab : (P : ℕ → Type 0) (f : ℕ → ℕ) (n : ℕ) → ((k : ℕ) → k < n → P (f k)) → All P (tab f n)
+unfolding tab
+all-tab P f zero h = tt
+all-tab P f (suc n) h = (h 0 (omega arith), all-tab P (λ k. f (suc k)) n (λ k l. h (suc k) (omega arith)))
+
+pub all-append : (P : ℕ → Type 0) (xs ys : List ℕ) → All P xs → All P ys → All P (xs ++ ys)
+all-append P [] ys a b = b
+all-append P (x ∷ xs) ys a b = (a .0, all-append P xs ys (a .1) b)
+
+pub all-take : (P : ℕ → Type 0) (n : ℕ) (xs : List ℕ) → All P xs → All P (take n xs)
+all-take P zero xs a = tt
+all-take P (suc n) [] a = tt
+all-take P (suc n) (x ∷ xs) a = (a .0, all-take P n xs (a .1))
+
+pub all-drop : (P : ℕ → Type 0) (n : ℕ) (xs : List ℕ) → All P xs → All P (drop n xs)
+all-drop P zero xs a = a
+all-drop P (suc n) [] a = tt
+all-drop P (suc n) (x ∷ xs) a = all-drop P n xs (a .1)
+
+pub all-at : (P : ℕ → Type 0) (xs : List ℕ) (i : ℕ) → All P xs → i < length xs → P (getD xs i 0)
+all-at P [] i a l = absurd (omega arith)
+all-at P (x ∷ xs) zero a l = a .0
+all-at P (x ∷ xs) (suc i) a l = all-at P xs i (a .1) (omega arith)
+
+pub distinct-take : (p k : ℕ) (xs : List ℕ) → Distinct p xs → Distinct p (take k xs)
+distinct-take p zero xs d = tt
+distinct-take p (suc k) [] d = tt
+distinct-take p (suc k) (x ∷ xs) d = (all-take (λ y. y % p ≢ x % p) k xs (d .0), distinct-take p k xs (d .1))
