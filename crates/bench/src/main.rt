@@ -1,10 +1,15 @@
 // The bench program (document 01): reads a plan, a set, figures and coins from standard input, and prints the set's view of the run.
 use libc::STDIN_FILENO;
 use libc::STDOUT_FILENO;
+ghost use Prim.Native.Nat.{_≤_};
+ghost use lib.ListN.{length};
+ghost use Rattle.bench_fitting.specs.Fitting.{longest};
 
-fn print(input: &mut [u8], text: &mut [u8]) {
+fn print(input: &mut [u8], text: &mut [u8])
+    requires { ⌜ longest ≤ length (now text) ⌝ }
+{
     let n = io::read_full(STDIN_FILENO, input);
-    let m = bench_report::report(&input[..n], text);
+    let m = bench_fitting::text(&input[..n], text);
     io::write_all(STDOUT_FILENO, &text[..m]);
 }
 

@@ -1,23 +1,431 @@
--- Demand 1: a refused call leaves every buffer as it was lent.
-use Prim.Native.Nat.{ℕ}
-use mathlib.Core.Path.{_≡_, refl}
-use mathlib.Core.List.{List}
+-- Demand 1: the answer is the first refusal in checking order, C reads it whole, and a refused call leaves every buffer as it was lent.
+--     Numbers, first-of                         a list of checks by their numbers, in checking order
+--     Bounded, told                             places below 2^32
+--     demand1                                   the claim
+-- Assumes nothing.
+use Prim.Native.Nat.{ℕ, zero, suc, _+_, _*_, _/_, _%_, _<_, _≤_}
+use mathlib.Core.Path.{_≡_, refl, sym, ap, _∙_}
+use mathlib.Core.Bool.{Bool, true, false, cond, _&&_}
+use mathlib.Core.List.{List, [], _∷_, _++_}
+use native.Mathlib.Omega.{arith}
+use borrow.Author.Tests.{leb-true}
+use lib.Dec.{eqb, leb}
+use lib.ListN.{length, getD}
+use Rattle.numbers.specs.declared.Found.{Found}
+use Rattle.numbers.specs.declared.Found.the-variants.{At, Nothing}
+use Rattle.numbers.specs.Tables.{firstFailing}
+use Rattle.numbers.specs.Bytes.{numbers, holdsCount, firstOver}
+use Rattle.numbers.proofs.Truth.{both-true}
+use Rattle.numbers.proofs.Searches.{first-failing}
+use Rattle.numbers.proofs.Below.{firstOver-at}
+use Rattle.numbers.proofs.Bytes.{holds-numbers}
+use Rattle.sharing_laws.specs.Sharing.{firstOff}
 use Rattle.plan.specs.declared.Refusal.{Refusal}
+use Rattle.plan.specs.declared.Refusal.the-variants as refusal
 use Rattle.plan.specs.declared.Checked.{Checked}
 use Rattle.plan.specs.declared.Checked.the-variants.{Passed, Refused}
-use Rattle.seat_messages.specs.Calls.{unlessRefused, stateAfter, outAfter}
-use Rattle.run_bench.specs.BenchCalls.{viewAfter}
-use Rattle.match_agreement.specs.MatchCalls.{matchedAfter}
-use Rattle.demands.specs.Demands.{Total}
+use Rattle.plan.specs.Refusals.{numberOf, placeOf, codeOf, andThen, firstOf, need, unlessFound}
+use Rattle.plan.proofs.Refusals.{firstOf-append, passed-both, passed-need}
+use Rattle.plan.specs.Plans.{Plan, partyCount, multiplies, inputCount, ownInputCount, coinCount, ownCoinCount, ownOutCount, mailCount, sentCount}
+use Rattle.plan.specs.File.{gateCountAt, outCountAt, gateKept, outKept, layoutOk, planChecks, planCheck, planOf}
+use Rattle.plan.proofs.Planned.{between-true, Laid, laid}
+use Rattle.seat_messages.specs.Messages.{sharesOfOut}
+use Rattle.seat_messages.specs.Calls.{nothingFound, openingCheck, partyChecks, callChecks, callAnswer, unlessRefused, stateAfter, outAfter}
+use Rattle.run_bench.specs.BenchCalls.{runChecks, benchAnswer, benchedOf, viewAfter}
+use Rattle.match_agreement.specs.MatchCalls.{inputsAgree, outsAgree, pairChecks, matchAnswer, matchedAfter}
+use Rattle.pool_answers.specs.Sizes.{answerOf}
+use Rattle.demands.specs.Order.{checkingOrder, rankIn, rankOf}
+use Rattle.demands.specs.Demands.{Answers, Demand1}
+use Rattle.demands.proofs.Bounds.{outs-few, inputs-few, own-few, own-coins-few, coins-few, own-outs-few, mail-few, sent-few}
 
+infixr 5 _▹_
+infixr 5 _▸_
+-- ---- a check's number
+refused? : Checked → ℕ
+refused? Passed = 0
+refused? (Refused r) = 1
+
+numbered : Checked → ℕ
+numbered Passed = 0
+numbered (Refused r) = numberOf r
+
+clash : {A : Type 0} (q : Refusal) → Passed ≡ Refused q → A
+unfolding refused?
+clash q e = absurd (let z : _≡_ {A = ℕ} 0 1 = ap refused? e in omega (arith, z))
+
+same-number : (r q : Refusal) → Refused r ≡ Refused q → numberOf r ≡ numberOf q
+unfolding numbered
+same-number r q e = ap numbered e
+
+-- where this check refuses, its number is n
+record Numbered (n : ℕ) (c : Checked) : Type 0 where
+  is : (q : Refusal) → c ≡ Refused q → numberOf q ≡ n
+
+need-number : (r : Refusal) (ok : Bool) → Numbered (numberOf r) (need r ok)
+unfolding need
+need-number r true = record { is = λ q e. clash q e }
+need-number r false = record { is = λ q e. sym (same-number r q e) }
+
+found-number : (r : ℕ → Refusal) (n : ℕ) (f : Found) → ((i : ℕ) → numberOf (r i) ≡ n) → Numbered n (unlessFound r f)
+unfolding unlessFound
+found-number r n (At i) h = record { is = λ q e. sym (same-number (r i) q e) ∙ h i }
+found-number r n Nothing h = record { is = λ q e. clash q e }
+
+cond-number : (n : ℕ) (b : Bool) (c : Checked) → Numbered n c → Numbered n (cond b c Passed)
+cond-number n true c h = h
+cond-number n false c h = record { is = λ q e. clash q e }
+
+-- ---- a list of checks by their numbers
+data Numbers : List ℕ → List Checked → Type 0 where
+  none : Numbers [] []
+  _▹_ : {n : ℕ} {ns : List ℕ} {c : Checked} {cs : List Checked} → Numbered n c → Numbers ns cs → Numbers (n ∷ ns) (c ∷ cs)
+
+joined : {ns ms : List ℕ} {cs ds : List Checked} → Numbers ns cs → Numbers ms ds → Numbers (ns ++ ms) (cs ++ ds)
+joined none ds = ds
+joined (c ▹ cs) ds = c ▹ joined cs ds
+
+-- every number stands before those after it in checking order
+before : ℕ → List ℕ → Bool
+before n [] = true
+before n (m ∷ ms) = leb (rankIn checkingOrder n) (rankIn checkingOrder m) && before n ms
+
+ordered : List ℕ → Bool
+ordered [] = true
+ordered (n ∷ ns) = before n ns && ordered ns
+
+ranked-after : (n : ℕ) {ns : List ℕ} {cs : List Checked} → before n ns ≡ true → Numbers ns cs
+    → (k : ℕ) (q : Refusal) → getD cs k Passed ≡ Refused q → rankIn checkingOrder n ≤ rankOf q
+unfolding before rankOf
+ranked-after n b none k q e = clash q e
+ranked-after n {ns = m ∷ ms} b (c ▹ cs) zero q e =
+    let l : rankIn checkingOrder n ≤ rankIn checkingOrder m = leb-true _ _ (both-true _ (before n ms) b .0) in
+    rw (c .is q e) l
+ranked-after n {ns = m ∷ ms} b (c ▹ cs) (suc k) q e =
+    ranked-after n (both-true (leb (rankIn checkingOrder n) (rankIn checkingOrder m)) (before n ms) b .1) cs k q e
+
+pub first-passed : (cs : List Checked) → firstOf cs ≡ Passed → (k : ℕ) → getD cs k Passed ≡ Passed
+unfolding firstOf andThen
+first-passed [] e k = refl
+first-passed (Passed ∷ cs) e zero = refl
+first-passed (Passed ∷ cs) e (suc k) = first-passed cs e k
+first-passed (Refused r ∷ cs) e k = clash r (sym e)
+
+first-among : (cs : List Checked) (r : Refusal) → firstOf cs ≡ Refused r → (k : ℕ) × (k < length cs) × (getD cs k Passed ≡ Refused r)
+unfolding firstOf andThen
+first-among [] r e = clash r e
+first-among (Passed ∷ cs) r e = let o = first-among cs r e in (suc (o .0), omega (arith, o .1), o .2)
+first-among (Refused q ∷ cs) r e = (0, omega arith, e)
+
+first-ranked : {ns : List ℕ} (cs : List Checked) → Numbers ns cs → ordered ns ≡ true → (r : Refusal) → firstOf cs ≡ Refused r
+    → (k : ℕ) (q : Refusal) → getD cs k Passed ≡ Refused q → rankOf r ≤ rankOf q
+unfolding firstOf andThen ordered rankOf
+first-ranked [] none o r e k q h = clash r e
+first-ranked (Passed ∷ cs) (c ▹ ns) o r e zero q h = clash q h
+first-ranked {ns = n ∷ ms} (Passed ∷ cs) (c ▹ ns) o r e (suc k) q h = first-ranked cs ns (both-true (before n ms) (ordered ms) o .1) r e k q h
+first-ranked (Refused s ∷ cs) (c ▹ ns) o r e zero q h = rw (← same-number s r e, ← same-number s q h) (omega arith)
+first-ranked {ns = n ∷ ms} (Refused s ∷ cs) (c ▹ ns) o r e (suc k) q h =
+    let m : numberOf r ≡ n = sym (same-number s r e) ∙ c .is s refl in
+    rw m (ranked-after n (both-true (before n ms) (ordered ms) o .0) ns k q h)
+
+-- ---- a check's place
+number-range : (r : Refusal) → (1 ≤ numberOf r) × (numberOf r ≤ 22)
+unfolding numberOf
+number-range refusal.Magic = (omega arith, omega arith)
+number-range refusal.Version = (omega arith, omega arith)
+number-range refusal.Parties = (omega arith, omega arith)
+number-range refusal.Threshold = (omega arith, omega arith)
+number-range refusal.Modulus = (omega arith, omega arith)
+number-range refusal.Layout = (omega arith, omega arith)
+number-range (refusal.GateRule g) = (omega arith, omega arith)
+number-range (refusal.OutputRule o) = (omega arith, omega arith)
+number-range refusal.Coalition = (omega arith, omega arith)
+number-range refusal.InputCount = (omega arith, omega arith)
+number-range (refusal.InputValue i) = (omega arith, omega arith)
+number-range refusal.CoinCount = (omega arith, omega arith)
+number-range (refusal.CoinValue i) = (omega arith, omega arith)
+number-range refusal.StateCount = (omega arith, omega arith)
+number-range refusal.StateValue = (omega arith, omega arith)
+number-range refusal.Finished = (omega arith, omega arith)
+number-range refusal.MailCount = (omega arith, omega arith)
+number-range (refusal.MailValue i) = (omega arith, omega arith)
+number-range refusal.BufferLength = (omega arith, omega arith)
+number-range (refusal.OffPolynomial o) = (omega arith, omega arith)
+number-range (refusal.InputsDiffer i) = (omega arith, omega arith)
+number-range (refusal.OutputsDiffer o) = (omega arith, omega arith)
+
+placed : Checked → ℕ
+placed Passed = 0
+placed (Refused r) = placeOf r
+
+same-place : (r q : Refusal) → Refused r ≡ Refused q → placeOf r ≡ placeOf q
+unfolding placed
+same-place r q e = ap placed e
+
+-- where this check refuses, its place is below 2^32
+abbrev Small : Checked → Type 0
+Small c = (q : Refusal) → c ≡ Refused q → placeOf q < 4294967296
+
+need-small : (r : Refusal) (ok : Bool) → placeOf r ≡ 0 → Small (need r ok)
+unfolding need
+need-small r true z q e = clash q e
+need-small r false z q e = omega (arith, z, same-place r q e)
+
+found-small : (r : ℕ → Refusal) (f : Found) → ((i : ℕ) → placeOf (r i) ≡ i) → ((i : ℕ) → f ≡ At i → i < 4294967296) → Small (unlessFound r f)
+unfolding unlessFound
+found-small r (At i) z l q e = omega (arith, z i, l i refl, same-place (r i) q e)
+found-small r Nothing z l q e = clash q e
+
+cond-small : (b : Bool) (c : Checked) → Small c → Small (cond b c Passed)
+cond-small true c h q e = h q e
+cond-small false c h q e = clash q e
+
+-- a search among so many
+search-small : (ok : ℕ → Bool) (n : ℕ) → n ≤ 4294967296 → (i : ℕ) → firstFailing ok n ≡ At i → i < 4294967296
+search-small ok n l i e = omega (arith, first-failing ok n i e .within)
+
+-- the numbers of a list that has so many
+list-small : (few : Refusal) (over : ℕ → Refusal) (p n : ℕ) (bs : List ℕ) → ((i : ℕ) → placeOf (over i) ≡ i) → n ≤ 4294967296
+    → need few (holdsCount n bs) ≡ Passed → Small (unlessFound over (firstOver p (numbers bs)))
+list-small few over p n bs o l e =
+    found-small over (firstOver p (numbers bs)) o
+    (λ i q. omega (arith, l, firstOver-at p (numbers bs) i q .within, holds-numbers n bs (passed-need few (holdsCount n bs) e)))
+
+-- ---- a list of checks, each of which may rest on those before it
+data Bounded : List Checked → Type 0 where
+  none : Bounded []
+  _▸_ : {c : Checked} {cs : List Checked} → Small c → (c ≡ Passed → Bounded cs) → Bounded (c ∷ cs)
+
+bounded-first : {cs : List Checked} → Bounded cs → Small (firstOf cs)
+unfolding firstOf andThen
+bounded-first Bounded.none q e = clash q e
+bounded-first (_▸_ {c = Passed} s rest) q e = bounded-first (rest refl) q e
+bounded-first (_▸_ {c = Refused r} s rest) q e = s q e
+
+bounded-joined : {cs ds : List Checked} → Bounded cs → (firstOf cs ≡ Passed → Bounded ds) → Bounded (cs ++ ds)
+unfolding firstOf andThen
+bounded-joined Bounded.none h = h refl
+bounded-joined (_▸_ {c = Passed} s rest) h = s ▸ λ e. bounded-joined (rest e) h
+bounded-joined (_▸_ {c = Refused r} s rest) h = s ▸ λ e. clash r (sym e)
+
+-- ---- the answer to a list of checks
+module _ {ns : List ℕ} {cs : List Checked} (K : Type 0) (numbers : Numbers ns cs) (order : ordered ns ≡ true) (bounded : Bounded cs)
+    (kept : (r : Refusal) → firstOf cs ≡ Refused r → K) where
+  told-none : (a : Checked) → codeOf a ≡ 0 → a ≡ Passed
+  unfolding codeOf
+  told-none Passed e = refl
+  told-none (Refused q) e = absurd (omega (arith, number-range q .0, e))
+
+  told-number : (r : Refusal) → codeOf (Refused r) % 256 ≡ numberOf r
+  unfolding codeOf
+  told-number r = omega (arith, number-range r .1)
+
+  told-place : (r : Refusal) → placeOf r < 4294967296 → codeOf (Refused r) / 256 ≡ placeOf r
+  unfolding codeOf
+  told-place r l = omega (arith, number-range r .1, l)
+
+  answers : Answers cs (firstOf cs) K
+  answers = record {
+    passed = first-passed cs;
+    among = first-among cs;
+    first = first-ranked cs numbers order;
+    none = told-none (firstOf cs);
+    number = λ r e. ap (λ (a : Checked). codeOf a % 256) e ∙ told-number r;
+    place = λ r e. ap (λ (a : Checked). codeOf a / 256) e ∙ told-place r (bounded-first bounded r e);
+    kept = kept;
+  }
+
+-- ---- the checks of each call
+abbrev planNumbers : List ℕ
+planNumbers = 1 ∷ 2 ∷ 3 ∷ 4 ∷ 5 ∷ 6 ∷ 7 ∷ 8 ∷ []
+
+abbrev partyNumbers : List ℕ
+partyNumbers = 9 ∷ 10 ∷ 11 ∷ 12 ∷ 13 ∷ 14 ∷ 15 ∷ 16 ∷ 17 ∷ 18 ∷ 19 ∷ 20 ∷ []
+
+abbrev runNumbers : List ℕ
+runNumbers = 9 ∷ 10 ∷ 11 ∷ 12 ∷ 13 ∷ 19 ∷ []
+
+abbrev pairNumbers : List ℕ
+pairNumbers = 9 ∷ 10 ∷ 10 ∷ 11 ∷ 11 ∷ 12 ∷ 13 ∷ 19 ∷ 21 ∷ 22 ∷ []
+
+plan-numbers : (bs : List ℕ) → Numbers planNumbers (planChecks bs)
+unfolding planChecks numberOf
+plan-numbers bs =
+    need-number refusal.Magic _
+    ▹ need-number refusal.Version _
+    ▹ need-number refusal.Parties _
+    ▹ need-number refusal.Threshold _
+    ▹ need-number refusal.Modulus _
+    ▹ need-number refusal.Layout _
+    ▹ found-number refusal.GateRule 7 _ (λ i. refl)
+    ▹ found-number refusal.OutputRule 8 _ (λ i. refl)
+    ▹ none
+
+opening-number : (plan : Plan) (i k : ℕ) (mail : List ℕ) → Numbered 20 (openingCheck plan i k mail)
+unfolding openingCheck numberOf
+opening-number plan i k mail =
+    let f : Found = firstFailing (λ j. nothingFound (firstOff (plan .p) (plan .t) (plan .points) (sharesOfOut (partyCount plan) (ownOutCount plan i) j mail))) (ownOutCount plan i) in
+    cond-number 20 (eqb k (multiplies plan + 2)) (unlessFound refusal.OffPolynomial f) (found-number refusal.OffPolynomial 20 f (λ o. refl))
+
+inputs-number : (plan : Plan) (set : ℕ) (xs ys : List ℕ) → Numbered 21 (inputsAgree plan set xs ys)
+unfolding inputsAgree numberOf
+inputs-number plan set xs ys = found-number refusal.InputsDiffer 21 _ (λ i. refl)
+
+outs-number : (plan : Plan) (set : ℕ) (xs ys : List ℕ) → Numbered 22 (outsAgree plan set xs ys)
+unfolding outsAgree numberOf
+outs-number plan set xs ys = found-number refusal.OutputsDiffer 22 _ (λ o. refl)
+
+party-numbers : (plan : Plan) (i : ℕ) (inputs coins state mail : List ℕ) (room : ℕ) → Numbers partyNumbers (partyChecks plan i inputs coins state mail room)
+unfolding partyChecks numberOf
+party-numbers plan i inputs coins state mail room =
+    need-number refusal.Coalition _
+    ▹ need-number refusal.InputCount _
+    ▹ found-number refusal.InputValue 11 _ (λ j. refl)
+    ▹ need-number refusal.CoinCount _
+    ▹ found-number refusal.CoinValue 13 _ (λ j. refl)
+    ▹ need-number refusal.StateCount _
+    ▹ need-number refusal.StateValue _
+    ▹ need-number refusal.Finished _
+    ▹ need-number refusal.MailCount _
+    ▹ found-number refusal.MailValue 18 _ (λ j. refl)
+    ▹ need-number refusal.BufferLength _
+    ▹ opening-number plan i _ _
+    ▹ none
+
+run-numbers : (plan : Plan) (set : ℕ) (xs coins : List ℕ) (room : ℕ) → Numbers runNumbers (runChecks plan set xs coins room)
+unfolding runChecks numberOf
+run-numbers plan set xs coins room =
+    need-number refusal.Coalition _
+    ▹ need-number refusal.InputCount _
+    ▹ found-number refusal.InputValue 11 _ (λ j. refl)
+    ▹ need-number refusal.CoinCount _
+    ▹ found-number refusal.CoinValue 13 _ (λ j. refl)
+    ▹ need-number refusal.BufferLength _
+    ▹ none
+
+pair-numbers : (plan : Plan) (set : ℕ) (xs ys coins : List ℕ) (room : ℕ) → Numbers pairNumbers (pairChecks plan set xs ys coins room)
+unfolding pairChecks numberOf
+pair-numbers plan set xs ys coins room =
+    need-number refusal.Coalition _
+    ▹ need-number refusal.InputCount _
+    ▹ need-number refusal.InputCount _
+    ▹ found-number refusal.InputValue 11 _ (λ j. refl)
+    ▹ found-number refusal.InputValue 11 _ (λ j. refl)
+    ▹ need-number refusal.CoinCount _
+    ▹ found-number refusal.CoinValue 13 _ (λ j. refl)
+    ▹ need-number refusal.BufferLength _
+    ▹ inputs-number plan set _ _
+    ▹ outs-number plan set _ _
+    ▹ none
+
+plan-bounded : (bs : List ℕ) → Bounded (planChecks bs)
+unfolding planChecks placeOf
+plan-bounded bs =
+    need-small refusal.Magic _ refl
+    ▸ λ e1. need-small refusal.Version _ refl
+    ▸ λ e2. need-small refusal.Parties _ refl
+    ▸ λ e3. need-small refusal.Threshold _ refl
+    ▸ λ e4. need-small refusal.Modulus _ refl
+    ▸ λ e5. need-small refusal.Layout (layoutOk bs) refl
+    ▸ λ e6. gates-small (laid bs (passed-need refusal.Layout (layoutOk bs) e6))
+    ▸ λ e7. outs-small (laid bs (passed-need refusal.Layout (layoutOk bs) e6))
+    ▸ λ e8. Bounded.none
+  where
+    gates-small : Laid bs → Small (unlessFound refusal.GateRule (firstFailing (gateKept bs) (gateCountAt bs)))
+    gates-small l = found-small refusal.GateRule _ (λ i. refl) (search-small (gateKept bs) (gateCountAt bs) (omega (arith, between-true 1 1024 (gateCountAt bs) (l .gates) .1)))
+
+    outs-small : Laid bs → Small (unlessFound refusal.OutputRule (firstFailing (outKept bs) (outCountAt bs)))
+    outs-small l = found-small refusal.OutputRule _ (λ i. refl) (search-small (outKept bs) (outCountAt bs) (omega (arith, between-true 1 64 (outCountAt bs) (l .outs) .1)))
+
+module _ (bs : List ℕ) (passes : planCheck bs ≡ Passed) where
+  opening-small : (i k : ℕ) (mail : List ℕ) → Small (openingCheck (planOf bs) i k mail)
+  unfolding openingCheck placeOf
+  opening-small i k mail =
+      let ok : ℕ → Bool = λ j. nothingFound (firstOff (planOf bs .p) (planOf bs .t) (planOf bs .points) (sharesOfOut (partyCount (planOf bs)) (ownOutCount (planOf bs) i) j mail)) in
+      cond-small (eqb k (multiplies (planOf bs) + 2)) (unlessFound refusal.OffPolynomial (firstFailing ok (ownOutCount (planOf bs) i)))
+      (found-small refusal.OffPolynomial (firstFailing ok (ownOutCount (planOf bs) i)) (λ o. refl) (search-small ok (ownOutCount (planOf bs) i) (omega (arith, own-outs-few bs passes i))))
+
+  inputs-small : (set : ℕ) (xs ys : List ℕ) → Small (inputsAgree (planOf bs) set xs ys)
+  unfolding inputsAgree placeOf
+  inputs-small set xs ys = found-small refusal.InputsDiffer _ (λ i. refl) (search-small _ (inputCount (planOf bs)) (omega (arith, inputs-few bs passes)))
+
+  outs-small : (set : ℕ) (vs ws : List ℕ) → Small (outsAgree (planOf bs) set vs ws)
+  unfolding outsAgree placeOf
+  outs-small set vs ws = found-small refusal.OutputsDiffer _ (λ o. refl) (search-small _ (length (planOf bs .outs)) (omega (arith, outs-few bs passes)))
+
+  party-bounded : (i : ℕ) (inputs coins state mail : List ℕ) (room : ℕ) → Bounded (partyChecks (planOf bs) i inputs coins state mail room)
+  unfolding partyChecks placeOf
+  party-bounded i inputs coins state mail room =
+      need-small refusal.Coalition _ refl
+      ▸ λ e0. need-small refusal.InputCount _ refl
+      ▸ λ e1. list-small refusal.InputCount refusal.InputValue (planOf bs .p) (ownInputCount (planOf bs) i) inputs (λ j. refl) (omega (arith, own-few bs passes i)) e1
+      ▸ λ e2. need-small refusal.CoinCount _ refl
+      ▸ λ e3. list-small refusal.CoinCount refusal.CoinValue (planOf bs .p) (ownCoinCount (planOf bs) i) coins (λ j. refl) (omega (arith, own-coins-few bs passes i)) e3
+      ▸ λ e4. need-small refusal.StateCount _ refl
+      ▸ λ e5. need-small refusal.StateValue _ refl
+      ▸ λ e6. need-small refusal.Finished _ refl
+      ▸ λ e7. need-small refusal.MailCount _ refl
+      ▸ λ e8. list-small refusal.MailCount refusal.MailValue (planOf bs .p) (mailCount (planOf bs) i (getD (numbers state) 0 0)) mail (λ j. refl) (omega (arith, mail-few bs passes i (getD (numbers state) 0 0))) e8
+      ▸ λ e9. need-small refusal.BufferLength _ refl
+      ▸ λ e10. opening-small i (getD (numbers state) 0 0) (numbers mail)
+      ▸ λ e11. Bounded.none
+
+  run-bounded : (set : ℕ) (xs coins : List ℕ) (room : ℕ) → Bounded (runChecks (planOf bs) set xs coins room)
+  unfolding runChecks placeOf
+  run-bounded set xs coins room =
+      need-small refusal.Coalition _ refl
+      ▸ λ e0. need-small refusal.InputCount _ refl
+      ▸ λ e1. list-small refusal.InputCount refusal.InputValue (planOf bs .p) (inputCount (planOf bs)) xs (λ j. refl) (omega (arith, inputs-few bs passes)) e1
+      ▸ λ e2. need-small refusal.CoinCount _ refl
+      ▸ λ e3. list-small refusal.CoinCount refusal.CoinValue (planOf bs .p) (coinCount (planOf bs)) coins (λ j. refl) (omega (arith, coins-few bs passes)) e3
+      ▸ λ e4. need-small refusal.BufferLength _ refl
+      ▸ λ e5. Bounded.none
+
+  pair-bounded : (set : ℕ) (xs ys coins : List ℕ) (room : ℕ) → Bounded (pairChecks (planOf bs) set xs ys coins room)
+  unfolding pairChecks placeOf
+  pair-bounded set xs ys coins room =
+      need-small refusal.Coalition _ refl
+      ▸ λ e0. need-small refusal.InputCount _ refl
+      ▸ λ e1. need-small refusal.InputCount _ refl
+      ▸ λ e2. list-small refusal.InputCount refusal.InputValue (planOf bs .p) (inputCount (planOf bs)) xs (λ j. refl) (omega (arith, inputs-few bs passes)) e1
+      ▸ λ e3. list-small refusal.InputCount refusal.InputValue (planOf bs .p) (inputCount (planOf bs)) ys (λ j. refl) (omega (arith, inputs-few bs passes)) e2
+      ▸ λ e4. need-small refusal.CoinCount _ refl
+      ▸ λ e5. list-small refusal.CoinCount refusal.CoinValue (planOf bs .p) (coinCount (planOf bs)) coins (λ j. refl) (omega (arith, coins-few bs passes)) e5
+      ▸ λ e6. need-small refusal.BufferLength _ refl
+      ▸ λ e7. inputs-small set (numbers xs) (numbers ys)
+      ▸ λ e8. outs-small set _ _
+      ▸ λ e9. Bounded.none
+
+-- ---- the claim
 kept : (a : Checked) (r : Refusal) (new old : List ℕ) → a ≡ Refused r → unlessRefused a new old ≡ old
 unfolding unlessRefused
 kept a r new old e = rw e refl
 
-pub total : Total
-unfolding stateAfter outAfter viewAfter matchedAfter
-total = record {
-  call = λ bs i inputs coins state mail out r e. (kept _ r _ state e, kept _ r _ out e);
-  bench = λ bs set xs coins out r e. kept _ r _ out e;
-  matching = λ bs set xs ys coins out r e. kept _ r _ out e;
+sent-whole : (bs : List ℕ) (a : Checked) → planCheck bs ≡ Passed → a ≡ Passed → answerOf (benchedOf a (sentCount (planOf bs))) ≡ 256 * sentCount (planOf bs)
+unfolding answerOf benchedOf
+sent-whole bs a p e = let l : sentCount (planOf bs) ≤ 4294967295 = sent-few bs p in rw e (omega (arith, l))
+
+sent-none : (s : ℕ) (a : Checked) (r : Refusal) → a ≡ Refused r → answerOf (benchedOf a s) ≡ codeOf (Refused r)
+unfolding answerOf benchedOf
+sent-none s a r e = rw e refl
+
+plan-passed : (bs : List ℕ) (rest : List Checked) → firstOf (planChecks bs ++ rest) ≡ Passed → planCheck bs ≡ Passed
+unfolding planCheck
+plan-passed bs rest e = passed-both _ _ (sym (firstOf-append (planChecks bs) rest) ∙ e) .0
+
+pub demand1 : Demand1
+unfolding planCheck callChecks callAnswer benchAnswer matchAnswer stateAfter outAfter viewAfter matchedAfter ordered before rankIn checkingOrder
+demand1 = record {
+  plan = λ bs. answers Unit (plan-numbers bs) refl (plan-bounded bs) (λ r e. tt);
+  call = λ bs i inputs coins state mail out.
+      answers _ (joined (plan-numbers bs) (party-numbers (planOf bs) i inputs coins state mail (length out))) refl
+      (bounded-joined (plan-bounded bs) (λ e. party-bounded bs e i inputs coins state mail (length out)))
+      (λ r e. (kept _ r _ state e, kept _ r _ out e));
+  bench = λ bs set xs coins out.
+      answers _ (joined (plan-numbers bs) (run-numbers (planOf bs) set xs coins (length out))) refl
+      (bounded-joined (plan-bounded bs) (λ e. run-bounded bs e set xs coins (length out))) (λ r e. kept _ r _ out e);
+  matching = λ bs set xs ys coins out.
+      answers _ (joined (plan-numbers bs) (pair-numbers (planOf bs) set xs ys coins (length out))) refl
+      (bounded-joined (plan-bounded bs) (λ e. pair-bounded bs e set xs ys coins (length out))) (λ r e. kept _ r _ out e);
+  counted = λ bs set xs coins room e. sent-whole bs _ (plan-passed bs _ e) e;
+  uncounted = λ bs set xs coins room r e. sent-none _ _ r e;
 }

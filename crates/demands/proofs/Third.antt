@@ -1,4 +1,4 @@
--- Demand 3: the matching is a bijection of settings of coins that keeps the members' coins, and the coalition's view of the whole run is the same.
+-- On lists: the matching is a bijection of settings of coins that keeps the members' coins, and the coalition's view of the whole run is the same.
 use Prim.Native.Nat.{ℕ, zero, suc, _+_, _≤_, _<_, _^_}
 use mathlib.Core.Path.{_≡_, refl, sym, _∙_}
 use mathlib.Core.Bool.{Bool, true, false, cond}
@@ -20,10 +20,11 @@ use Rattle.match_privacy.proofs.Blocks.{length-matchedCoins, below-matchedCoins
 use Rattle.match_privacy.proofs.Back.{one-to-one, onto, keeps}
 use Rattle.match_privacy.proofs.Private.{views-same}
 use Rattle.match_privacy.proofs.SetMembers.{set-few, set-parties, in-below}
-use Rattle.demands.specs.Demands.{Coins, Private, Demand3}
+use Rattle.demands.specs.Demands.{Alike}
+use Rattle.demands.specs.Lists.{RunsPrivate}
 use Rattle.numbers.proofs.Truth.{both-true}
 
--- a set that passes has only parties of the plan
+-- ---- the members of a set that passes
 members-from : (P : ℕ → Type 0) (set : ℕ) → ((i : ℕ) → 1 ≤ i → inSet set i ≡ true → P i) → (k i : ℕ) → 1 ≤ i → All P (membersFrom set i k)
 unfolding membersFrom
 members-from P set is zero i l = tt
@@ -33,14 +34,15 @@ members-from P set is (suc k) i l = step (members-from P set is k (suc i) (omega
     step rest true e = (is i l e, rest)
     step rest false e = rest
 
-set-within : (plan : Plan) (set : ℕ) → setOk plan set ≡ true → All (λ i. (1 ≤ i) × (i ≤ partyCount plan)) (members set)
+-- a set that passes has only parties of the plan
+pub each-member : (P : ℕ → Type 0) (plan : Plan) (set : ℕ) → setOk plan set ≡ true → ((i : ℕ) → 1 ≤ i → i ≤ partyCount plan → inSet set i ≡ true → P i) → All P (members set)
 unfolding members setOk
-set-within plan set ok =
+each-member P plan set ok is =
     let in-range : ltb set (2 ^ partyCount plan) ≡ true = both-true (ltb set (2 ^ partyCount plan)) (leb (length (members set)) (plan .t)) ok .0 in
-    members-from _ set (λ i l e. (l, in-below set (partyCount plan) i (ltb-true set (2 ^ partyCount plan) in-range) e)) 16 1 (omega arith)
+    members-from P set (λ i l e. is i l (in-below set (partyCount plan) i (ltb-true set (2 ^ partyCount plan) in-range) e) e) 16 1 (omega arith)
 
-pub demand3 : Demand3
-demand3 bytes set xs ys passes ok first second agree grants = record {
+pub runs-private : RunsPrivate
+runs-private bytes set xs ys alike = record {
   full = λ c s. record { count = length-matchedCoins plan v ms few xs ys c (s .count); small = below-matchedCoins plan v ms few xs ys c (s .count) (s .small) };
   keeps = λ c s. keeps plan v ms few xs ys c (s .count);
   one-to-one = λ c d s s′ e. one-to-one plan v ms few xs ys c d (s .count) (s .small) (s′ .count) (s′ .small) e;
@@ -49,7 +51,7 @@ demand3 bytes set xs ys passes ok first second agree grants = record {
       (o .0, record { count = o .1; small = o .2 }, o .3);
   same-view = λ c s.
       views-table plan v xs c (s .count) ms within
-      ∙ views-same plan v ms few (set-parties plan set ok) xs ys c (first .small) (second .small) (s .count) agree grants
+      ∙ views-same plan v ms few (set-parties plan set (alike .set-passes)) xs ys c (alike .first .small) (alike .second .small) (s .count) (alike .agree) (alike .grants)
       ∙ sym (views-table plan v ys (matchedCoins plan ms xs ys c) (length-matchedCoins plan v ms few xs ys c (s .count)) ms within);
 }
   where
@@ -60,10 +62,10 @@ demand3 bytes set xs ys passes ok first second agree grants = record {
     ms = members set
 
     v : Valid plan
-    v = valid bytes passes
+    v = valid bytes (alike .passes)
 
     few : length ms ≤ plan .t
-    few = set-few plan set ok
+    few = set-few plan set (alike .set-passes)
 
     within : All (λ i. (1 ≤ i) × (i ≤ partyCount plan)) ms
-    within = set-within plan set ok
+    within = each-member _ plan set (alike .set-passes) (λ i l m e. (l, m))

@@ -1,4 +1,4 @@
--- The table of document 01's sums holds, by computation.
+-- The table of sums holds, by computation.
 use mathlib.Core.Path.{_≡_, refl}
 use mathlib.Core.List.{flatMap}
 use Rattle.numbers.specs.Tables.{tab, firstFrom, firstFailing, countWhere}
@@ -14,7 +14,7 @@ use Rattle.plan.specs.File.{magic, sameBytes, between, gateOf, gateAt, outAt, g
 use Rattle.plan_coalition.specs.Coalitions.{inSet, membersFrom, members, setOk}
 use Rattle.seat_messages.specs.Messages.{setAll, wiresByParty, reduced, workGate, workFrom, learn, dealTo, nothing, inputPolys, sendInputs, productAt, sendProduct, sendOuts, send, sharesOfOut, resultsOf, callWith, call}
 use Rattle.run_protocol.specs.Rounds.{fresh, noCall, callOf, mailTo, round, results, mails, viewOf, view}
-use Rattle.run_protocol.specs.Ideal.{inputsTaken}
+use Rattle.run_protocol.specs.Ideal.{inputsTaken, gateValue, valuesFrom, values, granted}
 use Rattle.run_protocol.specs.Shares.{wireAt, dealtAt, sharings, piecesAt, gateShare, coinsTaken, sharesFrom, shareTable}
 use Rattle.run_views.specs.ViewCounts.{viewCountOf, viewCount}
 use Rattle.run_bench.specs.BenchCalls.{runChecks, benchAnswer}
@@ -22,7 +22,7 @@ use Rattle.match_privacy.specs.Matching.{isMember, matchedBlocks, matchedAt, ma
 use Rattle.demands.specs.Sums.{contents, bodies, likeK, K, single, sharesOf, benchOf, Sums}
 
 pub sums : Sums
-unfolding contents bodies likeK K single sharesOf benchOf tab firstFrom firstFailing countWhere wordAt numbers bytesOf holdsCount firstOver allBelow add mul sub isPrime divisorFrom divisorOf inv invert eval sumOf scale linear factor weight weights dot interpolate delta matched opened firstOff numberOf placeOf codeOf andThen firstOf need unlessFound partyCount parties pointOf dealerCount dealerPoints openingPoints isInput isInputOf isMultiply dealersOf deals dealings wiresFrom wiresWhere multiplies multiplyWire inputWires outWiresOf outWires inputCount ownInputCount coinCount dealingsBelow ownCoinCount ownOutCount ownInputsOf ownInputs ownBlocks ownCoins coinsAt magic sameBytes between gateOf gateAt outAt gateOk outOk gateKept outKept layoutOk planChecks planCheck planOf inSet membersFrom members setOk setAll wiresByParty reduced workGate workFrom learn dealTo nothing inputPolys sendInputs productAt sendProduct sendOuts send sharesOfOut resultsOf callWith call fresh noCall callOf mailTo round results mails viewOf view inputsTaken wireAt dealtAt sharings piecesAt gateShare coinsTaken sharesFrom shareTable viewCountOf viewCount runChecks benchAnswer isMember matchedBlocks matchedAt matchFrom matchedCoins flatMap
+unfolding contents bodies likeK K single sharesOf benchOf tab firstFrom firstFailing countWhere wordAt numbers bytesOf holdsCount firstOver allBelow add mul sub isPrime divisorFrom divisorOf inv invert eval sumOf scale linear factor weight weights dot interpolate delta matched opened firstOff numberOf placeOf codeOf andThen firstOf need unlessFound partyCount parties pointOf dealerCount dealerPoints openingPoints isInput isInputOf isMultiply dealersOf deals dealings wiresFrom wiresWhere multiplies multiplyWire inputWires outWiresOf outWires inputCount ownInputCount coinCount dealingsBelow ownCoinCount ownOutCount ownInputsOf ownInputs ownBlocks ownCoins coinsAt magic sameBytes between gateOf gateAt outAt gateOk outOk gateKept outKept layoutOk planChecks planCheck planOf inSet membersFrom members setOk setAll wiresByParty reduced workGate workFrom learn dealTo nothing inputPolys sendInputs productAt sendProduct sendOuts send sharesOfOut resultsOf callWith call fresh noCall callOf mailTo round results mails viewOf view inputsTaken gateValue valuesFrom values granted wireAt dealtAt sharings piecesAt gateShare coinsTaken sharesFrom shareTable viewCountOf viewCount runChecks benchAnswer isMember matchedBlocks matchedAt matchFrom matchedCoins flatMap
 sums = record {
   p1 = refl;
   p2-weights = refl;
@@ -32,6 +32,7 @@ sums = record {
   p3-result = refl;
   p4 = refl;
   p5-coins = refl;
+  p5-first-view = refl;
   p5-view = refl;
   p6-refused = refl;
   p6-passes = refl;
@@ -44,4 +45,14 @@ sums = record {
   p9-passes = refl;
   p9-result = refl;
   p10 = refl;
+  bytes-met = refl;
+  given-met = record { passes = refl; inputs = record { count = refl; small = refl }; settings = record { count = refl; small = refl } };
+  alike-met = record {
+    passes = refl;
+    set-passes = refl;
+    first = record { count = refl; small = refl };
+    second = record { count = refl; small = refl };
+    agree = refl;
+    grants = refl;
+  };
 }

@@ -1,9 +1,10 @@
--- The sums worked by hand of document 01, P1 to P10, as one table.
+-- The sums worked by hand of document 01, P1 to P10, as one table; and that plan K with P5's lists meets the premises of the demands.
 use Prim.Native.Nat.{ℕ}
 use mathlib.Core.Path.{_≡_}
+use mathlib.Core.Bool.{true}
 use mathlib.Core.List.{List, [], _∷_, _++_, map}
 use lib.ListN.{length}
-use Rattle.numbers.specs.Bytes.{bytesOf}
+use Rattle.numbers.specs.Bytes.{bytesOf, allBelow}
 use Rattle.sharing_laws.specs.Interp.{weights, interpolate, delta}
 use Rattle.plan.specs.Refusals.{codeOf}
 use Rattle.plan.specs.Plans.{Plan}
@@ -13,6 +14,7 @@ use Rattle.run_protocol.specs.Rounds.{results, view}
 use Rattle.run_protocol.specs.Shares.{wireAt, dealtAt, shareTable}
 use Rattle.run_bench.specs.BenchCalls.{benchAnswer}
 use Rattle.match_privacy.specs.Matching.{matchedCoins}
+use Rattle.demands.specs.Demands.{Given, Alike}
 
 -- the contents of a plan with four gates and one out: n, t, and the two bytes of p
 unfoldable pub contents : ℕ → ℕ → ℕ → ℕ → List ℕ
@@ -53,6 +55,10 @@ sharesOf w = map (wireAt (shareTable K inputs1 coins1) w) (K .points)
 unfoldable pub benchOf : ℕ → List ℕ → ℕ → ℕ
 benchOf set xs room = codeOf (benchAnswer (likeK 3 1 11 0) set (bytesOf xs) (bytesOf coins1) room)
 
+-- P5's second list
+abbrev pub inputs5 : List ℕ
+inputs5 = 1 ∷ 1 ∷ []
+
 pub record Sums : Type 0 where
   pub p1 : map sharesOf (0 ∷ 1 ∷ []) ≡ (6 ∷ 8 ∷ 10 ∷ []) ∷ (8 ∷ 0 ∷ 3 ∷ []) ∷ []
   pub p2-weights : weights 11 0 (1 ∷ 2 ∷ 3 ∷ []) ≡ 3 ∷ 8 ∷ 1 ∷ []
@@ -61,8 +67,9 @@ pub record Sums : Type 0 where
   pub p3-shares : map sharesOf (2 ∷ 3 ∷ []) ≡ (4 ∷ 10 ∷ 5 ∷ []) ∷ (10 ∷ 7 ∷ 4 ∷ []) ∷ []
   pub p3-result : results K inputs1 coins1 3 ≡ 2 ∷ []
   pub p4 : delta 11 (3 ∷ []) ≡ 1 ∷ 7 ∷ []
-  pub p5-coins : matchedCoins K (3 ∷ []) inputs1 (1 ∷ 1 ∷ []) coins1 ≡ 3 ∷ 8 ∷ 5 ∷ 2 ∷ 7 ∷ []
-  pub p5-view : view K (3 ∷ []) (1 ∷ 1 ∷ []) (3 ∷ 8 ∷ 5 ∷ 2 ∷ 7 ∷ []) ≡ view K (3 ∷ []) inputs1 coins1
+  pub p5-coins : matchedCoins K (3 ∷ []) inputs1 inputs5 coins1 ≡ 3 ∷ 8 ∷ 5 ∷ 2 ∷ 7 ∷ []
+  pub p5-first-view : view K (3 ∷ []) inputs1 coins1 ≡ 7 ∷ 10 ∷ 3 ∷ 7 ∷ 4 ∷ 7 ∷ 10 ∷ 7 ∷ 4 ∷ 2 ∷ []
+  pub p5-view : view K (3 ∷ []) inputs5 (3 ∷ 8 ∷ 5 ∷ 2 ∷ 7 ∷ []) ≡ view K (3 ∷ []) inputs1 coins1
   pub p6-refused : codeOf (planCheck (likeK 2 1 11 0)) ≡ 4
   pub p6-passes : codeOf (planCheck (likeK 15 7 17 0)) ≡ 0
   pub p7-not-above : codeOf (planCheck (likeK 3 1 3 0)) ≡ 5
@@ -74,3 +81,7 @@ pub record Sums : Type 0 where
   pub p9-passes : codeOf (planCheck single) ≡ 0
   pub p9-result : results (planOf single) (1 ∷ []) [] 1 ≡ 1 ∷ []
   pub p10 : benchOf 3 inputs1 0 ≡ 9
+  -- the premises of demands 2 and 3 are met, for the set {3}
+  pub bytes-met : allBelow 256 (likeK 3 1 11 0) ≡ true
+  pub given-met : Given (likeK 3 1 11 0) inputs1 coins1
+  pub alike-met : Alike (likeK 3 1 11 0) 4 inputs1 inputs5

@@ -16,6 +16,7 @@ use lib.ListN.{length, getD, take, drop, length-append, drop-of-length-le}
 use lib.Seq.{length-take-le, take-all, take-at, getD-drop, drop-cons, drop-drop}
 use mir.Syntax.{w8, w64}
 use mir.Val.{Fits}
+use Rattle.numbers.proofs.Tables.{row-room}
 use Rattle.numbers.specs.Tables.{countWhere}
 use Rattle.numbers.specs.Bytes.{numbers, bytesOf, allBelow}
 use Rattle.numbers.proofs.Bytes.{numbers-length, fits-below, bytes-of-numbers}
@@ -41,7 +42,6 @@ use Rattle.run_protocol.specs.Shares.{gateShare, coinsTaken, coinsBelow}
 use Rattle.run_dealings.specs.Rows.{rowsOf, Sized, Prepared, Standing}
 use Rattle.run_protocol.proofs.Below.{append-below, map-below}
 use Rattle.run_tables.proofs.FillLaws.{rows-snoc, coins-next, coins-within}
-use Rattle.run_dealings.proofs.RowLaws.{row-room}
 use Rattle.run_tables.proofs.StepLaws.{planned-sized}
 use Rattle.match_privacy.specs.Matching.{matchedAt, matchFrom, matchedCoins}
 use Rattle.match_agreement.specs.MatchParts.{Matchable}

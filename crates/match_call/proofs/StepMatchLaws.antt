@@ -42,7 +42,8 @@ use Rattle.run_tables.proofs.GateLaws.{entry-of-wire}
 use Rattle.match_privacy.specs.Matching.{matchedBlocks, matchedAt}
 use Rattle.match_moves.specs.Moves.{moved, movedBlocks, dealersIn, dealtIn, Lent, Advanced}
 use Rattle.match_call.specs.MatchSteps.{deltaTail, Equipped, Turn, NewCoins, Matched}
-use Rattle.match_privacy.proofs.Blocks.{below-canon, share-prefix}
+use Rattle.sharing_laws.proofs.Alls.{below-canon}
+use Rattle.match_privacy.proofs.Blocks.{share-prefix}
 use Rattle.match_call.proofs.MemberLaws.{length-tail, tail-below, blocks-are}
 
 -- ---- who deals at a gate, and what

@@ -26,7 +26,7 @@ use Rattle.plan.specs.declared.Gate.the-variants.{Input, Add, Scale, Offset, Mu
 use Rattle.plan.specs.declared.Header.{Header}
 use Rattle.plan.specs.File.{gateOk}
 use Rattle.run_dealings.specs.Rows.{productsOf, Rowed, Standing}
-use Rattle.run_dealings.proofs.RowLaws.{part-front, row-room}
+use Rattle.run_dealings.proofs.RowLaws.{standing-row}
 use Rattle.match_moves.specs.Moves.{movedBlocks, dealersIn, dealtIn, Lent, Advanced}
 
 -- ---- a multiply gate
@@ -45,20 +45,14 @@ products-moved p n t m coalition a b at es before after first second cs old new 
 pub ruleset moving-products = (needs, products-below, products-moved)
 
 -- ---- a gate by its kind
-pub row-stands : (p n g w : ℕ) (table : List ℕ) → Standing p n g table → w < g → Rowed p n w table
-row-stands p n g w table s l = record {
-  room = omega (arith, row-room n w g l, s .room);
-  below = rw (part-front table (n * g) (n * w) n (row-room n w g l)) (allBelow-take p n _ (allBelow-drop p (n * w) _ (s .below)));
-}
-
 module _ (n p g : ℕ) (gate : Gate) (table : List ℕ) (ok : gateOk n p g gate ≡ true) (a b : ℕ) (e : gate ≡ Multiply a b) (s : Standing p n g table) where
   pub left-stands : Rowed p n a table
   unfolding gateOk
-  left-stands = row-stands p n g a table s (ltb-true a g (both-true (ltb a g) (ltb b g) (rw e at ok) .0))
+  left-stands = standing-row p n g a table s (ltb-true a g (both-true (ltb a g) (ltb b g) (rw e at ok) .0))
 
   pub right-stands : Rowed p n b table
   unfolding gateOk
-  right-stands = row-stands p n g b table s (ltb-true b g (both-true (ltb a g) (ltb b g) (rw e at ok) .1))
+  right-stands = standing-row p n g b table s (ltb-true b g (both-true (ltb a g) (ltb b g) (rw e at ok) .1))
 
 module _ (p t at : ℕ) (gate : Gate) (es coins out : List ℕ) (long : length es ≡ t) (lent : Lent p at (t * length (dealersIn t gate)) coins out) where
   pub input-lent : (s : ℕ) → gate ≡ Input s → Lent p at (length es) coins out

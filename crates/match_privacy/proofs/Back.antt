@@ -17,14 +17,14 @@ use lib.Seq.{length-take-le, take-at, drop-at, drop-drop}
 use Rattle.numbers.specs.Bytes.{allBelow}
 use Rattle.field.proofs.Solve.{Canon}
 use Rattle.sharing_laws.specs.Interp.{All}
-use Rattle.sharing_laws.proofs.Alls.{all-drop}
+use Rattle.sharing_laws.proofs.Alls.{all-drop, below-canon}
 use Rattle.plan.specs.declared.Gate.{Gate}
 use Rattle.plan.specs.Plans.{Plan, dealersOf, dealings, coinCount, ownBlocks, ownCoins}
 use Rattle.plan.proofs.Valid.{Valid}
 use Rattle.run_protocol.specs.Ideal.{inputsTaken}
 use Rattle.run_protocol.specs.Shares.{dealtAt, gateShare, coinsTaken}
 use Rattle.match_privacy.specs.Matching.{isMember, matchedBlocks, matchedAt, matchFrom, matchedCoins}
-use Rattle.match_privacy.proofs.Blocks.{matchedBlock, blocks-cons, block-member, length-block, blocks-back, share-prefix, coinsOf, coins-cons, after, newAt, matchRest, match-cons, length-new, drop-new, share-new, length-matchedCoins, below-matchedCoins, below-canon}
+use Rattle.match_privacy.proofs.Blocks.{matchedBlock, blocks-cons, block-member, length-block, blocks-back, share-prefix, coinsOf, coins-cons, after, newAt, matchRest, match-cons, length-new, drop-new, share-new, length-matchedCoins, below-matchedCoins}
 
 empty : {A : Type 0} (l : List A) → length l ≡ 0 → l ≡ []
 empty l e = drop-of-length-le l {i = 0} (omega arith)

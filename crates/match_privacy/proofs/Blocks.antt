@@ -26,7 +26,7 @@ use Rattle.sharing_laws.specs.Poly.{eval}
 use Rattle.sharing_laws.specs.Interp.{All, weights, dot}
 use Rattle.sharing_laws.specs.Sharing.{matched}
 use Rattle.sharing_laws.proofs.Shares.{length-matched, matched-canon, matched-back}
-use Rattle.sharing_laws.proofs.Alls.{all-append, all-take, all-drop}
+use Rattle.sharing_laws.proofs.Alls.{all-append, all-take, all-drop, below-canon, canon-below}
 use Rattle.plan.specs.declared.Gate.{Gate}
 use Rattle.plan.specs.declared.Gate.the-variants.{Input, Add, Scale, Offset, Multiply}
 use Rattle.plan.specs.Plans.{Plan, partyCount, dealerCount, dealerPoints, pointOf, dealersOf, dealings, coinCount}
@@ -34,22 +34,6 @@ use Rattle.plan.proofs.Valid.{Valid}
 use Rattle.run_protocol.specs.Ideal.{inputsTaken}
 use Rattle.run_protocol.specs.Shares.{dealtAt, sharings, piecesAt, gateShare, coinsTaken, sharesFrom}
 use Rattle.match_privacy.specs.Matching.{isMember, matchedBlocks, matchedAt, matchFrom, matchedCoins}
-
-both : (a b : Bool) → cond a b false ≡ true → (a ≡ true) × (b ≡ true)
-both true b h = (refl, h)
-both false b h = let z : _≡_ {A = ℕ} 0 1 = cc in absurd (omega arith)
-
-pub below-canon : (p : ℕ) (xs : List ℕ) → allBelow p xs ≡ true → All (Canon p) xs
-unfolding allBelow
-below-canon p [] h = tt
-below-canon p (x ∷ xs) h =
-    let parts : (ltb x p ≡ true) × (allBelow p xs ≡ true) = both (ltb x p) (allBelow p xs) h in
-    (below (ltb-true x p (parts .0)), below-canon p xs (parts .1))
-
-pub canon-below : (p : ℕ) → 0 < p → (xs : List ℕ) → All (Canon p) xs → allBelow p xs ≡ true
-unfolding allBelow
-canon-below p pos [] h = refl
-canon-below p pos (x ∷ xs) h = rw (lt-ltb x p (canon-lt pos (h .0)), canon-below p pos xs (h .1))
 
 -- ---- the coins of one dealing by d, of s in the first run and of z in the matched run
 unfoldable pub matchedBlock : Plan → List ℕ → ℕ → ℕ → ℕ → List ℕ → List ℕ

@@ -3,11 +3,13 @@
 --     length-tab, getD-tab, take-tab, drop-tab     a table's entries
 --     tab-ext, tab-map, set-tab, tab-replicate     tables that are equal
 --     list-tab, is-tab                             a list as a table
+--     row-room                                     rows of k entries, one after the other
 -- Assumes nothing.
 use mathlib.Core.Path.{_≡_, refl, ap, ap₂, _∙_}
 use mathlib.Core.Logic.{_≢_}
 use mathlib.Core.List.{List, [], _∷_, _++_, map}
-use Prim.Native.Nat.{ℕ, zero, suc, _+_, _-_, _<_, _≤_}
+use Prim.Native.Nat.{ℕ, zero, suc, _+_, _-_, _*_, _<_, _≤_}
+use native.Mathlib.Nat.{mul-suc, mul-le-mul-left}
 use native.Mathlib.Numerals.{add-one}
 use native.Mathlib.Omega.{arith}
 use lib.ListN.{length, getD, take, drop, set, replicate, List·getD-eq-default}
@@ -110,3 +112,7 @@ pub tab-map : {A B : Type 0} (g : A → B) (f : ℕ → A) (n : ℕ) → map g (
 unfolding tab
 tab-map g f zero = refl
 tab-map {A} {B} g f (suc n) = ap (λ (l : List B). g (f 0) ∷ l) (tab-map g (λ k. f (suc k)) n)
+
+-- row j of n rows of k entries ends within them
+pub row-room : (k j n : ℕ) → j < n → k * j + k ≤ k * n
+row-room k j n l = omega (arith, mul-suc k j, mul-le-mul-left {m = suc j} {n = n} k (omega arith))

@@ -9,21 +9,10 @@ use borrow.Author.Needs.{needs}
 use borrow.Author.Tests.{eq-eqb, ne-eqb}
 use lib.ListN.{length, getD, List·getD-eq-default}
 use Rattle.numbers.specs.Bytes.{wordAt}
+use Rattle.numbers.proofs.Ways.{byte-none, word-none, word-some}
 use Rattle.plan.specs.declared.Gate.{Gate}
 use Rattle.plan.specs.declared.Gate.the-variants.{Input, Add, Scale, Offset, Multiply}
 use Rattle.plan.specs.File.{gateOf, gateAt, outAt}
-
--- ---- bytes
-pub byte-none : (s : List ℕ) (at : ℕ) → length s ≤ at → 0 ≡ getD s at 0
-byte-none s at l = sym (List·getD-eq-default s 0 l)
-
-word-none : (s : List ℕ) (at : ℕ) → length s ≤ at → wordAt s at ≡ 0
-unfolding wordAt
-word-none s at l = rw (List·getD-eq-default s 0 {n = at} l, List·getD-eq-default s 0 {n = at + 1} (omega arith))
-
-pub word-some : (s : List ℕ) (at a b : ℕ) → a ≡ getD s at 0 → b ≡ getD s (at + 1) 0 → a + 256 * b ≡ wordAt s at
-unfolding wordAt
-word-some s at a b e f = rw (e, f)
 
 -- ---- a gate by its kind
 module _ (k s a b : ℕ) where
@@ -81,6 +70,6 @@ module _ (s : List ℕ) (o : ℕ) where
 
   pub out-none : length s / 3 < o → record { party = 0; wire = 0 } ≡ outAt s o
   unfolding outAt
-  out-none l = rw (List·getD-eq-default s 0 {n = 18 + 6 * wordAt s 12 + 3 * o} (omega arith), word-none s (18 + 6 * wordAt s 12 + 3 * o + 1) (omega arith))
+  out-none l = rw (List·getD-eq-default s 0 {n = 18 + 6 * wordAt s 12 + 3 * o} (omega arith), ← word-none s (18 + 6 * wordAt s 12 + 3 * o + 1) (omega arith))
 
 pub ruleset reading = (needs, byte-none, word-some, gate-second, gate-input, gate-add, gate-scale, gate-offset, gate-multiply, gate-other, input-some, input-none, gate-some, gate-none, out-some, out-none)

@@ -4,3 +4,4 @@ pub mod Ways
 pub mod Planned
 pub mod Valid
 pub mod Worked
+pub mod Wires

@@ -36,14 +36,6 @@ unfoldable pub benchedOf : Checked → ℕ → Benched
 benchedOf Passed sent = benched.Sent sent
 benchedOf (Refused r) sent = benched.Refused r
 
--- elements sent; a refusal counts 0
-unfoldable pub sentUnlessRefused : Checked → ℕ → ℕ
-sentUnlessRefused Passed sent = sent
-sentUnlessRefused (Refused r) sent = 0
-
-unfoldable pub benchSent : List ℕ → ℕ → List ℕ → List ℕ → ℕ → ℕ
-benchSent bs set xs coins room = sentUnlessRefused (benchAnswer bs set xs coins room) (sentCount (planOf bs))
-
 -- the lent buffer afterwards: the coalition's view of the run of separate calls
 unfoldable pub viewAfter : List ℕ → ℕ → List ℕ → List ℕ → List ℕ → List ℕ
 viewAfter bs set xs coins out =

@@ -18,7 +18,7 @@ use mir.Syntax.{w64}
 use mir.Val.{Fits}
 use Rattle.numbers.specs.Tables.{tab}
 use Rattle.numbers.specs.Bytes.{numbers, allBelow}
-use Rattle.numbers.proofs.Tables.{length-tab}
+use Rattle.numbers.proofs.Tables.{length-tab, row-room}
 use Rattle.numbers.proofs.Below.{allBelow-at}
 use Rattle.numbers.proofs.Bytes.{numbers-length}
 use Rattle.field.specs.Mod.{add, mul}
@@ -28,7 +28,7 @@ use Rattle.sharing_laws.specs.Poly.{eval, padded}
 use Rattle.sharing_laws.specs.Interp.{dot}
 use Rattle.sharing.proofs.Coding.{entry-below, map-tab, plain-bound, Summed, sum-none, sum-more, sum-whole}
 use Rattle.run_dealings.specs.Rows.{powers, Powered, column, addedAt, added, rests}
-use Rattle.run_dealings.proofs.RowLaws.{Making, make-none, make-next, made, Changing, unchanged-at, change-none, change-next, changed, row-room, drop-zeros}
+use Rattle.run_dealings.proofs.RowLaws.{Making, make-none, make-next, made, Changing, unchanged-at, change-none, change-next, changed, drop-zeros}
 use Rattle.run_dealings.proofs.PowerLaws.{eval-powers, length-powers, powers-below, power-row}
 
 -- ---- a dealing's polynomial: the value, then i coins stand, and zeros above them

@@ -26,6 +26,7 @@ use Rattle.sharing_laws.proofs.Elements.{padded-below}
 use Rattle.sharing.proofs.Coding.{map-tab}
 use Rattle.plan.specs.declared.Header.{Header}
 use Rattle.run_protocol.specs.Shares.{sharings}
+use Rattle.seat_messages.proofs.PointLaws.{first-points}
 use Rattle.run_dealings.specs.Rows.{powerRows, productsOf, mixedAt, Sized, Prepared, column, Coined, Dealt, Elements}
 use Rattle.run_protocol.proofs.Below.{map-below}
 use Rattle.run_dealings.proofs.DealLaws.{dot-first}
@@ -173,4 +174,4 @@ module _ (h : Header) (s : Sized h) where
 pub ready-above : (p : ℕ) → Ready p → 0 < p
 ready-above p r = pos (r .prime)
 
-pub ruleset preparing = (needs, ready-above, powers-fit, powers-within, powers-count, weights-within, weights-count, points-count, dealers-count, points-below, dealers-below, powers-long, weights-long, prepared, powers-kept, weights-kept)
+pub ruleset preparing = (needs, first-points, ready-above, powers-fit, powers-within, powers-count, weights-within, weights-count, points-count, dealers-count, points-below, dealers-below, powers-long, weights-long, prepared, powers-kept, weights-kept)

@@ -19,7 +19,7 @@ use mir.Syntax.{w64}
 use mir.Val.{Fits}
 use Rattle.numbers.specs.Tables.{tab}
 use Rattle.numbers.specs.Bytes.{numbers, allBelow}
-use Rattle.numbers.proofs.Tables.{length-tab, getD-tab, tab-ext}
+use Rattle.numbers.proofs.Tables.{length-tab, getD-tab, tab-ext, row-room}
 use Rattle.numbers.proofs.Below.{allBelow-at, at-allBelow, allBelow-take, allBelow-drop}
 use Rattle.numbers.proofs.Bytes.{numbers-length}
 use Rattle.sharing_laws.specs.Poly.{eval, padded}
@@ -31,7 +31,7 @@ use Rattle.sharing_laws.proofs.Polys.{values-padded}
 use Rattle.sharing_laws.proofs.Elements.{padded-below}
 use Rattle.run_protocol.specs.Shares.{sharings}
 use Rattle.run_dealings.specs.Rows.{column, addedAt, added, rests, Coined, Dealt, Elements}
-use Rattle.run_dealings.proofs.RowLaws.{part-front, row-room}
+use Rattle.run_dealings.proofs.RowLaws.{part-front}
 use Rattle.run_dealings.proofs.DealLaws.{column-entry, Weighed, weigh-none, weigh-next, weighed, weighed-small}
 
 -- ---- the polynomials of dealings

@@ -3,3 +3,4 @@ pub mod PowerLaws
 pub mod DealLaws
 pub mod GridLaws
 pub mod DealingLaws
+pub mod CoinLaws

@@ -15,7 +15,7 @@ use mir.Syntax.{w64}
 use mir.Val.{Fits}
 use Rattle.numbers.specs.Tables.{tab}
 use Rattle.numbers.specs.Bytes.{allBelow}
-use Rattle.numbers.proofs.Tables.{tab-cons, tab-map, length-tab, getD-tab}
+use Rattle.numbers.proofs.Tables.{tab-cons, tab-map, length-tab, getD-tab, row-room}
 use Rattle.numbers.proofs.Below.{at-allBelow}
 use Rattle.numbers.proofs.Fills.{Filled, fill-none, fill-next, filled}
 use Rattle.field.specs.Mod.{mul}
@@ -28,7 +28,7 @@ use Rattle.sharing_laws.specs.Sharing.{rowsOf}
 use Rattle.sharing.proofs.Coding.{entry-below}
 use Rattle.sharing_openings.proofs.Rows.{Written, none-written, room, piece-long, written-next, written-done}
 use Rattle.run_dealings.specs.Rows.{power, powers, powerRows, Powered}
-use Rattle.run_dealings.proofs.RowLaws.{flat-part, part-front, row-room}
+use Rattle.run_dealings.proofs.RowLaws.{flat-part, part-front}
 
 -- ---- the value of a polynomial
 module _ (p : ℕ) where

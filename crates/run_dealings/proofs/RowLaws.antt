@@ -7,7 +7,7 @@ use mathlib.Core.Path.{_≡_, refl, sym, ap, _∙_}
 use mathlib.Core.List.{List, [], _∷_, _++_, flatMap, append-assoc, append-nil}
 use Prim.Native.Nat.{ℕ, zero, suc, _+_, _-_, _*_, _^_, _<_, _≤_}
 use native.Mathlib.Numerals.{add-one}
-use native.Mathlib.Nat.{mul-zero, mul-suc, mul-le-mul-left}
+use native.Mathlib.Nat.{mul-zero, mul-suc}
 use native.Mathlib.Omega.{arith}
 use borrow.Author.Needs.{needs}
 use lib.ListN.{length, take, drop, set, getD, replicate, length-replicate, length-append, length-drop, length-set}
@@ -15,12 +15,12 @@ use lib.Seq.{take-nil, drop-nil, take-suc-set, take-at, drop-append-add, getD-ta
 use mir.Syntax.{w64}
 use mir.Val.{Fits}
 use Rattle.numbers.specs.Tables.{tab}
-use Rattle.numbers.proofs.Tables.{tab-next, tab-zero}
+use Rattle.numbers.proofs.Tables.{tab-next, tab-zero, row-room}
 use Rattle.numbers.proofs.Fills.{Filled, fill-none, fill-next, filled}
-use Rattle.numbers.proofs.Below.{allBelow-at}
+use Rattle.numbers.proofs.Below.{allBelow-at, allBelow-take, allBelow-drop}
 use Rattle.field.specs.Mod.{mul}
 use Rattle.field.specs.Field.{Is}
-use Rattle.run_dealings.specs.Rows.{productsOf, Rowed}
+use Rattle.run_dealings.specs.Rows.{productsOf, Rowed, Standing}
 
 -- ---- rows of k entries
 module _ {A : Type 0} (F : A → List ℕ) where
@@ -52,8 +52,14 @@ take-drop (x ∷ l) (suc a) k = let e : suc a + k ≡ suc (a + k) = omega arith 
 pub part-front : (l : List ℕ) (m a k : ℕ) → a + k ≤ m → take k (drop a l) ≡ take k (drop a (take m l))
 part-front l m a k le = take-drop l a k ∙ ap (drop a) (sym (take-take (a + k) m l le)) ∙ sym (take-drop (take m l) a k)
 
-pub row-room : (k j n : ℕ) → j < n → k * j + k ≤ k * n
-row-room k j n l = omega (arith, mul-suc k j, mul-le-mul-left {m = suc j} {n = n} k (omega arith))
+-- a row that stands
+pub standing-row : (p n g w : ℕ) (table : List ℕ) → Standing p n g table → w < g → Rowed p n w table
+standing-row p n g w table s l = record {
+  room = omega (arith, s .room, row-room n w g l);
+  below =
+      rw (part-front table (n * g) (n * w) n (row-room n w g l))
+      (allBelow-take p n (drop (n * w) (take (n * g) table)) (allBelow-drop p (n * w) (take (n * g) table) (s .below)));
+}
 
 pub drop-zeros : (n m : ℕ) → drop n (replicate {A = ℕ} m 0) ≡ replicate (m - n) 0
 drop-zeros zero m = let e : m - zero ≡ m = omega arith in rw e

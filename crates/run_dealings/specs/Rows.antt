@@ -11,6 +11,7 @@ use Rattle.sharing_laws.specs.Poly.{eval}
 use Rattle.sharing_laws.specs.Interp.{weights, dot}
 use Rattle.field.specs.Field.{Ready}
 use Rattle.plan.specs.declared.Gate.{Gate}
+use Rattle.plan.specs.declared.Gate.the-variants.{Input, Add, Scale, Offset, Multiply}
 use Rattle.plan.specs.declared.Header.{Header}
 use Rattle.plan.specs.Plans.{Plan, inputCount, coinCount}
 use Rattle.run_protocol.specs.Shares.{gateShare, coinsTaken}
@@ -54,6 +55,14 @@ added w row sums = tab (addedAt w row sums) (length sums)
 -- the sums' remainders
 unfoldable pub rests : ℕ → List ℕ → List ℕ
 rests p sums = map (λ x. x % p) sums
+
+-- the coins that a gate takes, t for each of its dealers
+unfoldable pub coinsIn : ℕ → Gate → ℕ
+coinsIn t (Input s) = t
+coinsIn t (Add a b) = 0
+coinsIn t (Scale a c) = 0
+coinsIn t (Offset a c) = 0
+coinsIn t (Multiply a b) = t * (t + t + 1)
 
 -- the bounds of a plan's contents
 pub record Sized (h : Header) : Type 0 where

@@ -1,5 +1,6 @@
 // Dealings of a run, for all receiving parties at once: the rows of inputs and of multiply gates.
 use field::Field;
+use plan::Gate;
 use plan::Header;
 ghost use mathlib.Core.Path.{_≡_};
 ghost use mathlib.Core.Bool.{true};
@@ -12,7 +13,7 @@ ghost use Rattle.field.specs.Field.{Ready};
 ghost use Rattle.sharing_laws.specs.Poly.{eval, padded};
 ghost use Rattle.sharing_laws.specs.Interp.{dot};
 ghost use Rattle.run_protocol.specs.Shares.{sharings};
-ghost use Rattle.run_dealings.specs.Rows.{powers, powerRows, productsOf, mixedAt, column, added, rests, Sized, Prepared, Powered, Coined, Dealt, Elements, Rowed};
+ghost use Rattle.run_dealings.specs.Rows.{powers, powerRows, productsOf, mixedAt, column, added, rests, Sized, Prepared, Powered, Coined, Dealt, Elements, Rowed, coinsIn};
 
 // ---- what is worked out once for a plan
 
@@ -48,20 +49,6 @@ fn power_rows(f: Field, k: usize, points: &[u64], rows: &mut [u64])
     }
 }
 
-// The parties' points, 1 to n.
-fn points(n: usize) -> [u64; 15]
-    requires { ⌜ n ≤ 15 ⌝ }
-    ensures { λ r. ⌜ take n r ≡ tab suc n ⌝ }
-{
-    let mut row = [0u64; 15];
-    let mut i: usize = 0;
-    while i < n {
-        row[i] = (i + 1) as u64;
-        i += 1;
-    }
-    row
-}
-
 // The power rows of all parties' points, eight powers each, and the weights at 0 of the dealers', for all dealings of a plan.
 pub fn prepare(h: Header, rows: &mut [u64], weights: &mut [u64])
     requires { ⌜ Sized h ⌝ }
@@ -75,7 +62,7 @@ pub fn prepare(h: Header, rows: &mut [u64], weights: &mut [u64])
     let n = h.n;
     let m = h.t + h.t + 1;
     let e = 8 * n;
-    let points = points(n);
+    let points = seat_messages::points();
     power_rows(f, 8, &points[..n], &mut rows[..e]);
     sharing::weights(f, 0, &points[..m], &mut weights[..m]);
 }
@@ -269,4 +256,18 @@ pub fn input_row(
 {
     let polynomial = coefficients(x, coins, at, t);
     dealing(f, n, rows, polynomial)
+}
+
+// The coins that a gate takes from the list of all.
+pub fn coins_taken(t: usize, gate: Gate) -> usize
+    requires { ⌜ t ≤ 7 ⌝ }
+    ensures { λ r. ⌜ record { eq : r ≡ coinsIn t gate; most : r ≤ 105 } ⌝ }
+{
+    match gate {
+        Gate::Input(_) => t,
+        Gate::Add(_, _) => 0,
+        Gate::Scale(_, _) => 0,
+        Gate::Offset(_, _) => 0,
+        Gate::Multiply(_, _) => t * (t + t + 1),
+    }
 }

@@ -29,6 +29,7 @@ use Rattle.plan.specs.declared.Refusal.the-variants as refusal
 use Rattle.plan.specs.Refusals.{andThen, firstOf, need, unlessFound}
 use Rattle.plan.specs.Plans.{Plan, partyCount, parties, pointOf, dealings, multiplies, multiplyWire, inputWires, outWires, ownInputCount, ownOutCount, coinCount, ownCoinCount, mailCount, writtenCount, ownInputs, ownBlocks, ownCoins}
 use Rattle.plan.specs.File.{between}
+use Rattle.plan.proofs.Wires.{length-inputWires}
 use Rattle.plan.proofs.Valid.{Valid}
 use Rattle.seat_messages.specs.Messages.{wiresByParty, sharesOfOut}
 use Rattle.seat_messages.specs.Calls.{nothingFound, openingCheck, partyChecks}
@@ -38,7 +39,7 @@ use Rattle.run_protocol.proofs.Lists.{length-map, all-getD, at-all, all
 use Rattle.run_protocol.proofs.Blocks.{inputAt, own-inputs, length-ownBlocks, count-dealings}
 use Rattle.run_protocol.proofs.States.{getD-zeros, Known}
 use Rattle.run_protocol.proofs.Carried.{sharesAt, state-is, mail-inputs, mail-product, out-mail, shares-of-out, known-after, known-all, shares-last}
-use Rattle.run_protocol.proofs.Counts.{length-inputWires, for-rounds, for-calls, mail-count}
+use Rattle.run_protocol.proofs.Counts.{for-rounds, for-calls, mail-count}
 use Rattle.run_protocol.proofs.Below.{share-below, shares-below, pieces-below, flatMap-below}
 use Rattle.run_protocol.proofs.Openings.{none-off}
 
@@ -60,7 +61,7 @@ all-ownBlocks P t i (d ∷ ds) cs a = block-all P (eqb i d) (take t cs) (ownBloc
 
 module _ (plan : Plan) (valid : Valid plan) where
   pub own-inputs-count : (i : ℕ) (xs : List ℕ) → length (ownInputs plan i xs) ≡ ownInputCount plan i
-  own-inputs-count i xs = ap length (own-inputs plan i xs) ∙ length-map (inputAt plan xs) (inputWires plan i) ∙ length-inputWires plan valid i
+  own-inputs-count i xs = ap length (own-inputs plan i xs) ∙ length-map (inputAt plan xs) (inputWires plan i) ∙ length-inputWires plan i
 
   pub own-inputs-below : (i : ℕ) (xs : List ℕ) → allBelow (plan .p) xs ≡ true → allBelow (plan .p) (ownInputs plan i xs) ≡ true
   unfolding inputAt

@@ -26,6 +26,7 @@ use Rattle.plan.specs.declared.Gate.the-variants.{Input, Add, Scale, Offset, Mu
 use Rattle.plan.specs.declared.Output.{Output}
 use Rattle.plan.specs.Plans.{Plan, partyCount, parties, pointOf, dealerCount, isInput, isInputOf, wiresWhere, multiplies, multiplyWire, inputWires, outWiresOf, outWires, inputCount, ownInputCount, ownOutCount, coinCount, mailCount, writtenCount, sentCount, ownInputs, ownCoins, coinsAt}
 use Rattle.plan.specs.File.{between, gateOk, outOk}
+use Rattle.plan.proofs.Wires.{length-inputWires}
 use Rattle.plan.proofs.Valid.{Valid}
 use Rattle.seat_messages.specs.Messages.{Called, callWith, wiresByParty, dealTo, nothing, inputPolys, sendInputs, productAt, sendProduct, sendOuts, send}
 use Rattle.seat_messages.specs.Calls.{written}
@@ -33,7 +34,7 @@ use Rattle.run_protocol.specs.Rounds.{callOf, mailTo, round, results, se
 use Rattle.run_protocol.specs.Shares.{shareTable, wireAt, coinsBelow, tableResults}
 use Rattle.run_protocol.proofs.Lists.{length-map, length-rows, flatMap-map, flatMap-nil, all-every}
 use Rattle.run_protocol.proofs.Blocks.{count-dealers}
-use Rattle.run_protocol.proofs.States.{length-wires, Multiplied, multiplied}
+use Rattle.run_protocol.proofs.States.{Multiplied, multiplied}
 use Rattle.run_protocol.proofs.Carried.{each-party, length-parties, called, round-called, call-at, sentBy, sharesAt, mail-inputs, product-of, pieces-tab, mail-product, out-mail, results-table}
 
 -- ---- sums over a list
@@ -124,15 +125,11 @@ module _ (plan : Plan) (valid : Valid plan) where
   unfolding ownInputCount inputCount parties
   total-inputs = total-counts isInputOf isInput (Input 0) (tab suc (partyCount plan)) (plan .gates) (λ k l. input-once (partyCount plan) (plan .p) k (getD (plan .gates) k (Input 0)) (valid .gates k l))
 
-  pub length-inputWires : (i : ℕ) → length (inputWires plan i) ≡ ownInputCount plan i
-  unfolding inputWires wiresWhere ownInputCount
-  length-inputWires i = length-wires (isInputOf i) 0 (plan .gates)
-
   pub length-wiresByParty : length (wiresByParty plan) ≡ inputCount plan
   unfolding wiresByParty
   length-wiresByParty =
       length-flatMap (inputWires plan) (parties plan)
-      ∙ total-all (λ i. length (inputWires plan i)) (ownInputCount plan) (parties plan) (each-party plan (λ i. length (inputWires plan i) ≡ ownInputCount plan i) (λ i l m. length-inputWires i))
+      ∙ total-all (λ i. length (inputWires plan i)) (ownInputCount plan) (parties plan) (each-party plan (λ i. length (inputWires plan i) ≡ ownInputCount plan i) (λ i l m. length-inputWires plan i))
       ∙ total-inputs
 
   out-step : (b : Bool) (w n : ℕ) (ws : List ℕ) → length ws ≡ n → length (cond b (w ∷ ws) ws) ≡ cond b (suc n) n
@@ -204,7 +201,7 @@ module _ (plan : Plan) (valid : Valid plan) (xs cs : List ℕ) where
   unfolding sentBy send sendInputs
   length-sent-inputs i =
       length-dealTo plan (inputPolys plan i (inputWires plan i) (ownInputs plan i xs) (ownCoins plan i cs))
-      ∙ ap (λ (m : ℕ). partyCount plan * m) (length-polys plan i (inputWires plan i) (ownInputs plan i xs) (ownCoins plan i cs) ∙ length-inputWires plan valid i)
+      ∙ ap (λ (m : ℕ). partyCount plan * m) (length-polys plan i (inputWires plan i) (ownInputs plan i xs) (ownCoins plan i cs) ∙ length-inputWires plan i)
 
   sent-product-by : (fs : List (List ℕ)) → length fs ≡ 1 → (b : Bool) → length (flatMap (λ l. l) (cond b (dealTo plan fs) (nothing plan))) ≡ cond b (partyCount plan) 0
   sent-product-by fs e true = length-dealTo plan fs ∙ ap (λ (m : ℕ). partyCount plan * m) e ∙ omega arith
@@ -269,7 +266,7 @@ module _ (plan : Plan) (valid : Valid plan) (xs cs : List ℕ) where
       sent-in-round (suc (multiplies plan)) (λ i. length (plan .outs)) length-sent-outs
       ∙ total-const (length (plan .outs)) (parties plan) ∙ ap (λ (m : ℕ). m * length (plan .outs)) (length-parties plan)
 
-  sent-in-last : sentIn (round plan xs cs (suc (suc (multiplies plan)))) ≡ 0
+  pub sent-in-last : sentIn (round plan xs cs (suc (suc (multiplies plan)))) ≡ 0
   sent-in-last = sent-in-round (suc (suc (multiplies plan))) (λ i. 0) length-sent-last ∙ total-const 0 (parties plan) ∙ mul-zero (length (parties plan))
 
   sent-before : (k : ℕ) → k ≤ multiplies plan → sentBefore plan xs cs (suc k) ≡ partyCount plan * inputCount plan + k * (dealerCount plan * partyCount plan)

@@ -1,7 +1,7 @@
 -- The table of shares gate by gate, and a party's state beside it: which wires of a state hold the table's shares.
 --     Reads, reads-below                        a gate of a plan that passes reads wires before it
 --     table-at                                  the table's entry at a gate
---     wires-all, wires-in, length-wires, passing, Passing      the wires whose gates pass a test
+--     wires-all, wires-in, passing, Passing                    the wires whose gates pass a test
 --     Known, learn-known, set-all-known, work-from-known       what a party knows after its mail and its work
 -- Assumes nothing.
 use mathlib.Core.Path.{_≡_, refl, sym, ap, ap₂, subst, _∙_}
@@ -23,6 +23,7 @@ use Rattle.plan.specs.declared.Gate.{Gate}
 use Rattle.plan.specs.declared.Gate.the-variants.{Input, Add, Scale, Offset, Multiply}
 use Rattle.plan.specs.Plans.{Plan, partyCount, dealerPoints, isInput, isMultiply, dealersOf, wiresFrom, wiresWhere, multiplies, multiplyWire}
 use Rattle.plan.specs.File.{gateOk}
+use Rattle.plan.proofs.Wires.{length-wires}
 use Rattle.plan.proofs.Valid.{Valid}
 use Rattle.seat_messages.specs.Messages.{setAll, workGate, workFrom}
 use Rattle.run_protocol.specs.Ideal.{inputsTaken}
@@ -156,15 +157,6 @@ module _ (f : Gate → Bool) where
   pub wires-fail : (g : ℕ) (x : Gate) (gs : List Gate) → f x ≡ false → wiresFrom f g (x ∷ gs) ≡ wiresFrom f (suc g) gs
   unfolding wiresFrom
   wires-fail g x gs e = rw e
-
-  count-length : (b : Bool) (g n : ℕ) (ws : List ℕ) → length ws ≡ n → length (cond b (g ∷ ws) ws) ≡ cond b (suc n) n
-  count-length true g n ws e = ap suc e
-  count-length false g n ws e = e
-
-  pub length-wires : (g : ℕ) (gs : List Gate) → length (wiresFrom f g gs) ≡ countWhere f gs
-  unfolding wiresFrom countWhere
-  length-wires g [] = refl
-  length-wires g (x ∷ gs) = count-length (f x) g (countWhere f gs) (wiresFrom f (suc g) gs) (length-wires (suc g) gs)
 
   pub wires-all : (P : ℕ → Type 0) (g : ℕ) (gs : List Gate) → ((k : ℕ) → k < length gs → f (getD gs k (Input 0)) ≡ true → P (g + k)) → All P (wiresFrom f g gs)
   unfolding wiresFrom

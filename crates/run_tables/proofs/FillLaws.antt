@@ -19,7 +19,7 @@ use mir.Syntax.{w64}
 use mir.Val.{Fits}
 use Rattle.numbers.specs.Tables.{tab, countWhere}
 use Rattle.numbers.specs.Bytes.{numbers, allBelow}
-use Rattle.numbers.proofs.Tables.{length-tab}
+use Rattle.numbers.proofs.Tables.{length-tab, row-room}
 use Rattle.numbers.proofs.Counts.{countWhere-take-suc, countWhere-take-zero, countWhere-le-length}
 use Rattle.numbers.proofs.Below.{allBelow-take, allBelow-drop}
 use Rattle.numbers.proofs.Bytes.{numbers-length}
@@ -43,7 +43,7 @@ use Rattle.run_protocol.specs.Shares.{wireAt, sharings, dealtAt, piecesAt, gate
 use Rattle.run_dealings.specs.Rows.{rowsOf, column, Standing, Taking, Worked, Stepped, Given}
 use Rattle.run_protocol.proofs.Below.{append-below, map-below, share-below}
 use Rattle.run_protocol.proofs.Wires.{table-length, table-gate}
-use Rattle.run_dealings.proofs.RowLaws.{flat-snoc, take-drop, part-front, row-room}
+use Rattle.run_dealings.proofs.RowLaws.{flat-snoc, take-drop, part-front}
 use Rattle.run_tables.proofs.StepLaws.{planned-sized}
 use Rattle.run_tables.proofs.GateLaws.{rows-row, entry-of-wire}
 

@@ -15,7 +15,7 @@ use lib.ListN.{length, take, drop, getD, length-map}
 use lib.Seq.{getD-take, getD-drop, length-take-le}
 use Rattle.numbers.specs.Tables.{tab}
 use Rattle.numbers.specs.Bytes.{allBelow}
-use Rattle.numbers.proofs.Tables.{length-tab, tab-ext}
+use Rattle.numbers.proofs.Tables.{length-tab, tab-ext, row-room}
 use Rattle.numbers.proofs.Below.{allBelow-take, allBelow-drop}
 use Rattle.numbers.proofs.Truth.{both-true}
 use Rattle.field.specs.Mod.{add, mul}
@@ -32,10 +32,10 @@ use Rattle.plan.specs.Planned.{Planned}
 use Rattle.plan.proofs.Planned.{plan-t, plan-p, plan-points, plan-n, plan-gates, plan-gate}
 use Rattle.plan.proofs.Valid.{valid, planned-ready}
 use Rattle.run_protocol.specs.Shares.{wireAt, sharings, piecesAt, dealtAt, gateShare, coinsTaken}
-use Rattle.run_dealings.specs.Rows.{rowsOf, productsOf, mixedAt, Prepared, Powered, Coined, Rowed, Standing, Taking, Worked}
-use Rattle.run_dealings.proofs.RowLaws.{flat-length, flat-part, part-front, row-room}
+use Rattle.run_dealings.specs.Rows.{rowsOf, productsOf, mixedAt, Prepared, Powered, Coined, Rowed, Standing, Taking, Worked, coinsIn}
+use Rattle.run_dealings.proofs.RowLaws.{flat-length, flat-part, part-front, standing-row}
 use Rattle.run_dealings.proofs.GridLaws.{getD-values}
-use Rattle.run_tables.proofs.StepLaws.{coins-of-input, coins-of-multiply}
+use Rattle.run_tables.proofs.StepLaws.{takes-coins}
 
 -- ---- the rows of a table
 cancel : (n a b : ℕ) → 1 ≤ n → n * a ≡ n * b → a ≡ b
@@ -112,15 +112,6 @@ module _ (plan : Plan) (n g : ℕ) (en : length (plan .points) ≡ n) (low : 1 �
   multiply-share a b ws la lb le ew is =
       is ∙ ap₂ (λ (vs ss : List ℕ). map (mixedAt (plan .p) vs (sharings (plan .t) ss cs)) (plan .points)) ew (products-dealt a b la lb le)
 
--- ---- a row that stands
-pub standing-row : (p n g w : ℕ) (table : List ℕ) → Standing p n g table → w < g → Rowed p n w table
-standing-row p n g w table s l = record {
-  room = omega (arith, s .room, row-room n w g l);
-  below =
-      rw (part-front table (n * g) (n * w) n (row-room n w g l))
-      (allBelow-take p n (drop (n * w) (take (n * g) table)) (allBelow-drop p (n * w) (take (n * g) table) (s .below)));
-}
-
 -- ---- what is prepared
 module _ (h : Header) (rows ws : List ℕ) (prepared : Prepared h rows ws) where
   pub powered : Powered (h .field .p) 8 (tab suc (h .n)) rows
@@ -194,13 +185,15 @@ module _ (bs : List ℕ) (h : Header) (k : Planned bs h) (g : ℕ) (l : g < h .g
     -- coins
     module _ (at : ℕ) (cs : List ℕ) (taking : Taking (planOf bs) (gateAt bs g) at cs) where
       pub input-coins : (s : ℕ) → read ≡ Input s → Coined (h .field .p) (h .t) 1 at cs
+      unfolding coinsIn
       input-coins s is =
-          let q : coinsTaken (planOf bs) (gateAt bs g) ≡ h .t * 1 = sym (coins-of-input (gateAt bs g) read e bs h k s is) ∙ sym (mul-one (h .t)) in
+          let q : coinsTaken (planOf bs) (gateAt bs g) ≡ h .t * 1 = sym (takes-coins bs h k (gateAt bs g) read e (h .t) (sym (ap (coinsIn (h .t)) is))) ∙ sym (mul-one (h .t)) in
           record { room = rw q at (taking .room); below = rw (q, plan-p k) at (taking .below) }
 
       pub multiply-coins : (a b : ℕ) → read ≡ Multiply a b → Coined (h .field .p) (h .t) (h .t + h .t + 1) at cs
+      unfolding coinsIn
       multiply-coins a b is =
-          let q : coinsTaken (planOf bs) (gateAt bs g) ≡ h .t * (h .t + h .t + 1) = sym (coins-of-multiply (gateAt bs g) read e bs h k a b is) in
+          let q : coinsTaken (planOf bs) (gateAt bs g) ≡ h .t * (h .t + h .t + 1) = sym (takes-coins bs h k (gateAt bs g) read e (h .t * (h .t + h .t + 1)) (sym (ap (coinsIn (h .t)) is))) in
           record { room = rw q at (taking .room); below = rw (q, plan-p k) at (taking .below) }
 
     -- rows

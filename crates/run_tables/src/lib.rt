@@ -173,29 +173,10 @@ pub fn taken_at(plan: &[u8], h: Header, g: usize) -> Taken
     requires { ⌜ Planned (now plan) h ⌝ }
     ensures { λ r. ⌜ (r .inputs ≡ inputsTaken (gateAt (now (plan .entry)) g)) × (r .coins ≡ coinsTaken (planOf (now (plan .entry))) (gateAt (now (plan .entry)) g)) ⌝ }
 {
-    let t = h.t;
     let gate = plan::gate_at(plan, g);
-    match gate {
-        Gate::Input(_) => Taken {
-            inputs: 1,
-            coins: t,
-        },
-        Gate::Add(_, _) => Taken {
-            inputs: 0,
-            coins: 0,
-        },
-        Gate::Scale(_, _) => Taken {
-            inputs: 0,
-            coins: 0,
-        },
-        Gate::Offset(_, _) => Taken {
-            inputs: 0,
-            coins: 0,
-        },
-        Gate::Multiply(_, _) => Taken {
-            inputs: 0,
-            coins: t * (t + t + 1),
-        },
+    Taken {
+        inputs: run_ideal::inputs_taken(gate),
+        coins: run_dealings::coins_taken(h.t, gate),
     }
 }
 

@@ -27,6 +27,7 @@ use Rattle.plan.specs.declared.Header.{Header}
 use Rattle.plan.specs.Plans.{Plan, partyCount, parties, pointOf, dealerCount, dealersOf, dealings, isInputOf, isMultiply, multiplies, wiresFrom, wiresWhere, inputWires, outWires, inputCount, ownInputCount, ownCoinCount, ownOutCount, coinCount, ownInputs, ownCoins}
 use Rattle.plan.specs.File.{planOf}
 use Rattle.plan.specs.Planned.{Planned}
+use Rattle.plan.proofs.Wires.{length-inputWires}
 use Rattle.plan.proofs.Planned.{plan-t, plan-p, plan-n, plan-points, plan-dealers}
 use Rattle.plan.proofs.Valid.{Valid, valid}
 use Rattle.seat_messages.specs.Messages.{wiresByParty}
@@ -40,7 +41,7 @@ use Rattle.run_protocol.proofs.Lists.{flatMap-all, flatMap-map, map-flatMap, ge
 use Rattle.run_protocol.proofs.Blocks.{length-ownBlocks, count-dealings, own-inputs, inputAt}
 use Rattle.run_protocol.proofs.States.{wires-all, length-multiplies, gate-reads}
 use Rattle.run_protocol.proofs.Carried.{each-party, length-parties, out-wires-within, product-of, pieces-tab}
-use Rattle.run_protocol.proofs.Counts.{length-inputWires, length-wiresByParty}
+use Rattle.run_protocol.proofs.Counts.{length-wiresByParty}
 use Rattle.run_protocol.proofs.Wires.{table-length}
 use Rattle.run_protocol.proofs.Below.{flatMap-below, shares-at-below}
 use Rattle.run_views.proofs.ViewLaws.{coins-next, coins-room}
@@ -234,7 +235,7 @@ module _ {bs : List ℕ} {h : Header} (pl : Planned bs h) (xs cs table : List �
 -- ---- how long a view is
 module _ (plan : Plan) (valid : Valid plan) (xs cs : List ℕ) (full : length cs ≡ coinCount plan) where
   length-own-inputs : (i : ℕ) → length (ownInputs plan i xs) ≡ ownInputCount plan i
-  length-own-inputs i = ap length (own-inputs plan i xs) ∙ length-map (inputAt plan xs) (inputWires plan i) ∙ length-inputWires plan valid i
+  length-own-inputs i = ap length (own-inputs plan i xs) ∙ length-map (inputAt plan xs) (inputWires plan i) ∙ length-inputWires plan i
 
   length-own-coins : (i : ℕ) → 1 ≤ i → length (ownCoins plan i cs) ≡ ownCoinCount plan i
   unfolding ownCoins ownCoinCount coinCount dealings

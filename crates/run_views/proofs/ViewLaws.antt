@@ -22,7 +22,7 @@ use mir.Syntax.{w64}
 use mir.Val.{Fits}
 use Rattle.numbers.specs.Tables.{tab}
 use Rattle.numbers.specs.Bytes.{wordAt, numbers, allBelow}
-use Rattle.numbers.proofs.Tables.{length-tab, getD-tab}
+use Rattle.numbers.proofs.Tables.{length-tab, getD-tab, row-room}
 use Rattle.numbers.proofs.Below.{allBelow-take, allBelow-drop, allBelow-tab}
 use Rattle.numbers.proofs.Bytes.{numbers-length}
 use Rattle.numbers.proofs.Truth.{both-true}
@@ -46,12 +46,12 @@ use Rattle.seat_messages.proofs.PointLaws.{first-points, first-points-below}
 use Rattle.seat_sending.proofs.DealLaws.{length-coinsFrom, coinsFrom-part}
 use Rattle.run_protocol.specs.Ideal.{inputsTaken}
 use Rattle.run_protocol.specs.Shares.{coinsBelow}
-use Rattle.run_dealings.specs.Rows.{powers}
-use Rattle.run_views.specs.Flat.{shareIn, rowIn, firstIn, outsIn, openedIn, pieceIn, piecesIn, middleIn, coinsIn, ownAt, Running, PowerRow}
+use Rattle.run_dealings.specs.Rows.{powers, coinsIn}
+use Rattle.run_dealings.proofs.CoinLaws.{in-few, coins-number}
+use Rattle.run_views.specs.Flat.{shareIn, rowIn, firstIn, outsIn, openedIn, pieceIn, piecesIn, middleIn, ownAt, Running, PowerRow}
 use Rattle.run_views.specs.Writing.{Wrote}
 use Rattle.run_protocol.proofs.Lists.{flatMap-append}
 use Rattle.run_protocol.proofs.Blocks.{ownBlocks-append, ownBlocks-none, own-dealing}
-use Rattle.run_dealings.proofs.RowLaws.{row-room}
 use Rattle.run_dealings.proofs.PowerLaws.{length-powers, powers-below}
 use Rattle.run_views.proofs.WriteLaws.{wrote-none, wrote-one, wrote-unwanted, Left, left-none, left-then, left-end}
 use Rattle.sharing_laws.proofs.Alls.{all-tab}
@@ -105,16 +105,7 @@ other-kind bs g j n l =
 pub first-byte-within : (bs : List ℕ) (h : Header) (g : ℕ) → Planned bs h → g < h .gates → 18 + 6 * g < length bs
 first-byte-within bs h g pl l = omega (arith, pl .long)
 
-pub coins-as : (t : ℕ) (gate x : Gate) (r : ℕ) → gate ≡ x → r ≡ coinsIn t x → r ≡ coinsIn t gate
-coins-as t gate x r e f = f ∙ sym (ap (coinsIn t) e)
-
-pub coins-few : (t : ℕ) → t ≤ 7 → t * (t + t + 1) ≤ 105
-coins-few t l = mul-le-mul {n₂ = 7} {m₂ = 15} l (omega arith)
-
-pub coins-fit : (t : ℕ) → t ≤ 7 → Fits w64 (t * (t + t + 1))
-coins-fit t l = record { fits = omega (arith, coins-few t l) }
-
-pub ruleset sorting = (needs, other-kind, first-byte-within, input-at, input-of-as, coins-as, coins-few, coins-fit)
+pub ruleset sorting = (needs, other-kind, first-byte-within, input-at, input-of-as)
 
 -- ---- the gates of a plan from g on
 module _ {bs : List ℕ} {h : Header} (pl : Planned bs h) where
@@ -511,14 +502,6 @@ module _ (plan : Plan) where
         ∙ length-append (flatMap (dealersOf plan) (take (g + 1) (plan .gates))) (flatMap (dealersOf plan) (drop (g + 1) (plan .gates))) in
         mul-le-mul-left (plan .t) (omega (arith, e))
 
-  coins-number : (x : Gate) → coinsIn (plan .t) x ≡ plan .t * length (dealersOf plan x)
-  unfolding coinsIn dealersOf dealerCount
-  coins-number (Input s) = omega arith
-  coins-number (Add a b) = sym (mul-zero (plan .t))
-  coins-number (Scale a c) = sym (mul-zero (plan .t))
-  coins-number (Offset a c) = sym (mul-zero (plan .t))
-  coins-number (Multiply a b) = rw length-tab
-
 -- the coins before gate g are drawn: those of gate g begin at `from`
 pub record Drawn (bs : List ℕ) (from g : ℕ) : Type 0 where
   pub place : from ≡ coinsBelow (planOf bs) g
@@ -776,14 +759,6 @@ module _
   middle-end l = left-end _ at old new next _ (15 * g) (s .left) 15360 (rw (gates-end pl g l)) (omega (arith, s .drawn .within))
 
 -- the coins of gate g are there
-in-few : (t : ℕ) (x : Gate) → t ≤ 7 → coinsIn t x ≤ 105
-unfolding coinsIn
-in-few t (Input s) l = omega arith
-in-few t (Add a b) l = omega arith
-in-few t (Scale a c) l = omega arith
-in-few t (Offset a c) l = omega arith
-in-few t (Multiply a b) l = coins-few t l
-
 pub middle-room :
     (bs : List ℕ) (h : Header) (table coins ws : List ℕ) (at : ℕ) (old new : List ℕ) (next from g : ℕ) (gate : Gate) → Middle bs h table (numbers coins) ws at old new next from g → Planned bs h
     → g < h .gates → gate ≡ gateAt bs g → length (numbers coins) ≡ coinCount (planOf bs) → from + coinsIn (h .t) gate ≤ length coins / 2

@@ -58,14 +58,6 @@ unfoldable pub middleIn : Plan → Header → List ℕ → List ℕ → List ℕ
 middleIn plan h table cs ws =
     flatMap (λ g. piecesIn h table cs (coinsBelow plan g) ws (getD (plan .gates) g (Input 0))) (wiresWhere isMultiply plan)
 
--- the coins that a gate takes, t for each of its dealers
-unfoldable pub coinsIn : ℕ → Gate → ℕ
-coinsIn t (Input s) = t
-coinsIn t (Add a b) = 0
-coinsIn t (Scale a c) = 0
-coinsIn t (Offset a c) = 0
-coinsIn t (Multiply a b) = t * (t + t + 1)
-
 -- party i's coins at a gate whose coins begin at `from`
 unfoldable pub ownAt : ℕ → ℕ → List ℕ → ℕ → Gate → List ℕ
 ownAt t i cs from (Input s) = cond (eqb i s) (coinsFrom t from cs) []

@@ -21,9 +21,9 @@ ghost use Rattle.plan.specs.File.{planOf, gateAt};
 ghost use Rattle.plan.specs.Planned.{Planned};
 ghost use Rattle.plan_coalition.specs.Coalitions.{inSet, members, setFits};
 ghost use Rattle.run_protocol.specs.Shares.{shareTable, tableViewOf};
-ghost use Rattle.run_dealings.specs.Rows.{rowsOf, powers, Given};
+ghost use Rattle.run_dealings.specs.Rows.{rowsOf, powers, Given, coinsIn};
 ghost use Rattle.run_views.specs.ViewCounts.{viewCount};
-ghost use Rattle.run_views.specs.Flat.{shareIn, firstIn, outsIn, openedIn, pieceIn, piecesIn, middleIn, coinsIn, ownAt, mailIn, viewIn, Running, PowerRow, Ran};
+ghost use Rattle.run_views.specs.Flat.{shareIn, firstIn, outsIn, openedIn, pieceIn, piecesIn, middleIn, ownAt, mailIn, viewIn, Running, PowerRow, Ran};
 ghost use Rattle.run_views.specs.Writing.{Wrote};
 
 // One number, of which the two low bytes are kept.
@@ -298,20 +298,6 @@ fn write_results(
 
 // ---- coins
 
-// The coins that a gate takes from the list of all.
-fn coins_taken(t: usize, gate: Gate) -> usize
-    requires { ⌜ t ≤ 7 ⌝ }
-    ensures { λ r. ⌜ record { eq : r ≡ coinsIn t gate; most : r ≤ 105 } ⌝ }
-{
-    match gate {
-        Gate::Input(_) => t,
-        Gate::Add(_, _) => 0,
-        Gate::Scale(_, _) => 0,
-        Gate::Offset(_, _) => 0,
-        Gate::Multiply(_, _) => t * (t + t + 1),
-    }
-}
-
 // The t coins from number `from` on.
 fn put_coins(t: usize, coins: &[u8], from: usize, at: usize, out: &mut [u8]) -> usize
     requires { ⌜ t ≤ 7 ⌝ }
@@ -380,7 +366,7 @@ fn write_coins(plan: &[u8], h: Header, i: usize, coins: &[u8], at: usize, out: &
     while g < h.gates {
         let gate = plan::gate_at(plan, g);
         next = put_dealing(t, i, gate, coins, from, next, out);
-        from += coins_taken(t, gate);
+        from += run_dealings::coins_taken(t, gate);
         g += 1;
     }
     next
@@ -536,7 +522,7 @@ fn write_middle(
     while g < h.gates {
         let gate = plan::gate_at(plan, g);
         next = put_multiply(h, gate, table, coins, from, powers, next, out);
-        from += coins_taken(t, gate);
+        from += run_dealings::coins_taken(t, gate);
         g += 1;
     }
     next

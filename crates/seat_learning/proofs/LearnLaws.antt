@@ -38,6 +38,7 @@ use Rattle.plan.specs.declared.Header.{Header}
 use Rattle.plan.specs.Plans.{Plan, parties, dealerCount, dealerPoints, isInputOf, isMultiply, multiplies, multiplyWire, wiresFrom, wiresWhere, inputWires, ownInputCount}
 use Rattle.plan.specs.File.{gateAt, planOf}
 use Rattle.plan.specs.Planned.{Planned}
+use Rattle.plan.proofs.Wires.{length-inputWires}
 use Rattle.plan.proofs.Planned.{plan-p, plan-t, plan-n, plan-points, plan-gates, plan-gate}
 use Rattle.plan.proofs.Valid.{planned-ready, gate-kept, scale-constant, offset-constant}
 use Rattle.seat_learning.specs.Lent.{Holds, Dealers}
@@ -210,19 +211,6 @@ setAll-append xs (w ∷ ws) us vs =
     let e : 1 + length ws ≡ suc (length ws) = omega arith in
     setAll-append (set xs w (getD vs 0 0)) ws us (drop 1 vs)
     ∙ ap (setAll (setAll (set xs w (getD vs 0 0)) ws (drop 1 vs)) us) (drop-drop (length ws) 1 vs ∙ ap (λ (n : ℕ). drop n vs) e)
-
-by-test : (t : Bool) (g : ℕ) (ws : List ℕ) → length (cond t (g ∷ ws) ws) ≡ cond t (suc (length ws)) (length ws)
-by-test true g ws = refl
-by-test false g ws = refl
-
-pub length-wiresFrom : (f : Gate → Bool) (g : ℕ) (gates : List Gate) → length (wiresFrom f g gates) ≡ countWhere f gates
-unfolding wiresFrom countWhere
-length-wiresFrom f g [] = refl
-length-wiresFrom f g (x ∷ xs) = rw (by-test, length-wiresFrom f (suc g) xs)
-
-pub length-inputWires : (plan : Plan) (i : ℕ) → length (inputWires plan i) ≡ ownInputCount plan i
-unfolding inputWires wiresWhere ownInputCount
-length-inputWires plan i = length-wiresFrom (isInputOf i) 0 (plan .gates)
 
 -- the invariant after the first i parties, when number `at` of the mail is the next
 pub record Gathered (bs mail : List ℕ) (p : ℕ) (s₀ s : List ℕ) (at i : ℕ) : Type 0 where

@@ -27,11 +27,12 @@ use Rattle.plan.specs.declared.Header.{Header}
 use Rattle.plan.specs.Plans.{Plan, partyCount, ownInputCount, isInputOf, deals, wiresFrom, wiresWhere, inputWires, dealingsBelow, ownCoinCount, coinsAt}
 use Rattle.plan.specs.File.{gateAt, planOf}
 use Rattle.plan.specs.Planned.{Planned}
+use Rattle.plan.proofs.Wires.{length-wires}
 use Rattle.plan.proofs.Planned.{plan-t, plan-p, plan-n, plan-points, plan-gates, plan-gate}
 use Rattle.plan.proofs.Valid.{planned-ready}
 use Rattle.seat_messages.specs.Messages.{inputPolys, dealTo, sendInputs}
 use Rattle.seat_sending.specs.Sending.{Sent, Dealing, Own, coinsFrom, inputShares}
-use Rattle.seat_sending.proofs.SendLaws.{sent-none, sent-more, sent-unless, sent-where, flat, Rows, rows-none, rows-next, rows-all, rows-length}
+use Rattle.seat_sending.proofs.SendLaws.{sent-none, sent-more, sent-unless, sent-where, flat, Rows, rows-none, rows-next, rows-all, rows-length, cond-cons, one-long}
 use Rattle.seat_sending.proofs.DealLaws.{coinsFrom-part}
 
 -- ---- one gate
@@ -49,17 +50,8 @@ small-prime p t s cs at d = d .ready .small
 
 pub ruleset input-sending = (needs, gate-unless, gate-where, small-prime)
 
--- the field of a plan that passes
-one-long : (b : Bool) (v : ℕ) → length (cond b (v ∷ []) []) ≤ 1
-one-long true v = omega arith
-one-long false v = omega arith
-
 -- ---- the wires of a list of gates, and the shares of the dealings there
 module _ (f : Gate → Bool) where
-  cond-cons : (b : Bool) (s : ℕ) (xs ys zs : List ℕ) → xs ≡ ys ++ zs → cond b (s ∷ xs) xs ≡ cond b (s ∷ ys) ys ++ zs
-  cond-cons true s xs ys zs e = ap (λ (l : List ℕ). s ∷ l) e
-  cond-cons false s xs ys zs e = e
-
   cond-one : (b : Bool) (s n : ℕ) → s ≡ n → cond b (s ∷ []) [] ≡ cond b (n ∷ []) []
   cond-one b s n e = ap (λ (m : ℕ). cond b (m ∷ []) []) e
 
@@ -237,18 +229,9 @@ module _ (bs : List ℕ) (i : ℕ) (inputs coins : List ℕ) (x at : ℕ) where
 pub ruleset inputting = (needs, inputs-none, inputs-next, inputs-dealing, inputs-fit, inputs-done)
 
 -- ---- the loop over the receiving parties
-wires-few : (f : Gate → Bool) (s : ℕ) (xs : List Gate) → length (wiresFrom f s xs) ≡ countWhere f xs
-unfolding wiresFrom countWhere
-wires-few f s [] = refl
-wires-few f s (x ∷ xs) = by (f x) (wiresFrom f (suc s) xs) (countWhere f xs) (wires-few f (suc s) xs)
-  where
-    by : (b : Bool) (ws : List ℕ) (n : ℕ) → length ws ≡ n → length (cond b (s ∷ ws) ws) ≡ cond b (suc n) n
-    by true ws n e = ap suc e
-    by false ws n e = e
-
 pub inputs-long : (plan : Plan) (i : ℕ) (inputs coins : List ℕ) (x : ℕ) → length (inputShares plan i (inputWires plan i) inputs coins x) ≡ ownInputCount plan i
 unfolding inputWires wiresWhere ownInputCount
-inputs-long plan i inputs coins x = input-shares-length plan i inputs coins x (wiresFrom (isInputOf i) 0 (plan .gates)) ∙ wires-few (isInputOf i) 0 (plan .gates)
+inputs-long plan i inputs coins x = input-shares-length plan i inputs coins x (wiresFrom (isInputOf i) 0 (plan .gates)) ∙ length-wires (isInputOf i) 0 (plan .gates)
 
 point-at : (pts : List ℕ) (j n : ℕ) → pts ≡ tab suc 15 → n ≤ 15 → j < n → getD pts j 0 ≡ suc j
 point-at pts j n e l m = rw (e, getD-tab suc 15 j 0 (omega arith))

@@ -23,11 +23,12 @@ use Rattle.plan.specs.declared.Header.{Header}
 use Rattle.plan.specs.Plans.{partyCount, parties, outWiresOf, outWires}
 use Rattle.plan.specs.File.{between, outAt, outOk, planOf}
 use Rattle.plan.specs.Planned.{Planned}
+use Rattle.plan.proofs.Wires.{out-wires-few}
 use Rattle.plan.proofs.Planned.{plan-n, plan-outs, plan-out, between-true}
 use Rattle.plan.proofs.Valid.{valid}
 use Rattle.seat_messages.specs.Messages.{sendOuts}
 use Rattle.seat_sending.specs.Sending.{Sent, outShares}
-use Rattle.seat_sending.proofs.SendLaws.{sent-none, sent-more, sent-unless, sent-where, flat, flat-none, flat-next, Rows, rows-none, rows-next, rows-all}
+use Rattle.seat_sending.proofs.SendLaws.{sent-none, sent-more, sent-unless, sent-where, flat, flat-none, flat-next, Rows, rows-none, rows-next, rows-all, cond-cons, one-long}
 
 -- ---- an out
 module _ (party : ℕ) (o : Output) (at : ℕ) (old : List ℕ) where
@@ -40,10 +41,6 @@ module _ (party : ℕ) (o : Output) (at : ℕ) (old : List ℕ) where
 pub ruleset out-sending = (needs, out-other, out-own)
 
 -- ---- the loop over the outs: those of the party below o stand
-cond-cons : (b : Bool) (w : ℕ) (xs ys zs : List ℕ) → xs ≡ ys ++ zs → cond b (w ∷ xs) xs ≡ cond b (w ∷ ys) ys ++ zs
-cond-cons true w xs ys zs e = ap (λ (l : List ℕ). w ∷ l) e
-cond-cons false w xs ys zs e = e
-
 wires-snoc : (party : ℕ) (os : List Output) (o : Output) → outWiresOf party (os ++ (o ∷ [])) ≡ outWiresOf party os ++ cond (eqb party (o .party)) (o .wire ∷ []) []
 unfolding outWiresOf
 wires-snoc party [] o = refl
@@ -58,10 +55,6 @@ cond-map shares false w = refl
 shares-append : (shares ws vs : List ℕ) → outShares shares (ws ++ vs) ≡ outShares shares ws ++ outShares shares vs
 unfolding outShares
 shares-append shares ws vs = map-append (λ w. getD shares w 0) ws vs
-
-one-long : (b : Bool) (v : ℕ) → length (cond b (v ∷ []) []) ≤ 1
-one-long true v = omega arith
-one-long false v = omega arith
 
 pub record Outing (bs : List ℕ) (party : ℕ) (shares : List ℕ) (at : ℕ) (d₀ d : List ℕ) (place o : ℕ) : Type 0 where
   pub high : place ≤ at + o
@@ -160,19 +153,10 @@ rows-total shares os (suc n) =
     ∙ length-append (flat (tab row n)) (row n)
     ∙ ap₂ (λ (a b : ℕ). a + b) (rows-total shares os n) (outs-long shares (outWiresOf (suc n) os))
 
-pub wires-few : (party : ℕ) (os : List Output) → length (outWiresOf party os) ≤ length os
-unfolding outWiresOf
-wires-few party [] = omega arith
-wires-few party (o ∷ os) = by (eqb party (o .party)) (outWiresOf party os) (wires-few party os)
-  where
-    by : (b : Bool) (ws : List ℕ) → length ws ≤ length os → length (cond b (o .wire ∷ ws) ws) ≤ suc (length os)
-    by true ws l = omega arith
-    by false ws l = omega arith
-
 module _ (bs : List ℕ) (h : Header) (w : Planned bs h) (shares : List ℕ) where
   pub outs-few : (party : ℕ) → length (outShares shares (outWires (planOf bs) party)) ≤ 64
   unfolding outWires
-  outs-few party = omega (arith, outs-long shares (outWiresOf party (planOf bs .outs)), wires-few party (planOf bs .outs), plan-outs w, w .outs-high)
+  outs-few party = omega (arith, outs-long shares (outWiresOf party (planOf bs .outs)), out-wires-few party (planOf bs .outs), plan-outs w, w .outs-high)
 
   outs-total : length (flat (tab (λ j. outShares shares (outWires (planOf bs) (j + 1))) (h .n))) ≡ h .outs
   unfolding outWires

@@ -30,6 +30,15 @@ sets-all l vs e =
     ∙ ap (λ (r : List ℕ). vs ++ r) (drop-of-length-le l {i = 0 + length vs} (omega arith))
     ∙ append-nil vs
 
+-- ---- a number that is there or not
+pub one-long : (b : Bool) (v : ℕ) → length (cond b (v ∷ []) []) ≤ 1
+one-long true v = omega arith
+one-long false v = omega arith
+
+pub cond-cons : (b : Bool) (x : ℕ) (xs ys zs : List ℕ) → xs ≡ ys ++ zs → cond b (x ∷ xs) xs ≡ cond b (x ∷ ys) ys ++ zs
+cond-cons true x xs ys zs e = ap (λ (l : List ℕ). x ∷ l) e
+cond-cons false x xs ys zs e = e
+
 -- ---- a lent list
 pub sent-none : (old : List ℕ) (at : ℕ) → Sent [] at old old at
 sent-none old at = record { long = refl; place = omega arith; is = refl }

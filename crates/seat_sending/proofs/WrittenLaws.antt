@@ -15,12 +15,12 @@ use Rattle.plan.specs.declared.Header.{Header}
 use Rattle.plan.specs.Plans.{Plan, partyCount, dealerCount, multiplies, ownInputCount, ownOutCount, outWires, writtenCount}
 use Rattle.plan.specs.File.{planOf}
 use Rattle.plan.specs.Planned.{Planned}
+use Rattle.plan.proofs.Wires.{out-wires-few}
 use Rattle.plan.proofs.Planned.{plan-outs}
 use Rattle.seat_messages.specs.Messages.{sendInputs, sendProduct, sendOuts, resultsOf, send, callWith}
 use Rattle.seat_messages.specs.Calls.{written}
 use Rattle.seat_results.specs.Opened.{openedOuts}
 use Rattle.seat_sending.specs.Sending.{Coined, Lent}
-use Rattle.seat_sending.proofs.OutLaws.{wires-few}
 
 -- ---- how much is written
 module _ (plan : Plan) (i k : ℕ) (out : List ℕ) (room : length out ≡ 2 * writtenCount plan i k) where
@@ -98,7 +98,7 @@ module _ (bs : List ℕ) (h : Header) (w : Planned bs h) (i k : ℕ) (inputs coi
 
       pub part-results : length out ≤ 131072
       unfolding ownOutCount outWires
-      part-results = omega (arith, own-many, wires-few i (planOf bs .outs), plan-outs w, w .outs-high)
+      part-results = omega (arith, own-many, out-wires-few i (planOf bs .outs), plan-outs w, w .outs-high)
 
       pub part-opened : (new : List ℕ) → numbers new ≡ openedOuts (planOf bs) (length out / 2) (numbers mail)
           → numbers new ≡ written (planOf bs) k (callWith (planOf bs) i k (numbers inputs) (numbers coins) (numbers shares) (numbers mail))

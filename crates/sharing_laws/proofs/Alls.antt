@@ -1,10 +1,16 @@
 -- What holds of every entry of a list, of parts of it; points apart from each other.
+use mathlib.Core.Path.{_≡_, refl}
 use mathlib.Core.Logic.{_≢_}
+use mathlib.Core.Bool.{true}
 use mathlib.Core.List.{List, [], _∷_, _++_}
 use Prim.Native.Nat.{ℕ, zero, suc, _%_, _<_}
 use native.Mathlib.Omega.{arith}
+use borrow.Author.Tests.{lt-ltb}
 use lib.ListN.{length, take, drop, getD}
 use Rattle.numbers.specs.Tables.{tab}
+use Rattle.numbers.specs.Bytes.{allBelow}
+use Rattle.numbers.proofs.Below.{allBelow-at, at-allBelow}
+use Rattle.field.proofs.Solve.{Canon, below, canon-lt}
 use Rattle.sharing_laws.specs.Interp.{All, Distinct}
 
 pub all-tab : (P : ℕ → Type 0) (f : ℕ → ℕ) (n : ℕ) → ((k : ℕ) → k < n → P (f k)) → All P (tab f n)
@@ -35,3 +41,13 @@ pub distinct-take : (p k : ℕ) (xs : List ℕ) → Distinct p xs → Distinct p
 distinct-take p zero xs d = tt
 distinct-take p (suc k) [] d = tt
 distinct-take p (suc k) (x ∷ xs) d = (all-take (λ y. y % p ≢ x % p) k xs (d .0), distinct-take p k xs (d .1))
+
+-- ---- lists of elements
+pub below-canon : (p : ℕ) (xs : List ℕ) → allBelow p xs ≡ true → All (Canon p) xs
+below-canon p [] h = tt
+below-canon p (x ∷ xs) h = (below (allBelow-at p (x ∷ xs) 0 h (omega arith)), below-canon p xs (at-allBelow p xs (λ i l. allBelow-at p (x ∷ xs) (suc i) h (omega arith))))
+
+pub canon-below : (p : ℕ) → 0 < p → (xs : List ℕ) → All (Canon p) xs → allBelow p xs ≡ true
+unfolding allBelow
+canon-below p pos [] h = refl
+canon-below p pos (x ∷ xs) h = rw (lt-ltb x p (canon-lt pos (h .0)), canon-below p pos xs (h .1))

@@ -26,17 +26,13 @@ use Rattle.sharing.proofs.Coding.{map-tab, values-below}
 use Rattle.sharing_openings.proofs.Rows.{agrees, length-weights, length-first, take-below}
 use Rattle.sharing_laws.proofs.Interpolation.{interpolation}
 use Rattle.sharing_laws.proofs.Shares.{lies-on}
-use Rattle.sharing_laws.proofs.Alls.{distinct-take}
+use Rattle.sharing_laws.proofs.Alls.{distinct-take, below-canon}
 
 -- ---- the first entries of lists
 map-take : (f : ℕ → ℕ) (k : ℕ) (xs : List ℕ) → map f (take k xs) ≡ take k (map f xs)
 map-take f zero xs = refl
 map-take f (suc k) [] = refl
 map-take f (suc k) (x ∷ xs) = ap (λ (l : List ℕ). f x ∷ l) (map-take f k xs)
-
-pub below-canon : (p : ℕ) (xs : List ℕ) → allBelow p xs ≡ true → All (Canon p) xs
-below-canon p [] h = tt
-below-canon p (x ∷ xs) h = (below (allBelow-at p (x ∷ xs) 0 h (omega arith)), below-canon p xs (at-allBelow p xs (λ i l. allBelow-at p (x ∷ xs) (suc i) h (omega arith))))
 
 -- a weighted sum reads as many values as there are weights
 dot-take : (p k : ℕ) (ws vs : List ℕ) → length ws ≤ k → dot p ws (take k vs) ≡ dot p ws vs

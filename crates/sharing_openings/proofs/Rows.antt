@@ -21,6 +21,7 @@ use mir.Val.{Fits}
 use Rattle.numbers.specs.Bytes.{allBelow}
 use Rattle.numbers.specs.declared.Found.{Found}
 use Rattle.numbers.specs.declared.Found.the-variants.{At, Nothing}
+use Rattle.numbers.proofs.Tables.{row-room}
 use Rattle.numbers.proofs.Below.{allBelow-at, at-allBelow}
 use Rattle.numbers.proofs.Searches.{Seeking, begin, found, passed, nothing}
 use Rattle.field.specs.Mod.{mul}
@@ -70,9 +71,6 @@ none-written g k n d e = record { within = omega arith; place = omega arith; siz
 
 next-at : (k j : ℕ) → k * j + k ≡ k * (j + 1)
 next-at k j = rw (add-one, mul-suc)
-
-row-room : (k j n : ℕ) → j < n → k * j + k ≤ k * n
-row-room k j n l = omega (arith, next-at k j, mul-le-mul-left {m = j + 1} {n = n} k (omega arith))
 
 module _ {g : ℕ → List ℕ} {k n : ℕ} {d₀ d : List ℕ} {at j : ℕ} (h : Written g k n d₀ d at j) (l : j < n) where
   pub room : at + k ≤ length d

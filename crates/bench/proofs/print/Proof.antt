@@ -5,14 +5,14 @@ use Rattle.bench.proofs.print.Tie as tie
 read-full-requires : tie.Need-read-full-requires
 read-full-requires c κs = search splitting
 
-slice-reshare-prefix-report : tie.Need-slice-reshare-prefix-report
-slice-reshare-prefix-report c = search splitting
+slice-reshare-prefix-text : tie.Need-slice-reshare-prefix-text
+slice-reshare-prefix-text c = search splitting
 
-slice-aggregate-report : tie.Need-slice-aggregate-report
-slice-aggregate-report c = search splitting
+slice-aggregate-text : tie.Need-slice-aggregate-text
+slice-aggregate-text c = search splitting
 
-report-requires : tie.Need-report-requires
-report-requires c κs = search splitting
+text-requires : tie.Need-text-requires
+text-requires c κs = search splitting
 
 slice-reshare-prefix-write-all : tie.Need-slice-reshare-prefix-write-all
 slice-reshare-prefix-write-all c = search splitting
@@ -37,9 +37,9 @@ print-spec =
     tie.close
     (tie.spec
     read-full-requires
-    slice-reshare-prefix-report
-    slice-aggregate-report
-    report-requires
+    slice-reshare-prefix-text
+    slice-aggregate-text
+    text-requires
     slice-reshare-prefix-write-all
     slice-aggregate-write-all
     write-all-requires

@@ -1,0 +1,46 @@
+-- What else is claimed beside the demands: of the matching from its calls alone, of a view piece by piece, and of the sizes that a host cuts by.
+use Prim.Native.Nat.{ℕ, suc, _+_, _*_, _≤_}
+use mathlib.Core.Path.{_≡_}
+use mathlib.Core.Bool.{true}
+use mathlib.Core.List.{List}
+use lib.ListN.{length}
+use Rattle.numbers.specs.Bytes.{width, allBelow}
+use Rattle.plan.specs.declared.Checked.the-variants.{Passed}
+use Rattle.plan.specs.Plans.{Plan, partyCount, multiplies, ownInputs, ownCoins, mailCount, writtenCount}
+use Rattle.plan.specs.File.{planOf}
+use Rattle.plan_coalition.specs.Coalitions.{inSet, members}
+use Rattle.run_protocol.specs.Rounds.{mailTo, round, results}
+use Rattle.run_views.specs.ViewCounts.{viewCount}
+use Rattle.match_privacy.specs.Matching.{matchedCoins}
+use Rattle.match_agreement.specs.MatchCalls.{matchAnswer}
+use Rattle.demands.specs.Apart.{partCount}
+use Rattle.demands.specs.Demands.{Coins, Alike, SameBytes}
+
+-- ---- for any lent bytes: where the matching refuses nothing, the bench refuses neither run, and writes the same bytes for both
+abbrev pub MatchedBytes : Type 0
+MatchedBytes =
+    (bytes : List ℕ) (set : ℕ) (first second coins out view view′ : List ℕ)
+    → allBelow 256 bytes ≡ true → allBelow 256 first ≡ true → allBelow 256 second ≡ true → allBelow 256 coins ≡ true
+    → matchAnswer bytes set first second coins (length out) ≡ Passed
+    → length view ≡ width * viewCount (planOf bytes) (members set) → length view′ ≡ width * viewCount (planOf bytes) (members set)
+    → SameBytes bytes set first second coins out view view′
+
+-- ---- equal views are equal piece by piece: party i in the run of xs and c, and in that of ys and d
+pub record Pieces (plan : Plan) (i : ℕ) (xs c ys d : List ℕ) : Type 0 where
+  pub inputs : ownInputs plan i xs ≡ ownInputs plan i ys
+  pub coins : ownCoins plan i c ≡ ownCoins plan i d
+  pub mail : (k : ℕ) → k ≤ multiplies plan + 1 → mailTo i (round plan xs c k) ≡ mailTo i (round plan ys d k)
+  pub result : results plan xs c i ≡ results plan ys d i
+
+abbrev pub SamePieces : Type 0
+SamePieces =
+    (bytes : List ℕ) (set : ℕ) (xs ys c : List ℕ) → Alike bytes set xs ys → Coins (planOf bytes) c
+    → (i : ℕ) → 1 ≤ i → inSet set i ≡ true
+    → Pieces (planOf bytes) i xs c ys (matchedCoins (planOf bytes) (members set) xs ys c)
+
+-- ---- the sizes that a host cuts by, from those that the library answers (writtenCount: what a call writes; mailCount: what it takes)
+pub record Cut (plan : Plan) : Type 0 where
+  -- calls 0 to M: all parts of what a call writes have the same size
+  pub dealt : (j k i : ℕ) → k ≤ multiplies plan → partyCount plan * partCount plan j k i ≡ writtenCount plan j k
+  -- call M + 1: party i's part is one of the equal parts of the mail that it takes next
+  pub outs : (j i : ℕ) → partyCount plan * partCount plan j (suc (multiplies plan)) i ≡ mailCount plan i (suc (suc (multiplies plan)))
