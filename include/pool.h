@@ -8,8 +8,8 @@
  * document 01 says, for every input, and to end.
  *
  * Link target/staticlib/libpool.a. The library keeps no state of its own, takes
- * no memory from the heap, calls no function of the C library, and may be
- * called from several threads at once.
+ * no memory from the heap, calls no function of the C library but memcpy and
+ * memset, and may be called from several threads at once.
  *
  *
  * Slices
@@ -36,14 +36,22 @@
  *
  * Each function answers 64 bits. Bits 0 to 7 are the number of a refusal, 0
  * where there is none. Bits 8 to 39 are the refusal's place, 0 unless its
- * sentence names one; places count from 0. Of several faults the one with the
- * lowest number is answered, and of several places the lowest. A refused call
+ * sentence names one; places count from 0. Of several faults the first in
+ * checking order is answered, and of several places the lowest. A refused call
  * has written nothing.
  *
  * What each number says stands in pool_refusals.h, one row a number in checking
  * order, with what its place is; pool_refusal_sentence below gives the sentence.
  * In those sentences a party is a seat, its inputs are figures, a coalition is
  * a set, and n, t and p are the plan's number of seats, threshold and prime.
+ *
+ *
+ * Stack
+ * -----
+ *
+ * A call takes at most so many bytes of its thread's stack: pool_bench
+ * POOL_STACK_BENCH, pool_match POOL_STACK_MATCH, every other function
+ * POOL_STACK_SEAT. A thread's own start takes some more (PTHREAD_STACK_MIN).
  */
 #ifndef POOL_H
 #define POOL_H
@@ -54,6 +62,11 @@
 #ifdef __cplusplus
 extern "C" {
 #endif
+
+/* The bytes of stack that a call takes at most. */
+#define POOL_STACK_SEAT 4096
+#define POOL_STACK_BENCH 131072
+#define POOL_STACK_MATCH 262144
 
 /* The refusal's number in an answer, 0 where there is none; and its place. */
 #define POOL_REFUSAL(answer) ((unsigned)((answer) & 0xff))

@@ -1,0 +1,144 @@
+/* Each call on a thread that has the stack that pool.h states, and no more but a thread's own start: below it stands a page that nothing may touch.
+ * The stack is painted first, and what is painted over afterwards is at most what pool.h states. The plans are the largest there are. */
+#define _GNU_SOURCE
+#include <limits.h>
+#include <pthread.h>
+#include <stdlib.h>
+#include <sys/mman.h>
+
+#include "plans.h"
+
+enum { GATES = 1024, OUTS = 64, PAGE = 4096, PAINT = 0xa5 };
+
+static uint8_t plan[18 + 6 * GATES + 3 * OUTS], figures[4 * GATES], coins[400000], buffer[1000000], state[4 * GATES], mail[40000], written[40000];
+static size_t plan_len;
+
+/* n inputs of party 1, then multiplies; all outs go to party 1. */
+static void largest(unsigned n, unsigned t)
+{
+    contents(plan, n, t, 65521, GATES, OUTS);
+    for (unsigned g = 0; g < GATES; g++)
+        gate(plan, g, g < n ? 1 : 5, g < n ? 1 : g - 1, g < n ? 0 : g / 2);
+    for (unsigned o = 0; o < OUTS; o++)
+        out(plan, GATES, o, 1, GATES - 1);
+    plan_len = sizeof plan;
+}
+
+static size_t run_size(uint16_t set, uint16_t what)
+{
+    return POOL_VALUE(pool_run_size(plan, plan_len, set, what));
+}
+
+static size_t seat_size(uint16_t call, uint16_t what)
+{
+    return POOL_VALUE(pool_seat_size(plan, plan_len, 1, call, what));
+}
+
+/* The last t parties: a matching that moves every coin of the others. */
+static uint16_t last_parties(void)
+{
+    return (uint16_t)(((1u << plan[6]) - 1) << (plan[5] - plan[6]));
+}
+
+static uint64_t bench(void)
+{
+    uint16_t set = last_parties();
+    uint64_t answer = pool_bench(plan, plan_len, set, figures, run_size(set, 0), coins, run_size(set, 1), buffer, run_size(set, 2));
+    return POOL_REFUSAL(answer);
+}
+
+static uint64_t match(void)
+{
+    uint16_t set = last_parties();
+    static uint8_t second[sizeof figures];
+    put(second, 7);
+    return pool_match(plan, plan_len, set, figures, run_size(set, 0), second, run_size(set, 0), coins, run_size(set, 1), buffer, run_size(set, 1));
+}
+
+static uint64_t first_calls(void)
+{
+    uint64_t answer = 0;
+    memset(state, 0, sizeof state);
+    for (uint16_t call = 0; call < 4 && !answer; call++)
+        answer = pool_seat_call(plan, plan_len, 1, figures, seat_size(call, 0), coins, seat_size(call, 1), state, seat_size(call, 2), mail,
+            seat_size(call, 3), written, seat_size(call, 4));
+    return answer;
+}
+
+static uint64_t last_call(void)
+{
+    uint16_t call = (uint16_t)(POOL_VALUE(pool_calls(plan, plan_len)) - 1);
+    memset(state, 0, sizeof state);
+    put(state, call);
+    return pool_seat_call(plan, plan_len, 1, figures, seat_size(call, 0), coins, seat_size(call, 1), state, seat_size(call, 2), mail,
+        seat_size(call, 3), written, seat_size(call, 4));
+}
+
+static uint64_t small(void)
+{
+    uint64_t refusals = POOL_REFUSAL(pool_plan_check(plan, plan_len)) + POOL_REFUSAL(pool_calls(plan, plan_len));
+    for (uint16_t what = 0; what < 5; what++)
+        refusals += POOL_REFUSAL(pool_seat_size(plan, plan_len, 1, 1, what)) + POOL_REFUSAL(pool_run_size(plan, plan_len, 0, what));
+    return refusals;
+}
+
+struct job {
+    uint64_t (*call)(void);
+    uint8_t *floor;
+    size_t used;
+    uint64_t answer;
+};
+
+/* Paints what is below this function's own frame, makes the call, and looks how far down the paint is gone. */
+static void *work(void *given)
+{
+    struct job *job = given;
+    volatile uint8_t here;
+    uint8_t *top = (uint8_t *)&here - 512;
+    for (volatile uint8_t *at = job->floor; at < top; at++)
+        *at = PAINT;
+    job->answer = job->call();
+    uint8_t *at = job->floor;
+    while (at < top && *(volatile uint8_t *)at == PAINT)
+        at++;
+    job->used = (size_t)((uint8_t *)&here - at);
+    return NULL;
+}
+
+static void on_stack(const char *what, uint64_t (*call)(void), size_t stated)
+{
+    size_t size = (stated + (size_t)PTHREAD_STACK_MIN + PAGE - 1) / PAGE * PAGE;
+    uint8_t *block = mmap(NULL, size + PAGE, PROT_READ | PROT_WRITE, MAP_PRIVATE | MAP_ANONYMOUS, -1, 0);
+    struct job job = {call, block + PAGE, 0, 99};
+    pthread_attr_t attributes;
+    pthread_t thread;
+    if (block == MAP_FAILED || mprotect(block, PAGE, PROT_NONE) || pthread_attr_init(&attributes)
+        || pthread_attr_setstack(&attributes, block + PAGE, size) || pthread_create(&thread, &attributes, work, &job)
+        || pthread_join(thread, NULL)) {
+        printf("%s: no thread\n", what);
+        failed++;
+        return;
+    }
+    munmap(block, size + PAGE);
+    expect(what, job.answer, 0, 0);
+    printf("%s: %zu bytes of stack, %zu stated\n", what, job.used, stated);
+    if (job.used <= stated)
+        passed++;
+    else
+        failed++;
+}
+
+int main(void)
+{
+    static const unsigned shapes[][2] = {{15, 7}, {3, 1}, {1, 0}};
+    for (unsigned k = 0; k < 3; k++) {
+        largest(shapes[k][0], shapes[k][1]);
+        on_stack("pool_bench", bench, POOL_STACK_BENCH);
+        on_stack("pool_match", match, POOL_STACK_MATCH);
+        on_stack("pool_seat_call, the first calls", first_calls, POOL_STACK_SEAT);
+        on_stack("pool_seat_call, the last call", last_call, POOL_STACK_SEAT);
+        on_stack("plan check and sizes", small, POOL_STACK_SEAT);
+    }
+    printf("%d passed, %d failed\n", passed, failed);
+    return failed != 0;
+}
