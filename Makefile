@@ -1,16 +1,24 @@
-# make run    prove, build and run the bench program on plan K of document 01
-# make test   everything: proofs, must-fail edits, programs, C and Rust tests; the last line counts
-# make seats  run plan K with a process for each seat, and print each seat's results
-# make speed  time the library against the Rust reference in one process, as ratios
-.PHONY: run test seats speed library host
+# make run      prove, build and run the bench program on plan K of document 01
+# make pool     prove the library and build the pool command, target/pool
+# make test     everything: proofs, must-fail edits, programs, C and Rust tests; the last line counts
+# make seats    run plan K with a process for each seat, and print each seat's results
+# make install  the library, its header, pool, seat and their manual pages below PREFIX (and DESTDIR before it)
+# make speed    time the library against the Rust reference in one process, as ratios
+.PHONY: run test seats speed library host pool install
+
+VERSION = 1.0.0
+PREFIX = /usr/local
+DESTDIR =
+
+LIBRARY = target/staticlib/libpool.a
+COMPILE = gcc -std=gnu11 -O2 -Wall -Wextra -Werror -Wvla -Iinclude -Icommand
 
 run:
-	@mkdir -p target
-	@rt check bench >target/run.log 2>&1 || { tail -n 20 target/run.log; exit 1; }
+	@tools/progress --log target/run.log rt check bench
 	@target/bin/bench <examples/K.bench
 
 test:
-	@tests/all
+	@tools/progress tests/all
 
 seats: host
 	@rm -rf target/seats && cp -r examples/seats target/seats
@@ -21,13 +29,32 @@ speed: library
 		cargo run --offline --release --quiet --bin speed
 
 # the static library
-library: target/staticlib/libpool.a
+library: $(LIBRARY)
+	@:
 
-target/staticlib/libpool.a: crates.txt $(shell find crates -name '*.rt' -o -name '*.antt')
-	@mkdir -p target
-	@rt staticlib pool >target/library.log 2>&1 || { tail -n 20 target/library.log; exit 1; }
+$(LIBRARY): crates.txt $(shell find crates -name '*.rt' -o -name '*.antt')
+	@tools/progress --log target/library.log rt staticlib pool
 
-# the host program of one seat, target/host/seat
-host: library
+# the host program of one seat
+host: target/host/seat
+	@:
+
+target/host/seat: host/seat.c command/lists.c command/lists.h include/pool.h include/pool_refusals.h $(LIBRARY)
 	@mkdir -p target/host
-	@gcc -std=gnu11 -O2 -Wall -Wextra -Werror -pthread -Iinclude -o target/host/seat host/seat.c target/staticlib/libpool.a
+	@$(COMPILE) -pthread -o $@ host/seat.c command/lists.c $(LIBRARY)
+
+# the pool command
+pool: target/pool
+	@:
+
+target/pool: Makefile $(wildcard command/*.c command/*.h) include/pool.h include/pool_refusals.h $(LIBRARY)
+	@$(COMPILE) -DPOOL_VERSION='"$(VERSION)"' -o $@ command/*.c $(LIBRARY)
+
+install: library host pool
+	@install -d "$(DESTDIR)$(PREFIX)/bin" "$(DESTDIR)$(PREFIX)/include" "$(DESTDIR)$(PREFIX)/lib/pkgconfig" "$(DESTDIR)$(PREFIX)/share/man/man1"
+	@install -m 755 target/pool target/host/seat "$(DESTDIR)$(PREFIX)/bin"
+	@install -m 644 include/pool.h include/pool_refusals.h "$(DESTDIR)$(PREFIX)/include"
+	@install -m 644 $(LIBRARY) "$(DESTDIR)$(PREFIX)/lib"
+	@sed -e 's|@PREFIX@|$(PREFIX)|' -e 's|@VERSION@|$(VERSION)|' include/pool.pc.in >target/pool.pc
+	@install -m 644 target/pool.pc "$(DESTDIR)$(PREFIX)/lib/pkgconfig"
+	@install -m 644 man/pool.1 man/seat.1 "$(DESTDIR)$(PREFIX)/share/man/man1"

@@ -19,25 +19,21 @@
 #include <poll.h>
 #include <pthread.h>
 #include <stdarg.h>
+#include <stdbool.h>
 #include <stdint.h>
 #include <stdio.h>
 #include <stdlib.h>
 #include <string.h>
-#include <sys/random.h>
 #include <sys/socket.h>
 #include <sys/stat.h>
 #include <sys/time.h>
 #include <sys/un.h>
 #include <unistd.h>
 
+#include "lists.h"
 #include "pool.h"
 
-enum { MAX_SEATS = 15, NUMBER = 2, RETRY_MS = 20, TIMEOUT_S = 5 };
-
-struct bytes {
-    uint8_t *at;
-    size_t len;
-};
+enum { MAX_SEATS = 15, RETRY_MS = 20, TIMEOUT_S = 5 };
 
 static struct bytes plan, figures, coins;
 static unsigned seat, seats;
@@ -50,8 +46,9 @@ static struct bytes state;
 static struct bytes outgoing[2]; /* of call `next` - 1, and of the one before */
 static uint16_t done;            /* bit i - 1: seat i has finished and this seat knows it */
 
-static void fail(const char *format, ...)
+_Noreturn void fail(enum fault fault, const char *format, ...)
 {
+    (void)fault;
     va_list args;
     va_start(args, format);
     fprintf(stderr, "seat %u: ", seat);
@@ -66,7 +63,7 @@ static uint64_t value(uint64_t answer)
 {
     unsigned number = POOL_REFUSAL(answer);
     if (number)
-        fail("refused %u at place %lu: %s", number, (unsigned long)POOL_PLACE(answer), pool_refusal_sentence(number));
+        fail(NOT_POSSIBLE, "refused %u at place %lu: %s", number, (unsigned long)POOL_PLACE(answer), pool_refusal_sentence(number));
     return POOL_VALUE(answer);
 }
 
@@ -75,20 +72,13 @@ static uint64_t size(unsigned of, uint64_t call, unsigned what)
     return value(pool_seat_size(plan.at, plan.len, (uint16_t)of, (uint16_t)call, (uint16_t)what));
 }
 
-static struct bytes fresh_bytes(size_t len)
-{
-    struct bytes b = {calloc(len ? len : 1, 1), len};
-    if (!b.at)
-        fail("no memory");
-    return b;
-}
-
-static unsigned number_at(const uint8_t *at)
+/* A number of two bytes, as records and requests have it. */
+static unsigned short_at(const uint8_t *at)
 {
     return at[0] + 256u * at[1];
 }
 
-static void put_number(uint8_t *at, unsigned x)
+static void put_short(uint8_t *at, unsigned x)
 {
     at[0] = x % 256;
     at[1] = x / 256 % 256;
@@ -99,54 +89,30 @@ static void put_number(uint8_t *at, unsigned x)
 static void path_of(char *path, size_t room, const char *folder, const char *name, unsigned of)
 {
     if ((size_t)snprintf(path, room, "%s/%s-%u", folder, name, of) >= room)
-        fail("a path is too long: %s/%s-%u", folder, name, of);
+        fail(NOT_POSSIBLE, "a path is too long: %s/%s-%u", folder, name, of);
 }
 
-static int read_file(const char *path, struct bytes *b)
+/* Whether a file is there, and its bytes. One that is there and cannot be read ends the program. */
+static bool read_if_there(const char *path, struct bytes *all)
 {
-    FILE *f = fopen(path, "rb");
-    if (!f)
-        return 0;
-    *b = fresh_bytes(0);
-    size_t room = 0;
-    for (;;) {
-        if (b->len == room) {
-            room = room ? 2 * room : 4096;
-            b->at = realloc(b->at, room);
-            if (!b->at)
-                fail("no memory");
-        }
-        size_t got = fread(b->at + b->len, 1, room - b->len, f);
-        if (!got)
-            break;
-        b->len += got;
-    }
-    if (ferror(f))
-        fail("cannot read %s", path);
-    fclose(f);
-    return 1;
+    if (read_file(path, all))
+        return true;
+    if (errno != ENOENT)
+        fail(NOT_POSSIBLE, "cannot read %s: %s", path, strerror(errno));
+    return false;
 }
 
 /* Replaces a file as a whole: after a crash the old contents or the new ones stand there. */
-static void replace_file(const char *path, const uint8_t *at, size_t len)
+static void replace_file(const char *path, struct bytes all)
 {
     char other[4096];
     if ((size_t)snprintf(other, sizeof other, "%s.new", path) >= sizeof other)
-        fail("a path is too long: %s", path);
+        fail(NOT_POSSIBLE, "a path is too long: %s", path);
     int fd = open(other, O_WRONLY | O_CREAT | O_TRUNC, 0600);
-    if (fd < 0)
-        fail("cannot write %s: %s", other, strerror(errno));
-    while (len) {
-        ssize_t put = write(fd, at, len);
-        if (put < 0 && errno == EINTR)
-            continue;
-        if (put <= 0)
-            fail("cannot write %s: %s", other, strerror(errno));
-        at += put;
-        len -= (size_t)put;
-    }
+    if (fd < 0 || !write_all(fd, all))
+        fail(NOT_POSSIBLE, "cannot write %s: %s", other, strerror(errno));
     if (fsync(fd) || close(fd) || rename(other, path))
-        fail("cannot replace %s: %s", path, strerror(errno));
+        fail(NOT_POSSIBLE, "cannot replace %s: %s", path, strerror(errno));
     int folder = open(home, O_RDONLY | O_DIRECTORY);
     if (folder >= 0) {
         fsync(folder);
@@ -154,63 +120,16 @@ static void replace_file(const char *path, const uint8_t *at, size_t len)
     }
 }
 
-/* Decimal numbers of a text file, as a list of two-byte numbers. */
-static struct bytes read_numbers(const char *path, struct bytes text)
-{
-    struct bytes list = fresh_bytes(text.len * NUMBER);
-    size_t i = 0, n = 0;
-    while (i < text.len) {
-        if (strchr(" \t\r\n", text.at[i]) && text.at[i]) {
-            i++;
-            continue;
-        }
-        unsigned long x = 0;
-        size_t from = i;
-        for (; i < text.len && text.at[i] >= '0' && text.at[i] <= '9'; i++) {
-            x = 10 * x + (text.at[i] - '0');
-            if (x > 65535)
-                fail("%s: a number is above 65535", path);
-        }
-        if (i == from)
-            fail("%s: not a decimal number at byte %zu", path, i);
-        put_number(list.at + NUMBER * n++, (unsigned)x);
-    }
-    list.len = NUMBER * n;
-    return list;
-}
-
 static void write_numbers(const char *path, struct bytes list)
 {
-    struct bytes text = fresh_bytes(list.len * 4 + 1);
-    size_t len = 0;
-    for (size_t i = 0; i < list.len; i += NUMBER)
-        len += (size_t)sprintf((char *)text.at + len, "%u\n", number_at(list.at + i));
-    replace_file(path, text.at, len);
+    struct bytes text = text_of(list);
+    replace_file(path, text);
     free(text.at);
-}
-
-/* Uniform below p: numbers from the largest multiple of p on are drawn again. */
-static unsigned draw_below(unsigned p)
-{
-    for (;;) {
-        uint16_t x;
-        if (getrandom(&x, sizeof x, 0) != (ssize_t)sizeof x) {
-            if (errno == EINTR)
-                continue;
-            fail("no random numbers: %s", strerror(errno));
-        }
-        if (x < 65536 / p * p)
-            return x % p;
-    }
 }
 
 static struct bytes draw_coins(void)
 {
-    struct bytes list = fresh_bytes(size(seat, 0, POOL_SEAT_COINS));
-    unsigned p = number_at(plan.at + 8);
-    for (size_t i = 0; i < list.len; i += NUMBER)
-        put_number(list.at + i, draw_below(p));
-    return list;
+    return draw_numbers(numbers_in(size(seat, 0, POOL_SEAT_COINS)), short_at(plan.at + 8));
 }
 
 /* ---- the record */
@@ -226,11 +145,11 @@ static void put_part(struct bytes *to, struct bytes part)
 static struct bytes take_part(const char *path, struct bytes from, size_t *at)
 {
     if (from.len - *at < 4)
-        fail("%s is damaged", path);
+        fail(NOT_POSSIBLE, "%s is damaged", path);
     size_t len = from.at[*at] + 256u * from.at[*at + 1] + 65536u * from.at[*at + 2] + 16777216u * from.at[*at + 3];
     *at += 4;
     if (from.len - *at < len)
-        fail("%s is damaged", path);
+        fail(NOT_POSSIBLE, "%s is damaged", path);
     struct bytes part = fresh_bytes(len);
     memcpy(part.at, from.at + *at, len);
     *at += len;
@@ -243,11 +162,11 @@ static void keep_record(void)
     path_of(path, sizeof path, home, "record", seat);
     struct bytes all = fresh_bytes(2 + 12 + state.len + outgoing[0].len + outgoing[1].len);
     all.len = 2;
-    put_number(all.at, done);
+    put_short(all.at, done);
     put_part(&all, state);
     put_part(&all, outgoing[0]);
     put_part(&all, outgoing[1]);
-    replace_file(path, all.at, all.len);
+    replace_file(path, all);
     free(all.at);
 }
 
@@ -256,42 +175,37 @@ static void open_record(void)
     char path[4096];
     struct bytes all;
     path_of(path, sizeof path, home, "record", seat);
-    if (!read_file(path, &all)) {
+    if (!read_if_there(path, &all)) {
         state = fresh_bytes(size(seat, 0, POOL_SEAT_STATE));
         outgoing[0] = fresh_bytes(0);
         outgoing[1] = fresh_bytes(0);
         return;
     }
     if (all.len < 2)
-        fail("%s is damaged", path);
+        fail(NOT_POSSIBLE, "%s is damaged", path);
     size_t at = 2;
-    done = (uint16_t)number_at(all.at);
+    done = (uint16_t)short_at(all.at);
     state = take_part(path, all, &at);
     outgoing[0] = take_part(path, all, &at);
     outgoing[1] = take_part(path, all, &at);
     free(all.at);
     if (state.len != size(seat, 0, POOL_SEAT_STATE))
-        fail("%s belongs to another plan", path);
+        fail(NOT_POSSIBLE, "%s belongs to another plan", path);
 }
 
 static uint64_t next_call(void)
 {
-    return number_at(state.at);
+    return get_number(state, 0);
 }
 
-/* Where seat `to`'s part stands in what seat `from` sends in a round, and how long it is. Every receiver gets equally much, but for the
- * round of the outs, where each gets a share of each of its own. */
-static size_t part_of(unsigned from, unsigned to, uint64_t round, size_t *at)
+/* Of what seat `from` sends in a round, the part for seat `to`. */
+static struct part part_of(unsigned from, unsigned to, uint64_t round)
 {
-    if (round + 2 < calls) {
-        size_t each = size(from, round, POOL_SEAT_OUT) / seats;
-        *at = each * (to - 1);
-        return each;
-    }
-    *at = 0;
-    for (unsigned i = 1; i < to; i++)
-        *at += size(i, round + 1, POOL_SEAT_MAIL) / seats;
-    return size(to, round + 1, POOL_SEAT_MAIL) / seats;
+    size_t mail[MAX_SEATS];
+    bool outs = round + 2 == calls;
+    for (unsigned i = 1; outs && i <= seats; i++)
+        mail[i - 1] = size(i, round + 1, POOL_SEAT_MAIL);
+    return part_for(to, seats, size(from, round, POOL_SEAT_OUT), outs ? mail : NULL);
 }
 
 /* ---- messages between seats: a request is a letter, the asking seat and a round */
@@ -301,7 +215,7 @@ static void socket_path(struct sockaddr_un *address, unsigned of)
     memset(address, 0, sizeof *address);
     address->sun_family = AF_UNIX;
     if ((size_t)snprintf(address->sun_path, sizeof address->sun_path, "%s/seat-%u", mail_folder, of) >= sizeof address->sun_path)
-        fail("the mail folder's path is too long: %s", mail_folder);
+        fail(NOT_POSSIBLE, "the mail folder's path is too long: %s", mail_folder);
 }
 
 static int move_all(int fd, uint8_t *at, size_t len, int out)
@@ -333,8 +247,8 @@ static void answer(int fd)
     set_timeouts(fd);
     if (!move_all(fd, request, sizeof request, 0))
         return;
-    unsigned from = number_at(request + 1);
-    uint64_t round = number_at(request + 3);
+    unsigned from = short_at(request + 1);
+    uint64_t round = short_at(request + 3);
     if (from < 1 || from > seats)
         return;
     pthread_mutex_lock(&lock);
@@ -347,12 +261,12 @@ static void answer(int fd)
         uint8_t yes = 1;
         move_all(fd, &yes, 1, 1);
     } else if (request[0] == 'M' && round < next && next - round <= 2) {
-        size_t at, len = part_of(seat, from, round, &at);
-        uint8_t *whole = malloc(1 + len);
+        struct part p = part_of(seat, from, round);
+        uint8_t *whole = malloc(1 + p.len);
         if (whole) {
             whole[0] = 1;
-            memcpy(whole + 1, outgoing[next - 1 - round].at + at, len);
-            move_all(fd, whole, 1 + len, 1);
+            memcpy(whole + 1, outgoing[next - 1 - round].at + p.at, p.len);
+            move_all(fd, whole, 1 + p.len, 1);
             free(whole);
         }
     } else {
@@ -381,7 +295,7 @@ static int listen_here(void)
     int fd = socket(AF_UNIX, SOCK_STREAM, 0);
     unlink(address.sun_path);
     if (fd < 0 || bind(fd, (struct sockaddr *)&address, sizeof address) || listen(fd, 64))
-        fail("cannot listen at %s: %s", address.sun_path, strerror(errno));
+        fail(NOT_POSSIBLE, "cannot listen at %s: %s", address.sun_path, strerror(errno));
     return fd;
 }
 
@@ -392,8 +306,8 @@ static int ask(unsigned of, char letter, uint64_t round, uint8_t *to, size_t len
     uint8_t request[5] = {(uint8_t)letter};
     uint8_t yes = 0;
     socket_path(&address, of);
-    put_number(request + 1, seat);
-    put_number(request + 3, (unsigned)round);
+    put_short(request + 1, seat);
+    put_short(request + 3, (unsigned)round);
     int fd = socket(AF_UNIX, SOCK_STREAM, 0);
     if (fd < 0)
         return 0;
@@ -417,13 +331,13 @@ static struct bytes gather(uint64_t round)
     struct bytes mail = fresh_bytes(size(seat, round + 1, POOL_SEAT_MAIL));
     size_t to = 0;
     for (unsigned from = 1; from <= seats; from++) {
-        size_t at, len = part_of(from, seat, round, &at);
+        struct part p = part_of(from, seat, round);
         if (from == seat)
-            memcpy(mail.at + to, outgoing[0].at + at, len);
+            memcpy(mail.at + to, outgoing[0].at + p.at, p.len);
         else
-            while (!ask(from, 'M', round, mail.at + to, len))
+            while (!ask(from, 'M', round, mail.at + to, p.len))
                 wait_a_little();
-        to += len;
+        to += p.len;
     }
     return mail;
 }
@@ -467,7 +381,7 @@ static void leave(void)
     path_of(path, sizeof path, mail_folder, "finished", seat);
     int fd = open(path, O_WRONLY | O_CREAT, 0644);
     if (fd < 0)
-        fail("cannot write %s: %s", path, strerror(errno));
+        fail(NOT_POSSIBLE, "cannot write %s: %s", path, strerror(errno));
     close(fd);
     socket_path(&address, seat);
     unlink(address.sun_path);
@@ -506,20 +420,20 @@ int main(int count, char **args)
     }
     seat = (unsigned)strtoul(args[2], &end, 10);
     if (*end || end == args[2] || seat > 65535)
-        fail("not a seat number: %s", args[2]);
+        fail(NOT_POSSIBLE, "not a seat number: %s", args[2]);
     home = args[5];
     mail_folder = args[6];
     if (!read_file(args[1], &plan))
-        fail("cannot read the plan %s", args[1]);
+        fail(NOT_POSSIBLE, "cannot read the plan %s: %s", args[1], strerror(errno));
     value(pool_plan_check(plan.at, plan.len));
     size(seat, 0, POOL_SEAT_STATE);
     seats = plan.at[5];
     calls = value(pool_calls(plan.at, plan.len));
     if (!read_file(args[3], &text))
-        fail("cannot read the figures %s", args[3]);
-    figures = read_numbers(args[3], text);
-    if (read_file(args[4], &text)) {
-        coins = read_numbers(args[4], text);
+        fail(NOT_POSSIBLE, "cannot read the figures %s: %s", args[3], strerror(errno));
+    figures = numbers_of(args[3], text);
+    if (read_if_there(args[4], &text)) {
+        coins = numbers_of(args[4], text);
     } else {
         coins = draw_coins();
         write_numbers(args[4], coins);
@@ -527,7 +441,7 @@ int main(int count, char **args)
     open_record();
     listener = listen_here();
     if (pthread_create(&server, NULL, serve, &listener))
-        fail("cannot start the server");
+        fail(NOT_POSSIBLE, "cannot start the server");
     while (next_call() < calls)
         make_call();
     finish();

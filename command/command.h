@@ -1,0 +1,86 @@
+/* What the subcommands of pool share: the command line, what is read, what is printed, and how the program ends. */
+#ifndef COMMAND_H
+#define COMMAND_H
+
+#include <stdbool.h>
+#include <stdio.h>
+
+#include "lists.h"
+
+/* How the program ends. */
+enum { DONE = 0, REFUSED = 1, USAGE = 2, SYSTEM = 3 };
+
+/* A subcommand: a file of its own, and a row of the table in pool.c. */
+struct command {
+    const char *name;
+    const char *line;  /* what it does, for the list of all */
+    const char *usage; /* its words after its name */
+    const char *help;  /* its page */
+    void (*run)(char **args);
+};
+
+extern const struct command check_command, show_command, run_command, match_command;
+
+/* The subcommand that runs; null before it is known. */
+extern const struct command *current;
+
+/* ---- the command line (words.c) */
+
+/* An option: `--name VALUE`, `--name=VALUE` or `-letter VALUE`; alone where it is a flag. */
+struct option {
+    const char *name;
+    char letter;        /* 0 for none */
+    const char **value; /* null for a flag */
+    bool *flag;         /* null for a value */
+    bool needed;
+};
+
+/* Reads the words of a subcommand: its one operand, and its options, which a row without a name ends. Bad usage ends the program. */
+void read_words(char **args, const char *operand_name, const char **operand, const struct option *options);
+
+/* Ends the program: the message, and a hint. */
+_Noreturn void bad_usage(const char *format, ...) __attribute__((format(printf, 1, 2)));
+
+/* The number that a word is, at most 4,294,967,295. */
+uint32_t number_word(const char *option, const char *word);
+
+/* The set that a word as 1,3 names: bit i - 1 stands for seat i. */
+uint16_t set_of(const char *word);
+
+/* ---- input (input.c) */
+
+/* The bytes of a file; `-` is standard input. */
+struct bytes input(const char *path);
+
+/* The list of an option's word: the numbers themselves, or a file that has them. */
+struct bytes list_of(const char *option, const char *word);
+
+/* ---- output (output.c) */
+
+/* A text that is kept until all of it is there, so that nothing is written where something is refused. */
+struct report {
+    FILE *to;
+    char *text;
+    size_t len;
+};
+
+void open_report(struct report *r);
+
+/* Writes the report to a file, or to standard output where path is null or `-`. */
+void close_report(struct report *r, const char *path);
+
+/* Replaces a file as a whole, or writes standard output for `-`. */
+void write_output(const char *path, struct bytes all);
+
+/* The ending of a counted word. */
+static inline const char *plural(size_t count)
+{
+    return count == 1 ? "" : "s";
+}
+
+/* ---- answers of the library */
+
+/* The value of an answer; a refusal is printed and ends the program. */
+uint64_t value(uint64_t answer);
+
+#endif
