@@ -39,10 +39,10 @@ use Rattle.plan.proofs.Planned.{plan-t, plan-p, plan-gates, plan-gate}
 use Rattle.plan.proofs.Valid.{valid, planned-ready}
 use Rattle.run_protocol.specs.Ideal.{inputsTaken}
 use Rattle.run_protocol.specs.Shares.{gateShare, coinsTaken, coinsBelow}
-use Rattle.run_dealings.specs.Rows.{rowsOf, Sized, Prepared, Standing}
+use Rattle.run_dealings.specs.Rows.{rowsOf, Prepared, Standing}
 use Rattle.run_protocol.proofs.Below.{append-below, map-below}
 use Rattle.run_tables.proofs.FillLaws.{rows-snoc, coins-next, coins-within}
-use Rattle.run_tables.proofs.StepLaws.{planned-sized}
+use Rattle.run_tables.proofs.StepLaws.{placing}
 use Rattle.match_privacy.specs.Matching.{matchedAt, matchFrom, matchedCoins}
 use Rattle.match_agreement.specs.MatchParts.{Matchable}
 use Rattle.match_call.specs.MatchSteps.{deltaTail, Equipped, Turn, Matched}
@@ -76,9 +76,9 @@ row-small plan above gate env v cs b =
 -- ---- the loop
 -- the invariant at gate g: the next coins stand at `at`, the next input is number `next`; what is written, and what is left to match from the wires
 -- env of the first run and env′ of the matched one
-pub record Matching (bs : List ℕ) (h : Header) (set : ℕ) (es rows ws xs ys coins out₀ before after out : List ℕ) (at next g : ℕ) : Type 0 where
+pub record Matching (bs : List ℕ) (h : Header) (set : ℕ) (es ps rows ws xs ys coins out₀ before after out : List ℕ) (at next g : ℕ) : Type 0 where
   pub equipped : Equipped bs h set es
-  pub prepared : Prepared h rows ws
+  pub prepared : Prepared bs h ps rows ws
   pub given : Matchable bs h set xs ys coins (length out)
   pub within : g ≤ h .gates
   pub few : next ≤ g
@@ -97,10 +97,10 @@ pub record Matching (bs : List ℕ) (h : Header) (set : ℕ) (es rows ws xs ys c
       take at (numbers out) ++ matchFrom (planOf bs) (members set) (drop g (planOf bs .gates)) env env′ (drop next (numbers xs)) (drop next (numbers ys)) (drop at (numbers coins))
       ≡ matchedCoins (planOf bs) (members set) (numbers xs) (numbers ys) (numbers coins)
 
-module _ (bs : List ℕ) (h : Header) (set : ℕ) (es rows ws xs ys coins : List ℕ) where
+module _ (bs : List ℕ) (h : Header) (set : ℕ) (es ps rows ws xs ys coins : List ℕ) where
   pub match-none :
-      (before after out : List ℕ) → Equipped bs h set es → Prepared h rows ws → Matchable bs h set xs ys coins (length out) → length before ≡ 15360 → length after ≡ 15360
-      → Matching bs h set es rows ws xs ys coins out before after out 0 0 0
+      (before after out : List ℕ) → Equipped bs h set es → Prepared bs h ps rows ws → Matchable bs h set xs ys coins (length out) → length before ≡ 15360 → length after ≡ 15360
+      → Matching bs h set es ps rows ws xs ys coins out before after out 0 0 0
   unfolding rowsOf coinsBelow matchedCoins allBelow flatMap
   match-none before after out eq pr gi fl sl =
       let z : h .n * 0 ≡ 0 = mul-zero (h .n) in
@@ -124,7 +124,7 @@ module _ (bs : List ℕ) (h : Header) (set : ℕ) (es rows ws xs ys coins : List
         rest = refl;
       }
 
-  module _ (out₀ before after out : List ℕ) (at next g : ℕ) (m : Matching bs h set es rows ws xs ys coins out₀ before after out at next g) where
+  module _ (out₀ before after out : List ℕ) (at next g : ℕ) (m : Matching bs h set es ps rows ws xs ys coins out₀ before after out at next g) where
     k : Planned bs h
     k = m .equipped .planned
 
@@ -137,7 +137,7 @@ module _ (bs : List ℕ) (h : Header) (set : ℕ) (es rows ws xs ys coins : List
     pub match-equipped : Equipped bs h set es
     match-equipped = m .equipped
 
-    pub match-prepared : Prepared h rows ws
+    pub match-prepared : Prepared bs h ps rows ws
     match-prepared = m .prepared
 
     module _ (l : g < h .gates) where
@@ -221,7 +221,7 @@ module _ (bs : List ℕ) (h : Header) (set : ℕ) (es rows ws xs ys coins : List
             (before′ after′ out′ : List ℕ) (r t : ℕ) (gate : Gate)
             → Matched (planOf bs) (members set) (h .n) (gateAt bs g) g x y (numbers coins) at before after out before′ after′ out′ r
             → length before′ ≡ length before → length after′ ≡ length after → length out′ ≡ length out → gate ≡ gateAt bs g → t ≡ inputsTaken gate → t ≤ 1
-            → Matching bs h set es rows ws xs ys coins out₀ before′ after′ out′ r (next + t) (g + 1)
+            → Matching bs h set es ps rows ws xs ys coins out₀ before′ after′ out′ r (next + t) (g + 1)
         unfolding new env-next env′-next left
         match-next before′ after′ out′ r t gate w lb la lo eg et le =
             let tt : t ≡ inputsTaken (gateAt bs g) = et ∙ ap inputsTaken eg in
@@ -315,8 +315,8 @@ pub ruleset finding-delta = (needs, planned-ready, members-count, delta-count, m
 pub equip : (bs : List ℕ) (h : Header) (set : ℕ) (xs ys coins : List ℕ) (room : ℕ) (es : List ℕ) → Planned bs h → Matchable bs h set xs ys coins room → es ≡ deltaTail (planOf bs) set → Equipped bs h set es
 equip bs h set xs ys coins room es p g e = record { planned = p; set-ok = g .set-ok; coefficients = e }
 
-pub equip-sized : (bs : List ℕ) (h : Header) (set : ℕ) (es : List ℕ) → Equipped bs h set es → Sized h
-equip-sized bs h set es e = planned-sized bs h (e .planned)
+pub equip-planned : (bs : List ℕ) (h : Header) (set : ℕ) (es : List ℕ) → Equipped bs h set es → Planned bs h
+equip-planned bs h set es e = e .planned
 
 pub tail-count : (bs : List ℕ) (h : Header) (set : ℕ) (r : List ℕ) → Planned bs h → setOk (planOf bs) set ≡ true → take (h .t + 1 - 1) (drop 1 r) ≡ deltaTail (planOf bs) set → h .t + 1 - 1 ≡ length (take (h .t + 1 - 1) (drop 1 r))
 tail-count bs h set r p ok e = let n : h .t + 1 - 1 ≡ h .t = omega arith in n ∙ sym (ap length e ∙ length-tail (planOf bs) (valid bs (p .passes)) set ok ∙ plan-t p)
@@ -327,4 +327,4 @@ pub bytes-matched :
     → ((j : ℕ) → Fits w8 (getD out j 0)) → numbers out ≡ vs → out ≡ bytesOf vs
 bytes-matched bs h set xs ys coins before out vs g l b e = sym (bytes-of-numbers (coinCount (planOf bs)) out (l ∙ g .room-long) (fits-below out b)) ∙ ap bytesOf e
 
-pub ruleset working = (needs, equip, equip-sized, tail-count, bytes-matched)
+pub ruleset working = (placing, equip, equip-planned, tail-count, bytes-matched)

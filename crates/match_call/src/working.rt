@@ -44,6 +44,7 @@ fn match_coins(
 fn step_both(
     plan: &[u8],
     h: Header,
+    points: &[u64],
     rows: &[u64],
     weights: &[u64],
     g: usize,
@@ -56,18 +57,18 @@ fn step_both(
     after: &mut [u64],
 )
     requires { ⌜ Planned (now plan) h ⌝ }
+    requires { ⌜ (Standing (h .field .p) (h .n) g (now after)) × (h .n * h .gates ≤ length (now after)) ⌝ }
     requires { ⌜ g < h .gates ⌝ }
-    requires { ⌜ Prepared h (now rows) (now weights) ⌝ }
+    requires { ⌜ Prepared (now plan) h (now points) (now rows) (now weights) ⌝ }
     requires { ⌜ (x < h .field .p) × (y < h .field .p) ⌝ }
     requires { ⌜ Taking (planOf (now plan)) (gateAt (now plan) g) at (numbers (now coins)) ⌝ }
     requires { ⌜ Taking (planOf (now plan)) (gateAt (now plan) g) at (numbers (now new)) ⌝ }
     requires { ⌜ (Standing (h .field .p) (h .n) g (now before)) × (h .n * h .gates ≤ length (now before)) ⌝ }
-    requires { ⌜ (Standing (h .field .p) (h .n) g (now after)) × (h .n * h .gates ≤ length (now after)) ⌝ }
     ensures { λ _. ⌜ Stepped (planOf (now (plan .entry))) (h .n) (gateAt (now (plan .entry)) g) g x (drop at (numbers (now (coins .entry)))) (now (before .entry)) (now (before .exit)) ⌝ }
     ensures { λ _. ⌜ Stepped (planOf (now (plan .entry))) (h .n) (gateAt (now (plan .entry)) g) g y (drop at (numbers (now (new .entry)))) (now (after .entry)) (now (after .exit)) ⌝ }
 {
-    run_tables::step(plan, h, rows, weights, g, x, coins, at, before);
-    run_tables::step(plan, h, rows, weights, g, y, new, at, after);
+    run_tables::step(plan, h, points, rows, weights, g, x, coins, at, before);
+    run_tables::step(plan, h, points, rows, weights, g, y, new, at, after);
 }
 
 // Gate g of both runs: its new coins, and its row in both tables. Answers the place after the coins.
@@ -76,6 +77,7 @@ fn match_step(
     h: Header,
     set: u16,
     delta: &[u64],
+    points: &[u64],
     rows: &[u64],
     weights: &[u64],
     g: usize,
@@ -88,7 +90,7 @@ fn match_step(
     out: &mut [u8],
 ) -> usize
     requires { ⌜ Equipped (now plan) h set (now delta) ⌝ }
-    requires { ⌜ Prepared h (now rows) (now weights) ⌝ }
+    requires { ⌜ Prepared (now plan) h (now points) (now rows) (now weights) ⌝ }
     requires { ⌜ Turn (now plan) h g x y (now before) (now after) at (now coins) (now out) ⌝ }
     ensures { λ r. ⌜ Matched (planOf (now (plan .entry))) (members set) (h .n) (gateAt (now (plan .entry)) g) g x y (numbers (now (coins .entry))) at (now (before .entry)) (now (after .entry)) (now (out .entry)) (now (before .exit)) (now (after .exit)) (now (out .exit)) r ⌝ }
 {
@@ -96,6 +98,7 @@ fn match_step(
     step_both(
         plan,
         h,
+        points,
         rows,
         weights,
         g,
@@ -116,6 +119,7 @@ fn match_runs(
     h: Header,
     set: u16,
     delta: &[u64],
+    points: &[u64],
     rows: &[u64],
     weights: &[u64],
     first: &[u8],
@@ -126,7 +130,7 @@ fn match_runs(
     out: &mut [u8],
 )
     requires { ⌜ Equipped (now plan) h set (now delta) ⌝ }
-    requires { ⌜ Prepared h (now rows) (now weights) ⌝ }
+    requires { ⌜ Prepared (now plan) h (now points) (now rows) (now weights) ⌝ }
     requires { ⌜ Matchable (now plan) h set (now first) (now second) (now coins) (length (now out)) ⌝ }
     requires { ⌜ (length (now before) ≡ 15360) × (length (now after) ≡ 15360) ⌝ }
     ensures { λ _. ⌜ numbers (now (out .exit)) ≡ matchedCoins (planOf (now (plan .entry))) (members set) (numbers (now (first .entry))) (numbers (now (second .entry))) (numbers (now (coins .entry))) ⌝ }
@@ -142,6 +146,7 @@ fn match_runs(
             h,
             set,
             delta,
+            points,
             rows,
             weights,
             g,
@@ -177,12 +182,15 @@ fn match_with(
     let mut weights = [0u64; 15];
     let mut before = [0u64; 15360];
     let mut after = [0u64; 15360];
-    run_dealings::prepare(h, &mut rows, &mut weights);
+    let n = h.n;
+    let points = seat_messages::points();
+    run_dealings::prepare(h.field, h.t, &points[..n], &mut rows, &mut weights);
     match_runs(
         plan,
         h,
         set,
         delta,
+        &points[..n],
         &rows,
         &weights,
         first,

@@ -1,177 +1,320 @@
 -- The rows of inputs and of multiply gates, and what is worked out once for a plan.
+--     shares-mixed                     the sums of the columns are the weighted sums of the dealt polynomials' values
+--     dealing, inputs, multiplying     what closes the needs of the functions over a gate
+--     preparing                        what is worked out once
 -- Assumes nothing.
-use mathlib.Core.Path.{_≡_, sym, ap, _∙_}
-use mathlib.Core.Bool.{true}
-use mathlib.Core.List.{List, _∷_, _++_, map}
-use Prim.Native.Nat.{ℕ, suc, _+_, _*_, _/_, _<_, _≤_}
+use mathlib.Core.Path.{_≡_, refl, sym, ap, ap₂, _∙_, fun-ext}
+use mathlib.Core.Bool.{Bool, true, false}
+use mathlib.Core.List.{List, [], _∷_, _++_, map, flatMap}
+use Prim.Native.Nat.{ℕ, suc, _+_, _-_, _*_, _/_, _<_, _≤_}
+use native.Mathlib.Nat.{mul-suc, mul-le-mul}
 use native.Mathlib.Omega.{arith}
 use borrow.Author.Needs.{needs}
-use lib.ListN.{length, take, drop, getD, length-append}
+use borrow.Author.Tests.{ltb-true, ltb-false}
+use lib.Dec.{ltb}
+use lib.ListN.{length, take, drop, set, getD, replicate, length-append}
 use lib.Seq.{take-at, drop-at, take-take, length-take-le}
 use mir.Syntax.{w64}
 use mir.Val.{Fits}
 use Rattle.numbers.specs.Tables.{tab}
 use Rattle.numbers.specs.Bytes.{numbers, allBelow}
-use Rattle.numbers.proofs.Tables.{length-tab, getD-tab, tab-ext}
-use Rattle.numbers.proofs.Below.{at-allBelow, allBelow-take}
+use Rattle.numbers.proofs.Tables.{length-tab, getD-tab, tab-ext, tab-map, list-tab}
+use Rattle.numbers.proofs.Below.{allBelow-at, at-allBelow, allBelow-take, allBelow-drop}
 use Rattle.numbers.proofs.Bytes.{numbers-length}
 use Rattle.field.specs.Mod.{mul}
+use Rattle.field.specs.Field.{Is, Ready}
 use Rattle.field.proofs.Solve.{canon-lt, mul-canon}
 use Rattle.field.proofs.Inverse.{pos}
 use Rattle.sharing_laws.specs.Poly.{eval, padded}
 use Rattle.sharing_laws.specs.Interp.{dot, weights}
-use Rattle.field.specs.Field.{Ready}
-use Rattle.sharing_laws.proofs.Polys.{eval-canon, values-padded}
+use Rattle.sharing_laws.specs.Sharing.{rowsOf}
+use Rattle.sharing_laws.proofs.Polys.{eval-padded, values-padded}
 use Rattle.sharing_laws.proofs.Elements.{padded-below}
-use Rattle.sharing.proofs.Coding.{map-tab}
-use Rattle.plan.specs.declared.Header.{Header}
+use Rattle.sharing.proofs.Coding.{map-tab, plain-dot}
+use Rattle.sharing_openings.proofs.Rows.{row-at}
 use Rattle.run_protocol.specs.Shares.{sharings}
-use Rattle.seat_messages.proofs.PointLaws.{first-points}
-use Rattle.run_dealings.specs.Rows.{powerRows, productsOf, mixedAt, Sized, Prepared, column, Coined, Dealt, Elements}
-use Rattle.run_protocol.proofs.Below.{map-below}
-use Rattle.run_dealings.proofs.DealLaws.{dot-first}
-use Rattle.run_dealings.proofs.GridLaws.{length-sharings, coins-few, below-cons}
+use Rattle.run_protocol.proofs.Below.{append-below}
+use Rattle.run_dealings.specs.Rows.{terms, powers, powerRows, productsOf, mixedAt, Powered, Weighted, Coined}
+use Rattle.run_dealings.specs.Columns.{columnSum, pieceBy, piecesBy, shareAt}
+use Rattle.run_dealings.proofs.RowLaws.{take-drop, made}
+use Rattle.run_dealings.proofs.PowerLaws.{eval-powers, rows-flat}
+use Rattle.run_dealings.proofs.PolynomialLaws.{length-sharings, sharing-short, below-cons, length-padded, polynomialAt, terms-few, terms-many}
+use Rattle.run_dealings.proofs.ColumnLaws.{Rowing, rowing, row-none, row-next, row-is, row-long}
+
+-- ---- the count of coefficients
+module _ (t k : ℕ) (few : t < 8) (e : k ≡ terms t) where
+  terms-by : (b : Bool) → ltb t 4 ≡ b → (k ≤ 8) × (t < k)
+  terms-by true l = let q : k ≡ 4 = e ∙ sym (terms-few t (ltb-true t 4 l)) in (omega arith, omega (arith, ltb-true t 4 l))
+  terms-by false l = let q : k ≡ 8 = e ∙ sym (terms-many t (ltb-false t 4 l)) in (omega arith, omega arith)
+
+  pub terms-small : k ≤ 8
+  terms-small = terms-by (ltb t 4) refl .0
+
+  pub terms-above : t < k
+  terms-above = terms-by (ltb t 4) refl .1
+
+-- ---- a dealing's row: j pieces stand
+pub record Piecing (p : ℕ) (f points d : List ℕ) (at j : ℕ) : Type 0 where
+  pub rows : Rowing (length f) (λ i. eval p f (getD points i 0)) (length points) d at j
+
+module _ (p : ℕ) (f points : List ℕ) where
+  pub piece-none : Piecing p f points (replicate 15 0) 0 0
+  piece-none = record { rows = row-none (length f) _ (length points) }
+
+  module _ (d : List ℕ) (at j : ℕ) (h : Piecing p f points d at j) where
+    module _ (rows : List ℕ) (b : Powered p (length f) points rows) (l : j < length points) where
+      pub row-short : length (take (at + length f - at) (drop at rows)) ≤ length f
+      row-short = omega (arith, row-long p (length f) points rows b _ d at j (h .rows) l)
+
+      pub piece-next : (v : ℕ) → length points ≤ 15 → Is p (dot p (take (at + length f - at) (drop at rows)) f) v → Piecing p f points (set d j v) (at + length f) (j + 1)
+      piece-next v m is =
+          let e : v ≡ eval p f (getD points j 0) = is .eq ∙ ap (λ (ws : List ℕ). dot p ws f) (row-is p (length f) points rows b _ d at j (h .rows) l) ∙ eval-powers p f (getD points j 0) in
+          record { rows = row-next (length f) _ (length points) d at j v (h .rows) m l e }
+
+    pub pieces-made : length points ≤ j → take (length points) d ≡ map (eval p f) points
+    pieces-made l = made _ (length points) d j (h .rows .fills) l ∙ sym (map-tab (eval p f) points)
+
+pub above-one : (p : ℕ) → Ready p → 1 < p
+above-one p r = r .prime .above
+
+pub ruleset dealing = (rowing, above-one, piece-none, row-short, piece-next, pieces-made)
 
 -- ---- an input's row
-module _ (p t n at : ℕ) (coins : List ℕ) (c : Coined p t 1 at (numbers coins)) where
-  pub one-dealing : at + t ≤ length coins / 2
-  one-dealing = omega (arith, c .room, numbers-length coins)
+-- the first entries of an array, after they were lent and came back as ys
+pub front-is : (d ys : List ℕ) (k : ℕ) → k ≤ length d → length ys ≡ length (take k d) → take k (ys ++ drop k d) ≡ ys
+front-is d ys k l e = take-at ys (drop k d) k (e ∙ length-take-le k d l)
 
-  pub input-below : (x : ℕ) (f : List ℕ) → x < p → f ≡ padded 8 (x ∷ take t (drop at (numbers coins))) → allBelow p f ≡ true
-  input-below x f l is =
-      let e : t ≡ t * 1 = omega arith in
-      let b : allBelow p (take t (drop at (numbers coins))) ≡ true = rw e (c .below) in
-      rw is (padded-below p (omega arith) 8 _ (below-cons p x (take t (drop at (numbers coins))) l b))
+module _ (t k : ℕ) (few : t < 8) (e : k ≡ terms t) (d : List ℕ) (long : length d ≡ 8) where
+  within : k ≤ length d
+  within = omega (arith, terms-small t k few e)
 
-pub input-row : (p n : ℕ) (f g row : List ℕ) → f ≡ padded 8 g → take n row ≡ map (eval p f) (tab suc n) → take n row ≡ map (eval p g) (tab suc n)
-input-row p n f g row e is = is ∙ ap (λ (f : List ℕ). map (eval p f) (tab suc n)) e ∙ values-padded p 8 g (tab suc n)
+  front-long : length (take k d) ≡ k
+  front-long = length-take-le k d within
 
-pub ruleset inputs = (needs, coins-few, one-dealing, input-below, input-row)
+  pub front-counted : k ≡ length (take k d)
+  front-counted = sym front-long
+
+  pub front-wide : t < length (take k d)
+  front-wide = rw front-long (terms-above t k few e)
+
+  module _ (ys : List ℕ) (kept : length ys ≡ length (take k d)) where
+    ys-is : take k (ys ++ drop k d) ≡ ys
+    ys-is = front-is d ys k within kept
+
+    ys-long : length (take k (ys ++ drop k d)) ≡ k
+    ys-long = ap length ys-is ∙ kept ∙ front-long
+
+    pub whole-long : k ≤ length (ys ++ drop k d)
+    whole-long = rw (length-append ys (drop k d)) (omega (arith, kept, front-long))
+
+    pub dealt-counted : k ≡ length (take k (ys ++ drop k d))
+    dealt-counted = sym ys-long
+
+    pub dealt-small : length (take k (ys ++ drop k d)) ≤ 16
+    dealt-small = omega (arith, ys-long, terms-small t k few e)
+
+    pub dealt-powered : (p : ℕ) (points rows : List ℕ) → Powered p (terms t) points rows → Powered p (length (take k (ys ++ drop k d))) points rows
+    dealt-powered p points rows b = rw (ys-long, e) b
+
+    module _ (p x at : ℕ) (coins : List ℕ) (is : ys ≡ padded (length (take k d)) (x ∷ take t (drop at (numbers coins)))) where
+      pub dealt-below : Coined p t 1 at (numbers coins) → x < p → allBelow p (take k (ys ++ drop k d)) ≡ true
+      dealt-below c l =
+          let one : t ≡ t * 1 = omega arith in
+          let b : allBelow p (take t (drop at (numbers coins))) ≡ true = rw one (c .below) in
+          rw (ys-is, is) (padded-below p (omega arith) _ _ (below-cons p x (take t (drop at (numbers coins))) l b))
+
+      pub input-dealt : (n : ℕ) (points row : List ℕ) → take n row ≡ map (eval p (take k (ys ++ drop k d))) points → take n row ≡ map (eval p (x ∷ take t (drop at (numbers coins)))) points
+      input-dealt n points row r = r ∙ ap (λ (f : List ℕ). map (eval p f) points) (ys-is ∙ is) ∙ values-padded p _ _ points
+
+pub one-dealing : (p t at : ℕ) (coins : List ℕ) → Coined p t 1 at (numbers coins) → at + t ≤ length coins / 2
+one-dealing p t at coins c = omega (arith, c .room, numbers-length coins)
+
+pub ruleset inputs = (needs, terms-small, one-dealing, front-counted, front-wide, whole-long, dealt-counted, dealt-small, dealt-powered, dealt-below, input-dealt)
 
 -- ---- a multiply's row
-pub dealers-within : (t n : ℕ) → 2 * t < n → t + t + 1 ≤ n
-dealers-within t n l = omega arith
+-- the two counts of coefficients, where the grid is worked
+module _ (t k : ℕ) (e : k ≡ terms t) where
+  pub powered-by : (p : ℕ) (points rows : List ℕ) → Powered p (terms t) points rows → Powered p k points rows
+  powered-by p points rows b = rw e b
+
+  pub room-by : (ws fs : List ℕ) → terms t * length ws ≤ length fs → k * length ws ≤ length fs
+  room-by ws fs l = rw e l
+
+  pub shares-by : (p i : ℕ) (row ws fs points : List ℕ) → take i row ≡ map (shareAt p k ws fs) points → take i row ≡ map (shareAt p (terms t) ws fs) points
+  shares-by p i row ws fs points r = rw (← e) r
+
+pub ruleset sharing-by = (needs, above-one, terms-few, terms-many, powered-by, room-by, shares-by)
+
+-- what stands below p
+pub shared-below : (p t k : ℕ) → 0 < p → (vs cs : List ℕ) → allBelow p vs ≡ true → allBelow p (take (t * length vs) cs) ≡ true → allBelow p (flatMap (padded k) (sharings t vs cs)) ≡ true
+unfolding sharings flatMap allBelow
+shared-below p t k above [] cs hv hc = refl
+shared-below p t k above (v ∷ vs) cs hv hc =
+    let all : t * suc (length vs) ≡ t + t * length vs = omega (arith, mul-suc t (length vs)) in
+    let both : allBelow p (take (t + t * length vs) cs) ≡ true = rw all at hc in
+    let first : allBelow p (take t cs) ≡ true = rw (take-take t (t + t * length vs) cs (omega arith)) at (allBelow-take p t (take (t + t * length vs) cs) both) in
+    append-below p (padded k (v ∷ take t cs)) (flatMap (padded k) (sharings t vs (drop t cs)))
+    (padded-below p above k (v ∷ take t cs) (below-cons p v (take t cs) (allBelow-at p (v ∷ vs) 0 hv (omega arith)) first))
+    (shared-below p t k above vs (drop t cs) (allBelow-drop p 1 (v ∷ vs) hv) (rw (take-drop cs t (t * length vs)) (allBelow-drop p t (take (t + t * length vs) cs) both)))
+
+-- the sum of a column is the weighted sum of the polynomials' values at its point
+module _ (p t k : ℕ) (ws vs cs : List ℕ) (wide : t < k) (many : length vs ≡ length ws) (x : ℕ) where
+  fs : List (List ℕ)
+  fs = sharings t vs cs
+
+  each : (i : ℕ) → length (polynomialAt t k vs cs i) ≡ k
+  each i = length-padded k (getD (sharings t vs cs) i []) (omega (arith, sharing-short t vs cs i))
+
+  in-rows : flatMap (padded k) fs ≡ rowsOf (polynomialAt t k vs cs) (length ws)
+  unfolding fs
+  in-rows = sym (ap (rowsOf (polynomialAt t k vs cs)) (sym (length-sharings t vs cs ∙ many)) ∙ rows-flat (padded k) [] (sharings t vs cs))
+
+  piece-is : (d : ℕ) → d < length ws → pieceBy p k (powers p x k) (flatMap (padded k) fs) d ≡ eval p (getD fs d []) x
+  unfolding pieceBy fs
+  piece-is d l =
+      let f : List ℕ = polynomialAt t k vs cs d in
+      ap (λ (r : List ℕ). dot p (powers p x k) (take k (drop (k * d) r))) in-rows
+      ∙ ap (dot p (powers p x k)) (row-at (polynomialAt t k vs cs) k each (length ws) d l)
+      ∙ ap (λ (n : ℕ). dot p (powers p x n) f) (sym (each d))
+      ∙ eval-powers p f x
+      ∙ eval-padded p k (getD (sharings t vs cs) d []) x
+
+  pub shares-mixed : shareAt p k ws (flatMap (padded k) (sharings t vs cs)) x ≡ mixedAt p ws (sharings t vs cs) x
+  unfolding shareAt columnSum piecesBy mixedAt fs
+  shares-mixed =
+      plain-dot p ws _
+      ∙ ap (dot p ws)
+      (tab-ext _ _ (length ws) piece-is
+      ∙ sym (ap (map (λ f. eval p f x)) (list-tab fs []) ∙ tab-map (λ f. eval p f x) (λ i. getD fs i []) (length fs) ∙ ap (tab (λ i. eval p (getD fs i []) x)) (length-sharings t vs cs ∙ many)))
 
 module _ (p n m a b : ℕ) (table : List ℕ) where
-  of-length : length (productsOf p n m a b table) ≡ m
-  unfolding productsOf
-  of-length = length-tab (λ j. mul p (getD table (n * a + j) 0) (getD table (n * b + j) 0)) m
-
   of-below : Ready p → allBelow p (productsOf p n m a b table) ≡ true
   unfolding productsOf
   of-below r =
       let f : ℕ → ℕ = λ j. mul p (getD table (n * a + j) 0) (getD table (n * b + j) 0) in
       at-allBelow p (tab f m) (λ i l. rw (getD-tab f m i 0 (rw length-tab at l)) (canon-lt (pos (r .prime)) (mul-canon (getD table (n * a + i) 0) (getD table (n * b + i) 0))))
 
-module _ (p n m a b : ℕ) (table : List ℕ) (r : Ready p) (ss : List ℕ) (is : take m ss ≡ productsOf p n m a b table) where
-  pub products-below : allBelow p (take m ss) ≡ true
-  products-below = rw is (of-below p n m a b table r)
+-- the dealers' values
+module _ (ws points : List ℕ) (lw : length ws ≤ length points) (lp : length points ≤ 15) (vs : List ℕ) (many : length vs ≡ 15) where
+  values-long : length (take (length ws) vs) ≡ length ws
+  values-long = length-take-le (length ws) vs (omega arith)
 
-  module _ (t : ℕ) (cs : List ℕ) (grid : List (List ℕ)) (dealt : Dealt p (tab suc n) (sharings t (take m ss) cs) grid) where
-    fs : List (List ℕ)
-    fs = sharings t (take m ss) cs
+  pub values-counted : length ws ≡ length (take (length ws) vs)
+  values-counted = sym values-long
 
-    many : length fs ≡ m
-    unfolding fs
-    many = length-sharings t (take m ss) cs ∙ ap length is ∙ of-length p n m a b table
+  pub values-coins : (p t at : ℕ) (coins : List ℕ) → Coined p t (length ws) at (numbers coins) → at + t * length (take (length ws) vs) ≤ length coins / 2
+  values-coins p t at coins c = rw values-long (omega (arith, c .room, numbers-length coins))
 
-    column-is : (j : ℕ) → j < n → take m (column grid j) ≡ map (λ f. eval p f (getD (tab suc n) j 0)) fs
-    unfolding fs
-    column-is j l = ap (λ (k : ℕ). take k (column grid j)) (sym many) ∙ dealt .columns j (rw length-tab l)
+-- k coefficients for each of the dealers
+module _ (t k : ℕ) (few : t < 8) (e : k ≡ terms t) (ws points : List ℕ) (lw : length ws ≤ length points) (lp : length points ≤ 15) where
+  used-few : k * length ws ≤ 120
+  used-few = mul-le-mul {n₁ = k} {m₁ = length ws} {n₂ = 8} {m₂ = 15} (terms-small t k few e) (omega arith)
 
-    pub pieces-elements : (ws : List ℕ) → length ws ≡ m → Elements p n (length ws) grid
-    pieces-elements ws e = record {
-      each = λ j l. rw (e, column-is j l) (map-below p (λ (f : List ℕ). eval p f (getD (tab suc n) j 0)) fs (λ f. canon-lt (pos (r .prime)) (eval-canon f (getD (tab suc n) j 0))));
-    }
+  pub used-fits : Fits w64 (k * length ws)
+  used-fits = record { fits = omega (arith, used-few) }
 
-    pub multiply-row : (ws row : List ℕ) → length ws ≡ m → take n row ≡ tab (λ j. dot p ws (column grid j)) n
-        → take n row ≡ map (mixedAt p ws (sharings t (productsOf p n m a b table) cs)) (tab suc n)
-    unfolding fs mixedAt
-    multiply-row ws row e sums = sums ∙ tab-ext (λ j. dot p ws (column grid j)) (λ j. share (getD (tab suc n) j 0)) n entry ∙ sym (map-tab share (tab suc n) ∙ ap (tab (λ j. share (getD (tab suc n) j 0))) (length-tab suc n))
-      where
-        share : ℕ → ℕ
-        share x = mixedAt p ws (sharings t (productsOf p n m a b table) cs) x
+  pub used-within : k * length ws ≤ 120
+  used-within = used-few
 
-        entry : (j : ℕ) → j < n → dot p ws (column grid j) ≡ share (getD (tab suc n) j 0)
-        entry j l =
-            sym (dot-first p ws (column grid j))
-            ∙ ap (λ (k : ℕ). dot p ws (take k (column grid j))) e
-            ∙ ap (dot p ws) (column-is j l)
-            ∙ ap (λ (ss : List ℕ). dot p ws (map (λ f. eval p f (getD (tab suc n) j 0)) (sharings t ss cs))) is
+  module _ (d : List ℕ) (long : length d ≡ 120) where
+    used-long : length (take (k * length ws) d) ≡ k * length ws
+    used-long = length-take-le (k * length ws) d (omega (arith, used-few))
 
-pub weights-few : (t n : ℕ) (ws : List ℕ) → 2 * t < n → n ≤ 15 → length ws ≡ t + t + 1 → length ws ≤ 15
-weights-few t n ws l m e = omega arith
+    pub used-counted : k * length ws ≡ length (take (k * length ws) d)
+    used-counted = sym used-long
 
-pub ruleset multiplying = (needs, dealers-within, products-below, pieces-elements, multiply-row, weights-few)
+    pub values-room : (vs : List ℕ) → length vs ≡ 15 → length (take (k * length ws) d) ≡ k * length (take (length ws) vs)
+    values-room vs many = used-long ∙ ap (λ (i : ℕ). k * i) (values-counted ws points lw lp vs many)
+
+    module _ (ys : List ℕ) (kept : length ys ≡ length (take (k * length ws) d)) where
+      ys-front : take (k * length ws) (ys ++ drop (k * length ws) d) ≡ ys
+      ys-front = front-is d ys (k * length ws) (omega (arith, used-few)) kept
+
+      ys-sized : length (take (k * length ws) (ys ++ drop (k * length ws) d)) ≡ k * length ws
+      ys-sized = ap length ys-front ∙ kept ∙ used-long
+
+      pub dealt-within : k * length ws ≤ length (ys ++ drop (k * length ws) d)
+      dealt-within = rw (length-append ys (drop (k * length ws) d)) (omega (arith, kept, used-long))
+
+      pub dealt-again : k * length ws ≡ length (take (k * length ws) (ys ++ drop (k * length ws) d))
+      dealt-again = sym ys-sized
+
+      pub dealt-room : terms t * length ws ≤ length (take (k * length ws) (ys ++ drop (k * length ws) d))
+      dealt-room = rw (ys-sized, e) (omega arith)
+
+      module _
+          (p at n x y : ℕ) (vs coins table : List ℕ) (many : length vs ≡ 15) (is : ys ≡ flatMap (padded k) (sharings t (take (length ws) vs) (drop at (numbers coins))))
+          (products : take (length ws) vs ≡ productsOf p n (length ws) x y table) where
+        pub dealt-elements : Ready p → Coined p t (length ws) at (numbers coins) → allBelow p (take (k * length ws) (ys ++ drop (k * length ws) d)) ≡ true
+        dealt-elements r c =
+            rw (ys-front, is)
+            (shared-below p t k (pos (r .prime)) (take (length ws) vs) (drop at (numbers coins)) (rw products (of-below p n (length ws) x y table r)) (rw (values-long ws points lw lp vs many) (c .below)))
+
+        pub row-mixed : (i : ℕ) (row : List ℕ) → take i row ≡ map (shareAt p (terms t) ws (take (k * length ws) (ys ++ drop (k * length ws) d))) points
+            → take i row ≡ map (mixedAt p ws (sharings t (productsOf p n (length ws) x y table) (drop at (numbers coins)))) points
+        row-mixed i row r =
+            r
+            ∙ ap₂ (λ (j : ℕ) (fs : List ℕ). map (shareAt p j ws fs) points) (sym e) (ys-front ∙ is)
+            ∙ ap (λ (h : ℕ → ℕ). map h points) (fun-ext (λ z. shares-mixed p t k ws (take (length ws) vs) (drop at (numbers coins)) (terms-above t k few e) (values-long ws points lw lp vs many) z))
+            ∙ ap (λ (ss : List ℕ). map (mixedAt p ws (sharings t ss (drop at (numbers coins)))) points) products
+
+pub few-weights : (ws points : List ℕ) → length ws ≤ length points → length points ≤ 15 → length ws ≤ 15
+few-weights ws points lw lp = omega arith
+
+pub ruleset multiplying = (needs, above-one, terms-above, used-fits, used-within, used-counted, values-counted, values-room, values-coins, dealt-within, dealt-again, dealt-room, dealt-elements, row-mixed, few-weights)
 
 -- ---- what is worked out once for a plan
-module _ (h : Header) (s : Sized h) where
-  powers-few : 8 * h .n ≤ 120
-  powers-few = omega (arith, s .many)
+module _ (t k : ℕ) (e : k ≡ terms t) (points : List ℕ) (majority : 2 * t < length points) (many : length points ≤ 15) where
+  powers-few : k * length points ≤ 120
+  powers-few = mul-le-mul {n₁ = k} {m₁ = length points} {n₂ = 8} {m₂ = 15} (terms-small t k (omega arith) e) many
 
-  pub powers-fit : Fits w64 (8 * h .n)
+  pub powers-fit : Fits w64 (k * length points)
   powers-fit = record { fits = omega (arith, powers-few) }
 
   module _ (rows : List ℕ) (room : 120 ≤ length rows) where
-    pub powers-within : 8 * h .n ≤ length rows
+    pub powers-within : k * length points ≤ length rows
     powers-within = omega (arith, powers-few)
 
-    pub powers-count : 8 * h .n ≡ length (take (8 * h .n) rows)
-    powers-count = sym (length-take-le (8 * h .n) rows powers-within)
+    pub powers-long : length (take (k * length points) rows) ≡ k * length points
+    powers-long = length-take-le (k * length points) rows powers-within
 
-  module _ (ws : List ℕ) (wide : 15 ≤ length ws) where
-    pub weights-within : h .t + h .t + 1 ≤ length ws
-    weights-within = omega (arith, s .many, s .majority)
+    pub powers-count : k * length points ≡ length (take (k * length points) rows)
+    powers-count = sym powers-long
 
-    pub weights-count : h .t + h .t + 1 ≡ length (take (h .t + h .t + 1) ws)
-    weights-count = sym (length-take-le (h .t + h .t + 1) ws weights-within)
+    pub powered : (p : ℕ) (ys : List ℕ) → length ys ≡ length (take (k * length points) rows) → ys ≡ powerRows p k points → Powered p (terms t) points (ys ++ drop (k * length points) rows)
+    powered p ys kept is =
+        let a : length ys ≡ k * length points = kept ∙ powers-long in
+        rw (← e) (record { room = rw (length-append ys (drop (k * length points) rows)) (omega arith); front = take-at ys (drop (k * length points) rows) (k * length points) a ∙ is })
 
-  module _ (ps : List ℕ) (long : length ps ≡ 15) where
-    pub points-count : h .n ≡ length (take (h .n) ps)
-    points-count = sym (length-take-le (h .n) ps (omega (arith, s .many)))
+    pub powers-kept : (ys : List ℕ) → length ys ≡ length (take (k * length points) rows) → drop (terms t * length points) (ys ++ drop (k * length points) rows) ≡ drop (terms t * length points) rows
+    powers-kept ys kept = rw (← e) (drop-at ys (drop (k * length points) rows) (k * length points) (kept ∙ powers-long))
 
-    pub dealers-count : h .t + h .t + 1 ≡ length (take (h .t + h .t + 1) ps)
-    dealers-count = sym (length-take-le (h .t + h .t + 1) ps (omega (arith, s .many, s .majority)))
+module _ (t : ℕ) (points : List ℕ) (majority : 2 * t < length points) where
+  pub dealers-count : t + t + 1 ≡ length (take (t + t + 1) points)
+  dealers-count = sym (length-take-le (t + t + 1) points (omega arith))
 
-    module _ (is : take (h .n) ps ≡ tab suc (h .n)) where
-      pub points-below : allBelow (h .field .p) (take (h .n) ps) ≡ true
-      points-below =
-          rw is (at-allBelow (h .field .p) (tab suc (h .n)) (λ i l. let m : i < h .n = rw length-tab at l in rw (getD-tab suc (h .n) i 0 m) (omega (arith, s .small))))
+  pub dealers-below : (p : ℕ) → allBelow p points ≡ true → allBelow p (take (t + t + 1) points) ≡ true
+  dealers-below p h = allBelow-take p (t + t + 1) points h
 
-      first : take (h .t + h .t + 1) ps ≡ take (h .t + h .t + 1) (take (h .n) ps)
-      first = sym (take-take (h .t + h .t + 1) (h .n) ps (omega (arith, s .majority)))
+  module _ (many : length points ≤ 15) (ws : List ℕ) (wide : 15 ≤ length ws) where
+    pub weights-count : t + t + 1 ≡ length (take (t + t + 1) ws)
+    weights-count = sym (length-take-le (t + t + 1) ws (omega arith))
 
-      pub dealers-below : allBelow (h .field .p) (take (h .t + h .t + 1) ps) ≡ true
-      dealers-below = rw first (allBelow-take (h .field .p) (h .t + h .t + 1) (take (h .n) ps) points-below)
+    pub weights-long : length (take (t + t + 1) ws) ≡ length (take (t + t + 1) points)
+    weights-long = sym weights-count ∙ dealers-count
 
-      module _ (rows ws : List ℕ) (room : 120 ≤ length rows) (wide : 15 ≤ length ws) where
-        pub powers-long : length (take (8 * h .n) rows) ≡ 8 * length (take (h .n) ps)
-        powers-long = sym (powers-count rows room) ∙ ap (λ (n : ℕ). 8 * n) points-count
+    pub weights-kept : (zs : List ℕ) → length zs ≡ length (take (t + t + 1) ws) → drop (t + t + 1) (zs ++ drop (t + t + 1) ws) ≡ drop (t + t + 1) ws
+    weights-kept zs kept = drop-at zs (drop (t + t + 1) ws) (t + t + 1) (kept ∙ sym weights-count)
 
-        pub weights-long : length (take (h .t + h .t + 1) ws) ≡ length (take (h .t + h .t + 1) ps)
-        weights-long = sym (weights-count ws wide) ∙ dealers-count
-
-        pub prepared : (ys zs : List ℕ) → length ys ≡ length (take (8 * h .n) rows) → ys ≡ powerRows (h .field .p) 8 (take (h .n) ps)
-            → length zs ≡ length (take (h .t + h .t + 1) ws) → zs ≡ weights (h .field .p) 0 (take (h .t + h .t + 1) ps)
-            → Prepared h (ys ++ drop (8 * h .n) rows) (zs ++ drop (h .t + h .t + 1) ws)
-        prepared ys zs ly ey lz ez =
-            let a : length ys ≡ 8 * h .n = ly ∙ sym (powers-count rows room) in
-            let b : length zs ≡ h .t + h .t + 1 = lz ∙ sym (weights-count ws wide) in
-            record {
-              room = rw (length-append ys (drop (8 * h .n) rows)) (omega arith);
-              powers = take-at ys (drop (8 * h .n) rows) (8 * h .n) a ∙ ey ∙ ap (powerRows (h .field .p) 8) is;
-              wide = rw (length-append zs (drop (h .t + h .t + 1) ws)) (omega arith);
-              weighs = take-at zs (drop (h .t + h .t + 1) ws) (h .t + h .t + 1) b ∙ ez ∙ ap (weights (h .field .p) 0) (first ∙ ap (take (h .t + h .t + 1)) is);
-            }
-
-module _ (h : Header) (s : Sized h) where
-  pub powers-kept : (rows ys : List ℕ) → 120 ≤ length rows → length ys ≡ length (take (8 * h .n) rows) → drop (8 * h .n) (ys ++ drop (8 * h .n) rows) ≡ drop (8 * h .n) rows
-  powers-kept rows ys room e = drop-at ys (drop (8 * h .n) rows) (8 * h .n) (e ∙ sym (powers-count h s rows room))
-
-  pub weights-kept : (ws zs : List ℕ) → 15 ≤ length ws → length zs ≡ length (take (h .t + h .t + 1) ws) → drop (h .t + h .t + 1) (zs ++ drop (h .t + h .t + 1) ws) ≡ drop (h .t + h .t + 1) ws
-  weights-kept ws zs wide e = drop-at zs (drop (h .t + h .t + 1) ws) (h .t + h .t + 1) (e ∙ sym (weights-count h s ws wide))
+    pub weighted : (p : ℕ) (zs : List ℕ) → length zs ≡ length (take (t + t + 1) ws) → zs ≡ weights p 0 (take (t + t + 1) points) → Weighted p t points (zs ++ drop (t + t + 1) ws)
+    weighted p zs kept e =
+        let b : length zs ≡ t + t + 1 = kept ∙ sym weights-count in
+        record {
+          wide = rw (length-append zs (drop (t + t + 1) ws)) (omega arith);
+          weighs = take-at zs (drop (t + t + 1) ws) (t + t + 1) b ∙ e;
+        }
 
 pub ready-above : (p : ℕ) → Ready p → 0 < p
 ready-above p r = pos (r .prime)
 
-pub ruleset preparing = (needs, first-points, ready-above, powers-fit, powers-within, powers-count, weights-within, weights-count, points-count, dealers-count, points-below, dealers-below, powers-long, weights-long, prepared, powers-kept, weights-kept)
+pub ruleset preparing = (needs, ready-above, powers-fit, powers-within, powers-long, powers-count, powered, powers-kept, dealers-count, dealers-below, weights-count, weights-long, weighted, weights-kept)

@@ -1,6 +1,6 @@
 pub mod RowLaws
 pub mod PowerLaws
-pub mod DealLaws
-pub mod GridLaws
+pub mod PolynomialLaws
+pub mod ColumnLaws
 pub mod DealingLaws
 pub mod CoinLaws

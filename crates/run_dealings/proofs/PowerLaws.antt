@@ -1,7 +1,8 @@
 -- Values of polynomials by powers of the point.
 --     eval-powers                  the value at x is the weighted sum of the coefficients with the powers of x
 --     powering                     what closes the needs of the loop that fills a row of powers
---     rows-of-powers, power-row    the power rows, and one of them
+--     rows-flat                    rows one after the other, by index and by list
+--     power-row                    one of the power rows
 -- Assumes nothing.
 use mathlib.Core.Path.{_≡_, refl, sym, ap, _∙_}
 use mathlib.Core.Bool.{true}
@@ -28,7 +29,8 @@ use Rattle.sharing_laws.specs.Sharing.{rowsOf}
 use Rattle.sharing.proofs.Coding.{entry-below}
 use Rattle.sharing_openings.proofs.Rows.{Written, none-written, room, piece-long, written-next, written-done}
 use Rattle.run_dealings.specs.Rows.{power, powers, powerRows, Powered}
-use Rattle.run_dealings.proofs.RowLaws.{flat-part, part-front}
+use Rattle.numbers.proofs.Rows.{flat-part}
+use Rattle.run_dealings.proofs.RowLaws.{part-front}
 
 -- ---- the value of a polynomial
 module _ (p : ℕ) where
@@ -102,10 +104,10 @@ unfolding rowsOf
 rows-cons g zero = sym (append-nil (g 0))
 rows-cons g (suc n) = ap (λ (l : List ℕ). l ++ g (suc n)) (rows-cons g n) ∙ append-assoc (g 0) (rowsOf (λ k. g (suc k)) n) (g (suc n))
 
-rows-flat : (F : ℕ → List ℕ) (points : List ℕ) → rowsOf (λ i. F (getD points i 0)) (length points) ≡ flatMap F points
+pub rows-flat : {A : Type 0} (F : A → List ℕ) (d : A) (l : List A) → rowsOf (λ i. F (getD l i d)) (length l) ≡ flatMap F l
 unfolding rowsOf flatMap
-rows-flat F [] = refl
-rows-flat F (x ∷ points) = rows-cons (λ i. F (getD (x ∷ points) i 0)) (length points) ∙ ap (λ (l : List ℕ). F x ++ l) (rows-flat F points)
+rows-flat F d [] = refl
+rows-flat F d (x ∷ l) = rows-cons (λ i. F (getD (x ∷ l) i d)) (length l) ∙ ap (λ (r : List ℕ). F x ++ r) (rows-flat F d l)
 
 -- row i
 abbrev pub powersAt : ℕ → ℕ → List ℕ → ℕ → List ℕ
@@ -124,7 +126,7 @@ module _ (p k : ℕ) (points d₀ d : List ℕ) (at i : ℕ) (h : Written (power
 
   pub rows-written : length points ≤ i → d ≡ powerRows p k points
   unfolding powerRows
-  rows-written l = written-done (powersAt p k points) k (length points) d₀ d at i l h ∙ rows-flat (λ x. powers p x k) points
+  rows-written l = written-done (powersAt p k points) k (length points) d₀ d at i l h ∙ rows-flat (λ x. powers p x k) 0 points
 
 pub ruleset writing = (needs, entry-below, none-written, room, row-fits, place-fits, row-written, rows-written)
 

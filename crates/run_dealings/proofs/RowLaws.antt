@@ -1,47 +1,27 @@
--- Rows one after the other, and loops that fill a row.
---     flat-length, flat-part, flat-snoc        rows of k entries, as a flatMap
+-- Loops that fill a row.
 --     Making, making                           a loop that fills an array's first n entries
---     Changing                                 a loop that changes each entry of a slice
 -- Assumes nothing.
 use mathlib.Core.Path.{_≡_, refl, sym, ap, _∙_}
-use mathlib.Core.List.{List, [], _∷_, _++_, flatMap, append-assoc, append-nil}
+use mathlib.Core.List.{List, [], _∷_, map}
 use Prim.Native.Nat.{ℕ, zero, suc, _+_, _-_, _*_, _^_, _<_, _≤_}
 use native.Mathlib.Numerals.{add-one}
-use native.Mathlib.Nat.{mul-zero, mul-suc}
 use native.Mathlib.Omega.{arith}
 use borrow.Author.Needs.{needs}
-use lib.ListN.{length, take, drop, set, getD, replicate, length-replicate, length-append, length-drop, length-set}
-use lib.Seq.{take-nil, drop-nil, take-suc-set, take-at, drop-append-add, getD-take, getD-drop, take-take, drop-set-lt, drop-drop, length-take-le}
+use lib.ListN.{length, take, drop, set, getD, replicate, length-replicate, length-drop, length-set}
+use lib.Seq.{take-nil, drop-nil, take-suc-set, getD-take, getD-drop, take-take, drop-set-lt, drop-drop, length-take-le}
 use mir.Syntax.{w64}
 use mir.Val.{Fits}
 use Rattle.numbers.specs.Tables.{tab}
-use Rattle.numbers.proofs.Tables.{tab-next, tab-zero, row-room}
-use Rattle.numbers.proofs.Fills.{Filled, fill-none, fill-next, filled}
+use Rattle.numbers.proofs.Tables.{tab-next, tab-zero, getD-tab, row-room}
 use Rattle.numbers.proofs.Below.{allBelow-at, allBelow-take, allBelow-drop}
 use Rattle.field.specs.Mod.{mul}
 use Rattle.field.specs.Field.{Is}
+use Rattle.sharing.proofs.Coding.{map-tab}
 use Rattle.run_dealings.specs.Rows.{productsOf, Rowed, Standing}
 
--- ---- rows of k entries
-module _ {A : Type 0} (F : A → List ℕ) where
-  pub flat-snoc : (l : List A) (a : A) → flatMap F (l ++ (a ∷ [])) ≡ flatMap F l ++ F a
-  unfolding flatMap
-  flat-snoc [] a = append-nil (F a)
-  flat-snoc (b ∷ l) a = ap (λ (r : List ℕ). F b ++ r) (flat-snoc l a) ∙ sym (append-assoc (F b) (flatMap F l) (F a))
-
-  module _ (k : ℕ) (each : (a : A) → length (F a) ≡ k) where
-    pub flat-length : (l : List A) → length (flatMap F l) ≡ k * length l
-    unfolding flatMap
-    flat-length [] = sym (mul-zero k)
-    flat-length (a ∷ l) = length-append (F a) (flatMap F l) ∙ omega (arith, each a, flat-length l, mul-suc k (length l))
-
-    pub flat-part : (l : List A) (i : ℕ) (d : A) → i < length l → take k (drop (k * i) (flatMap F l)) ≡ F (getD l i d)
-    unfolding flatMap
-    flat-part [] i d lt = absurd (omega arith)
-    flat-part (a ∷ l) zero d lt = rw mul-zero (take-at (F a) (flatMap F l) k (each a))
-    flat-part (a ∷ l) (suc i) d lt =
-        let e : k * suc i ≡ length (F a) + k * i = omega (arith, each a, mul-suc k i) in
-        rw (e, drop-append-add (F a) (flatMap F l) (k * i)) (flat-part l i d (omega arith))
+-- an entry of a list of values
+pub getD-values : (F : ℕ → ℕ) (xs : List ℕ) (j : ℕ) → j < length xs → getD (map F xs) j 0 ≡ F (getD xs j 0)
+getD-values F xs j l = ap (λ (r : List ℕ). getD r j 0) (map-tab F xs) ∙ getD-tab (λ i. F (getD xs i 0)) (length xs) j 0 l
 
 -- a part of what stands in front
 pub take-drop : (l : List ℕ) (a k : ℕ) → take k (drop a l) ≡ drop a (take (a + k) l)
@@ -96,36 +76,6 @@ module _ (f : ℕ → ℕ) (n : ℕ) where
     unmade l = let q : j ≡ n = omega (arith, h .within) in rw (← q) (h .rest ∙ drop-zeros j 15)
 
 pub ruleset making = (needs, make-none, make-next, make-next-is, made, unmade)
-
--- ---- a loop that changes each entry of a slice, which was d₀, by a rule
-pub record Changing (f : ℕ → ℕ) (d₀ d : List ℕ) (j : ℕ) : Type 0 where
-  pub filled : Filled f d₀ d j
-  pub rest : drop j d ≡ drop j d₀
-
-module _ (f : ℕ → ℕ) (d₀ : List ℕ) where
-  pub change-none : Changing f d₀ d₀ 0
-  change-none = record { filled = record { within = omega arith; long = refl; front = fill-none f d₀ }; rest = refl }
-
-  module _ (d : List ℕ) (j : ℕ) (h : Changing f d₀ d j) where
-    -- what stands at j is what stood there
-    pub unchanged-at : getD d j 0 ≡ getD d₀ j 0
-    unchanged-at =
-        let e : j + 0 ≡ j = omega arith in
-        let at : (l : List ℕ) → getD l j 0 ≡ getD (drop j l) 0 0 = λ l. ap (λ (k : ℕ). getD l k 0) (sym e) ∙ sym (getD-drop j l 0 0) in
-        at d ∙ ap (λ (l : List ℕ). getD l 0 0) (h .rest) ∙ sym (at d₀)
-
-    pub change-next : (v : ℕ) → j < length d → v ≡ f j → Changing f d₀ (set d j v) (j + 1)
-    change-next v l e = record {
-      filled = record {
-        within = omega (arith, h .filled .long);
-        long = length-set d j v ∙ h .filled .long;
-        front = fill-next f j d v l e (h .filled .front);
-      };
-      rest = drop-set-lt (j + 1) d j v (omega arith) ∙ sym (drop-drop 1 j d) ∙ ap (drop 1) (h .rest) ∙ drop-drop 1 j d₀;
-    }
-
-    pub changed : length d ≤ j → d ≡ tab f (length d₀)
-    changed l = filled f d₀ d j l (h .filled)
 
 -- ---- reading a row of the table
 module _ (p n w : ℕ) (table : List ℕ) (r : Rowed p n w table) where

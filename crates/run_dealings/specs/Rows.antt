@@ -1,8 +1,9 @@
 -- The table of shares as the code keeps it: a row for each wire, in it each party's share. The code deals by powers of the points.
-use Prim.Native.Nat.{ℕ, zero, suc, _+_, _*_, _%_, _≤_, _<_}
+use Prim.Native.Nat.{ℕ, zero, suc, _+_, _*_, _≤_, _<_}
 use mathlib.Core.Path.{_≡_}
-use mathlib.Core.Bool.{true}
+use mathlib.Core.Bool.{true, cond}
 use mathlib.Core.List.{List, [], _∷_, _++_, map, flatMap}
+use lib.Dec.{ltb}
 use lib.ListN.{length, take, drop, getD}
 use Rattle.numbers.specs.Tables.{tab}
 use Rattle.numbers.specs.Bytes.{numbers, allBelow}
@@ -14,6 +15,7 @@ use Rattle.plan.specs.declared.Gate.{Gate}
 use Rattle.plan.specs.declared.Gate.the-variants.{Input, Add, Scale, Offset, Multiply}
 use Rattle.plan.specs.declared.Header.{Header}
 use Rattle.plan.specs.Plans.{Plan, inputCount, coinCount}
+use Rattle.plan.specs.File.{planOf}
 use Rattle.run_protocol.specs.Shares.{gateShare, coinsTaken}
 
 -- the rows of these wires, one after the other: each wire's shares at the points
@@ -41,20 +43,9 @@ productsOf p n m a b table = tab (λ j. mul p (getD table (n * a + j) 0) (getD t
 unfoldable pub mixedAt : ℕ → List ℕ → List (List ℕ) → ℕ → ℕ
 mixedAt p ws fs x = dot p ws (map (λ f. eval p f x) fs)
 
--- a grid's column: in it what each row gives to one receiver
-unfoldable pub column : List (List ℕ) → ℕ → List ℕ
-column grid j = map (λ row. getD row j 0) grid
-
--- sums with w times a row added, entry by entry
-unfoldable pub addedAt : ℕ → List ℕ → List ℕ → ℕ → ℕ
-addedAt w row sums j = getD sums j 0 + w * getD row j 0
-
-unfoldable pub added : ℕ → List ℕ → List ℕ → List ℕ
-added w row sums = tab (addedAt w row sums) (length sums)
-
--- the sums' remainders
-unfoldable pub rests : ℕ → List ℕ → List ℕ
-rests p sums = map (λ x. x % p) sums
+-- how many coefficients a dealing of t coins is worked with, for t below 8
+unfoldable pub terms : ℕ → ℕ
+terms t = cond (ltb t 4) 4 8
 
 -- the coins that a gate takes, t for each of its dealers
 unfoldable pub coinsIn : ℕ → Gate → ℕ
@@ -71,30 +62,28 @@ pub record Sized (h : Header) : Type 0 where
   pub majority : 2 * h .t < h .n
   pub small : h .n < h .field .p
 
--- what is worked out once for a plan: eight powers of all parties' points, and the weights at 0 of the dealers'
-pub record Prepared (h : Header) (rows ws : List ℕ) : Type 0 where
-  pub room : 8 * h .n ≤ length rows
-  pub powers : take (8 * h .n) rows ≡ powerRows (h .field .p) 8 (tab suc (h .n))
-  pub wide : h .t + h .t + 1 ≤ length ws
-  pub weighs : take (h .t + h .t + 1) ws ≡ weights (h .field .p) 0 (take (h .t + h .t + 1) (tab suc (h .n)))
-
--- the power rows of the points stand in front
+-- the power rows of the points stand in front, k powers each
 pub record Powered (p k : ℕ) (points rows : List ℕ) : Type 0 where
   pub room : k * length points ≤ length rows
   pub front : take (k * length points) rows ≡ powerRows p k points
+
+-- the weights at 0 of the first 2t + 1 points stand in front
+pub record Weighted (p t : ℕ) (points ws : List ℕ) : Type 0 where
+  pub wide : t + t + 1 ≤ length ws
+  pub weighs : take (t + t + 1) ws ≡ weights p 0 (take (t + t + 1) points)
+
+-- what is worked out once for a plan: the powers of all parties' points, and the weights at 0 of the dealers'
+pub record Prepared (bs : List ℕ) (h : Header) (points rows ws : List ℕ) : Type 0 where
+  pub are : points ≡ planOf bs .points
+  pub room : terms (h .t) * length points ≤ length rows
+  pub powers : take (terms (h .t) * length points) rows ≡ powerRows (h .field .p) (terms (h .t)) points
+  pub wide : h .t + h .t + 1 ≤ length ws
+  pub weighs : take (h .t + h .t + 1) ws ≡ weights (h .field .p) 0 (take (h .t + h .t + 1) points)
 
 -- t coins for each of m dealings stand from place `at` on, and are below p
 pub record Coined (p t m at : ℕ) (cs : List ℕ) : Type 0 where
   pub room : at + t * m ≤ length cs
   pub below : allBelow p (take (t * m) (drop at cs)) ≡ true
-
--- a grid of pieces: column j holds the values at point j of the polynomials
-pub record Dealt (p : ℕ) (points : List ℕ) (fs : List (List ℕ)) (grid : List (List ℕ)) : Type 0 where
-  pub columns : (j : ℕ) → j < length points → take (length fs) (column grid j) ≡ map (λ f. eval p f (getD points j 0)) fs
-
--- the first m entries of the first n columns are below p
-pub record Elements (p n m : ℕ) (grid : List (List ℕ)) : Type 0 where
-  pub each : (j : ℕ) → j < n → allBelow p (take m (column grid j)) ≡ true
 
 -- row w of a table stands, with elements
 pub record Rowed (p n w : ℕ) (table : List ℕ) : Type 0 where

@@ -1,19 +1,17 @@
 // Dealings of a run, for all receiving parties at once: the rows of inputs and of multiply gates.
 use field::Field;
 use plan::Gate;
-use plan::Header;
 ghost use mathlib.Core.Path.{_≡_};
 ghost use mathlib.Core.Bool.{true};
-ghost use mathlib.Core.List.{_∷_, map};
-ghost use Prim.Native.Nat.{suc, _+_, _-_, _*_, _/_, _<_, _≤_};
-ghost use lib.ListN.{length, take, drop, replicate};
-ghost use Rattle.numbers.specs.Tables.{tab};
+ghost use mathlib.Core.List.{_∷_, map, flatMap};
+ghost use Prim.Native.Nat.{_+_, _-_, _*_, _/_, _<_, _≤_};
+ghost use lib.ListN.{length, take, drop, getD, replicate};
 ghost use Rattle.numbers.specs.Bytes.{numbers, allBelow};
-ghost use Rattle.field.specs.Field.{Ready};
+ghost use Rattle.field.specs.Field.{Is, reciprocal, Ready};
 ghost use Rattle.sharing_laws.specs.Poly.{eval, padded};
-ghost use Rattle.sharing_laws.specs.Interp.{dot};
 ghost use Rattle.run_protocol.specs.Shares.{sharings};
-ghost use Rattle.run_dealings.specs.Rows.{powers, powerRows, productsOf, mixedAt, column, added, rests, Sized, Prepared, Powered, Coined, Dealt, Elements, Rowed, coinsIn};
+ghost use Rattle.run_dealings.specs.Rows.{terms, powers, powerRows, productsOf, mixedAt, Powered, Weighted, Coined, Rowed, coinsIn};
+ghost use Rattle.run_dealings.specs.Columns.{piecesBy, columnAt, columnSum, shareAt, withColumn, withColumns};
 
 // ---- what is worked out once for a plan
 
@@ -49,62 +47,82 @@ fn power_rows(f: Field, k: usize, points: &[u64], rows: &mut [u64])
     }
 }
 
-// The power rows of all parties' points, eight powers each, and the weights at 0 of the dealers', for all dealings of a plan.
-pub fn prepare(h: Header, rows: &mut [u64], weights: &mut [u64])
-    requires { ⌜ Sized h ⌝ }
+// How many coefficients a dealing of t coins is worked with; those above the coins are 0. There are two counts, both constants where
+// the columns are worked, so that the loop over the coefficients is unrolled.
+fn terms(t: usize) -> usize
+    ensures { λ r. ⌜ r ≡ terms t ⌝ }
+{
+    if t < 4 {
+        return 4;
+    }
+    8
+}
+
+// The power rows of the points, and the weights at 0 of the dealers' points, for all dealings of a plan.
+pub fn prepare(f: Field, t: usize, points: &[u64], rows: &mut [u64], weights: &mut [u64])
+    requires { ⌜ Ready (f .p) ⌝ }
+    requires { ⌜ (2 * t < length (now points)) × (length (now points) ≤ 15) ⌝ }
+    requires { ⌜ allBelow (f .p) (now points) ≡ true ⌝ }
     requires { ⌜ 120 ≤ length (now rows) ⌝ }
     requires { ⌜ 15 ≤ length (now weights) ⌝ }
-    ensures { λ _. ⌜ Prepared h (now (rows .exit)) (now (weights .exit)) ⌝ }
-    ensures { λ _. ⌜ drop (8 * h .n) (now (rows .exit)) ≡ drop (8 * h .n) (now (rows .entry)) ⌝ }
-    ensures { λ _. ⌜ drop (h .t + h .t + 1) (now (weights .exit)) ≡ drop (h .t + h .t + 1) (now (weights .entry)) ⌝ }
+    ensures { λ _. ⌜ Powered (f .p) (terms t) (now (points .entry)) (now (rows .exit)) ⌝ }
+    ensures { λ _. ⌜ Weighted (f .p) t (now (points .entry)) (now (weights .exit)) ⌝ }
+    ensures { λ _. ⌜ drop (terms t * length (now (points .entry))) (now (rows .exit)) ≡ drop (terms t * length (now (points .entry))) (now (rows .entry)) ⌝ }
+    ensures { λ _. ⌜ drop (t + t + 1) (now (weights .exit)) ≡ drop (t + t + 1) (now (weights .entry)) ⌝ }
 {
-    let f = h.field;
-    let n = h.n;
-    let m = h.t + h.t + 1;
-    let e = 8 * n;
-    let points = seat_messages::points();
-    power_rows(f, 8, &points[..n], &mut rows[..e]);
+    let k = terms(t);
+    let m = t + t + 1;
+    let e = k * points.len();
+    power_rows(f, k, points, &mut rows[..e]);
     sharing::weights(f, 0, &points[..m], &mut weights[..m]);
 }
 
-// ---- dealings
+// ---- the polynomials of dealings
 
-// The polynomial of a dealing: the dealt value, then t coins from one place of the list on. It has eight coefficients, as many as any
-// plan's, so that the loop over them is unrolled; those above the coins are 0.
-fn coefficients(value: u64, coins: &[u8], at: usize, t: usize) -> [u64; 8]
-    requires { ⌜ t < 8 ⌝ }
+// Coefficient i of a dealing's polynomial: the dealt value, then t coins from one place of the list on, then 0.
+fn coefficient(value: u64, coins: &[u8], at: usize, t: usize, i: usize) -> u64
     requires { ⌜ at + t ≤ length (now coins) / 2 ⌝ }
-    ensures { λ r. ⌜ r ≡ padded 8 (value ∷ take t (drop at (numbers (now (coins .entry))))) ⌝ }
+    ensures { λ r. ⌜ r ≡ getD (value ∷ take t (drop at (numbers (now (coins .entry))))) i 0 ⌝ }
 {
-    let mut polynomial = [0u64; 8];
-    polynomial[0] = value;
-    let mut i: usize = 0;
-    while i < t {
-        polynomial[i + 1] = numbers::number(coins, at + i);
-        i += 1;
+    if i == 0 {
+        return value;
     }
-    polynomial
+    if t < i {
+        return 0;
+    }
+    numbers::number(coins, at + (i - 1))
 }
 
-// The pieces of a dealing: the polynomial's values at the points of all n parties, by the power rows.
-fn dealing(f: Field, n: usize, rows: &[u64], polynomial: [u64; 8]) -> [u64; 15]
-    requires { ⌜ Ready (f .p) ⌝ }
-    requires { ⌜ n ≤ 15 ⌝ }
-    requires { ⌜ Powered (f .p) 8 (tab suc n) (now rows) ⌝ }
-    requires { ⌜ allBelow (f .p) polynomial ≡ true ⌝ }
-    ensures { λ r. ⌜ take n r ≡ map (eval (f .p) polynomial) (tab suc n) ⌝ }
+// The polynomial of a dealing, with as many coefficients as there is room for.
+fn polynomial(value: u64, coins: &[u8], at: usize, t: usize, out: &mut [u64])
+    requires { ⌜ at + t ≤ length (now coins) / 2 ⌝ }
+    requires { ⌜ t < length (now out) ⌝ }
+    ensures { λ _. ⌜ now (out .exit) ≡ padded (length (now (out .entry))) (value ∷ take t (drop at (numbers (now (coins .entry))))) ⌝ }
 {
-    let m = f.reciprocal();
-    let mut row = [0u64; 15];
-    let mut at: usize = 0;
-    let mut j: usize = 0;
-    while j < n {
-        let e = at + 8;
-        row[j] = sharing::dot_by(f, m, &rows[at..e], &polynomial);
-        at = e;
-        j += 1;
+    let mut i: usize = 0;
+    while i < out.len() {
+        out[i] = coefficient(value, coins, at, t, i);
+        i += 1;
     }
-    row
+}
+
+// The polynomials of the dealings of these values, each with its own t coins and k coefficients, one after the other.
+fn polynomials(t: usize, k: usize, values: &[u64], coins: &[u8], at: usize, out: &mut [u64])
+    requires { ⌜ t < k ⌝ }
+    requires { ⌜ at + t * length (now values) ≤ length (now coins) / 2 ⌝ }
+    requires { ⌜ length (now out) ≡ k * length (now values) ⌝ }
+    ensures { λ _. ⌜ now (out .exit) ≡ flatMap (padded k) (sharings t (now (values .entry)) (drop at (numbers (now (coins .entry))))) ⌝ }
+{
+    let mut place = at;
+    let mut from: usize = 0;
+    let mut d: usize = 0;
+    while d < values.len() {
+        let e = from + k;
+        polynomial(values[d], coins, place, t, &mut out[from..e]);
+        place += t;
+        from = e;
+        d += 1;
+    }
 }
 
 // ---- multiply gates
@@ -129,90 +147,102 @@ pub fn products(f: Field, n: usize, m: usize, a: usize, b: usize, table: &[u64])
     row
 }
 
-// The pieces of a multiply gate, each dealer's with its own t coins: row the dealer, column the receiver.
-fn pieces(
+// Column j of a grid, row the dealer and column the receiver: the receiver's pieces of these polynomials, by the powers of its point, each
+// weighed and summed where it is dealt. m is the reciprocal.
+fn column(
     f: Field,
-    n: usize,
-    t: usize,
-    rows: &[u64],
-    products: [u64; 15],
-    coins: &[u8],
-    at: usize,
-) -> [[u64; 15]; 15]
+    m: u64,
+    weights: &[u64],
+    powers: &[u64],
+    polynomials: &[u64],
+    j: usize,
+    grid: &mut [[u64; 15]; 15],
+) -> u64
     requires { ⌜ Ready (f .p) ⌝ }
-    requires { ⌜ (2 * t < n) × (n ≤ 15) ⌝ }
-    requires { ⌜ Powered (f .p) 8 (tab suc n) (now rows) ⌝ }
-    requires { ⌜ allBelow (f .p) (take (t + t + 1) products) ≡ true ⌝ }
-    requires { ⌜ Coined (f .p) t (t + t + 1) at (numbers (now coins)) ⌝ }
-    ensures { λ r. ⌜ Dealt (f .p) (tab suc n) (sharings t (take (t + t + 1) products) (drop at (numbers (now (coins .entry))))) r ⌝ }
+    requires { ⌜ m ≡ reciprocal (f .p) ⌝ }
+    requires { ⌜ (length (now weights) ≤ 15) × (allBelow (f .p) (now weights) ≡ true) ⌝ }
+    requires { ⌜ (length (now powers) ≤ 16) × (allBelow (f .p) (now powers) ≡ true) ⌝ }
+    requires { ⌜ (length (now powers) * length (now weights) ≤ length (now polynomials)) × (allBelow (f .p) (now polynomials) ≡ true) ⌝ }
+    requires { ⌜ j < 15 ⌝ }
+    ensures { λ r. ⌜ Is (f .p) (columnSum (f .p) (now (weights .entry)) (piecesBy (f .p) (length (now (powers .entry))) (now (powers .entry)) (now (polynomials .entry)) (length (now (weights .entry))))) r ⌝ }
+    ensures { λ _. ⌜ now (grid .exit) ≡ withColumn j (piecesBy (f .p) (length (now (powers .entry))) (now (powers .entry)) (now (polynomials .entry)) (length (now (weights .entry)))) (now (grid .entry)) ⌝ }
 {
-    let dealers = t + t + 1;
-    let mut grid = [[0u64; 15]; 15];
-    let mut place = at;
-    let mut d: usize = 0;
-    while d < dealers {
-        let polynomial = coefficients(products[d], coins, place, t);
-        grid[d] = dealing(f, n, rows, polynomial);
-        place += t;
-        d += 1;
-    }
-    grid
-}
-
-// Adds w times a row to the sums, which are of at most 16 products each.
-fn weigh(f: Field, w: u64, row: [u64; 15], sums: &mut [u64])
-    requires { ⌜ Ready (f .p) ⌝ }
-    requires { ⌜ w < f .p ⌝ }
-    requires { ⌜ length (now sums) ≤ 15 ⌝ }
-    requires { ⌜ allBelow (f .p) (take (length (now sums)) row) ≡ true ⌝ }
-    requires { ⌜ allBelow (16 * (f .p * f .p) + 1) (now sums) ≡ true ⌝ }
-    ensures { λ _. ⌜ now (sums .exit) ≡ added w row (now (sums .entry)) ⌝ }
-{
-    let mut j: usize = 0;
-    while j < sums.len() {
-        sums[j] += f.product(w, row[j]);
-        j += 1;
-    }
-}
-
-// The remainders of the sums, in place of them.
-fn remainders(f: Field, sums: &mut [u64])
-    requires { ⌜ Ready (f .p) ⌝ }
-    requires { ⌜ allBelow (16 * (f .p * f .p) + 1) (now sums) ≡ true ⌝ }
-    ensures { λ _. ⌜ now (sums .exit) ≡ rests (f .p) (now (sums .entry)) ⌝ }
-{
-    let m = f.reciprocal();
-    let mut j: usize = 0;
-    while j < sums.len() {
-        sums[j] = f.reduced(m, sums[j]);
-        j += 1;
-    }
-}
-
-// Every receiver's share: the sum of its column, weighed. All columns are summed at once, row by row, with one remainder each.
-fn reduce(f: Field, n: usize, weights: &[u64], grid: [[u64; 15]; 15]) -> [u64; 15]
-    requires { ⌜ Ready (f .p) ⌝ }
-    requires { ⌜ n ≤ 15 ⌝ }
-    requires { ⌜ length (now weights) ≤ 15 ⌝ }
-    requires { ⌜ allBelow (f .p) (now weights) ≡ true ⌝ }
-    requires { ⌜ Elements (f .p) n (length (now weights)) grid ⌝ }
-    ensures { λ r. ⌜ take n r ≡ tab (λ j. dot (f .p) (now (weights .entry)) (column grid j)) n ⌝ }
-{
-    let mut sums = [0u64; 15];
+    let k = powers.len();
+    let mut sum: u64 = 0;
+    let mut at: usize = 0;
     let mut d: usize = 0;
     while d < weights.len() {
-        weigh(f, weights[d], grid[d], &mut sums[..n]);
+        let e = at + k;
+        let piece = sharing::dot_by(f, m, powers, &polynomials[at..e]);
+        grid[d][j] = piece;
+        sum += f.product(weights[d], piece);
+        at = e;
         d += 1;
     }
-    remainders(f, &mut sums[..n]);
+    f.reduced(m, sum)
+}
+
+// The columns of all receivers, by their power rows of k powers each, and every column's sum.
+fn columns(
+    f: Field,
+    m: u64,
+    k: usize,
+    points: &[u64],
+    rows: &[u64],
+    weights: &[u64],
+    polynomials: &[u64],
+    grid: &mut [[u64; 15]; 15],
+) -> [u64; 15]
+    requires { ⌜ Ready (f .p) ⌝ }
+    requires { ⌜ m ≡ reciprocal (f .p) ⌝ }
+    requires { ⌜ (k ≤ 16) × (length (now points) ≤ 15) ⌝ }
+    requires { ⌜ Powered (f .p) k (now points) (now rows) ⌝ }
+    requires { ⌜ (length (now weights) ≤ 15) × (allBelow (f .p) (now weights) ≡ true) ⌝ }
+    requires { ⌜ (k * length (now weights) ≤ length (now polynomials)) × (allBelow (f .p) (now polynomials) ≡ true) ⌝ }
+    ensures { λ r. ⌜ take (length (now (points .entry))) r ≡ map (shareAt (f .p) k (now (weights .entry)) (now (polynomials .entry))) (now (points .entry)) ⌝ }
+    ensures { λ _. ⌜ now (grid .exit) ≡ withColumns (columnAt (f .p) k (now (points .entry)) (now (polynomials .entry)) (length (now (weights .entry)))) (length (now (points .entry))) (now (grid .entry)) ⌝ }
+{
+    let mut sums = [0u64; 15];
+    let mut at: usize = 0;
+    let mut j: usize = 0;
+    while j < points.len() {
+        let e = at + k;
+        sums[j] = column(f, m, weights, &rows[at..e], polynomials, j, grid);
+        at = e;
+        j += 1;
+    }
     sums
+}
+
+// Every receiver's share: these polynomials are dealt into the grid, and each receiver's column is weighed and summed there.
+fn shares(
+    f: Field,
+    t: usize,
+    points: &[u64],
+    rows: &[u64],
+    weights: &[u64],
+    polynomials: &[u64],
+) -> [u64; 15]
+    requires { ⌜ Ready (f .p) ⌝ }
+    requires { ⌜ length (now points) ≤ 15 ⌝ }
+    requires { ⌜ Powered (f .p) (terms t) (now points) (now rows) ⌝ }
+    requires { ⌜ (length (now weights) ≤ 15) × (allBelow (f .p) (now weights) ≡ true) ⌝ }
+    requires { ⌜ (terms t * length (now weights) ≤ length (now polynomials)) × (allBelow (f .p) (now polynomials) ≡ true) ⌝ }
+    ensures { λ r. ⌜ take (length (now (points .entry))) r ≡ map (shareAt (f .p) (terms t) (now (weights .entry)) (now (polynomials .entry))) (now (points .entry)) ⌝ }
+{
+    let m = f.reciprocal();
+    let mut grid = [[0u64; 15]; 15];
+    if t < 4 {
+        return columns(f, m, 4, points, rows, weights, polynomials, &mut grid);
+    }
+    columns(f, m, 8, points, rows, weights, polynomials, &mut grid)
 }
 
 // A multiply gate's row: the dealers' products are dealt, and each receiver's pieces weighed and summed.
 pub fn multiply_row(
     f: Field,
-    n: usize,
     t: usize,
+    points: &[u64],
     rows: &[u64],
     weights: &[u64],
     a: usize,
@@ -222,40 +252,69 @@ pub fn multiply_row(
     table: &[u64],
 ) -> [u64; 15]
     requires { ⌜ Ready (f .p) ⌝ }
-    requires { ⌜ (2 * t < n) × (n ≤ 15) ⌝ }
-    requires { ⌜ Powered (f .p) 8 (tab suc n) (now rows) ⌝ }
-    requires { ⌜ (length (now weights) ≡ t + t + 1) × (allBelow (f .p) (now weights) ≡ true) ⌝ }
-    requires { ⌜ Coined (f .p) t (t + t + 1) at (numbers (now coins)) ⌝ }
-    requires { ⌜ Rowed (f .p) n a (now table) ⌝ }
-    requires { ⌜ Rowed (f .p) n b (now table) ⌝ }
-    ensures { λ r. ⌜ take n r ≡ map (mixedAt (f .p) (now (weights .entry)) (sharings t (productsOf (f .p) n (t + t + 1) a b (now (table .entry))) (drop at (numbers (now (coins .entry)))))) (tab suc n) ⌝ }
+    requires { ⌜ t < 8 ⌝ }
+    requires { ⌜ (length (now weights) ≤ length (now points)) × (length (now points) ≤ 15) ⌝ }
+    requires { ⌜ Powered (f .p) (terms t) (now points) (now rows) ⌝ }
+    requires { ⌜ allBelow (f .p) (now weights) ≡ true ⌝ }
+    requires { ⌜ Coined (f .p) t (length (now weights)) at (numbers (now coins)) ⌝ }
+    requires { ⌜ Rowed (f .p) (length (now points)) a (now table) ⌝ }
+    requires { ⌜ Rowed (f .p) (length (now points)) b (now table) ⌝ }
+    ensures { λ r. ⌜ take (length (now (points .entry))) r ≡ map (mixedAt (f .p) (now (weights .entry)) (sharings t (productsOf (f .p) (length (now (points .entry))) (length (now (weights .entry))) a b (now (table .entry))) (drop at (numbers (now (coins .entry)))))) (now (points .entry)) ⌝ }
 {
-    let products = products(f, n, t + t + 1, a, b, table);
-    let grid = pieces(f, n, t, rows, products, coins, at);
-    reduce(f, n, weights, grid)
+    let dealers = weights.len();
+    let products = products(f, points.len(), dealers, a, b, table);
+    let k = terms(t);
+    let used = k * dealers;
+    let mut dealt = [0u64; 120];
+    polynomials(t, k, &products[..dealers], coins, at, &mut dealt[..used]);
+    shares(f, t, points, rows, weights, &dealt[..used])
 }
 
 // ---- inputs
 
+// The pieces of a dealing: the polynomial's values at the points, by their power rows.
+fn dealing(f: Field, points: &[u64], rows: &[u64], polynomial: &[u64]) -> [u64; 15]
+    requires { ⌜ Ready (f .p) ⌝ }
+    requires { ⌜ (length (now points) ≤ 15) × (length (now polynomial) ≤ 16) ⌝ }
+    requires { ⌜ Powered (f .p) (length (now polynomial)) (now points) (now rows) ⌝ }
+    requires { ⌜ allBelow (f .p) (now polynomial) ≡ true ⌝ }
+    ensures { λ r. ⌜ take (length (now (points .entry))) r ≡ map (eval (f .p) (now (polynomial .entry))) (now (points .entry)) ⌝ }
+{
+    let m = f.reciprocal();
+    let k = polynomial.len();
+    let mut row = [0u64; 15];
+    let mut at: usize = 0;
+    let mut j: usize = 0;
+    while j < points.len() {
+        let e = at + k;
+        row[j] = sharing::dot_by(f, m, &rows[at..e], polynomial);
+        at = e;
+        j += 1;
+    }
+    row
+}
+
 // An input gate's row: the input is dealt.
 pub fn input_row(
     f: Field,
-    n: usize,
     t: usize,
+    points: &[u64],
     rows: &[u64],
     x: u64,
     coins: &[u8],
     at: usize,
 ) -> [u64; 15]
     requires { ⌜ Ready (f .p) ⌝ }
-    requires { ⌜ (2 * t < n) × (n ≤ 15) ⌝ }
-    requires { ⌜ Powered (f .p) 8 (tab suc n) (now rows) ⌝ }
+    requires { ⌜ (t < 8) × (length (now points) ≤ 15) ⌝ }
+    requires { ⌜ Powered (f .p) (terms t) (now points) (now rows) ⌝ }
     requires { ⌜ x < f .p ⌝ }
     requires { ⌜ Coined (f .p) t 1 at (numbers (now coins)) ⌝ }
-    ensures { λ r. ⌜ take n r ≡ map (eval (f .p) (x ∷ take t (drop at (numbers (now (coins .entry)))))) (tab suc n) ⌝ }
+    ensures { λ r. ⌜ take (length (now (points .entry))) r ≡ map (eval (f .p) (x ∷ take t (drop at (numbers (now (coins .entry)))))) (now (points .entry)) ⌝ }
 {
-    let polynomial = coefficients(x, coins, at, t);
-    dealing(f, n, rows, polynomial)
+    let k = terms(t);
+    let mut dealt = [0u64; 8];
+    polynomial(x, coins, at, t, &mut dealt[..k]);
+    dealing(f, points, rows, &dealt[..k])
 }
 
 // The coins that a gate takes from the list of all.

@@ -24,7 +24,6 @@ use Rattle.numbers.proofs.Counts.{countWhere-take-suc, countWhere-take-zero, co
 use Rattle.numbers.proofs.Below.{allBelow-take, allBelow-drop}
 use Rattle.numbers.proofs.Bytes.{numbers-length}
 use Rattle.field.specs.Mod.{mul}
-use Rattle.field.specs.Field.{Is}
 use Rattle.sharing_laws.specs.Poly.{eval}
 use Rattle.sharing_laws.specs.Interp.{dot, weights}
 use Rattle.sharing.proofs.Coding.{entry-below}
@@ -37,14 +36,13 @@ use Rattle.plan.specs.Planned.{Planned}
 use Rattle.plan.proofs.Planned.{plan-t, plan-p, plan-n, plan-gates, plan-gate}
 use Rattle.plan_counts.proofs.Counts.{dealings-le}
 use Rattle.plan.proofs.Valid.{Valid, valid, planned-ready}
-use Rattle.seat_messages.specs.Messages.{reduced}
 use Rattle.run_protocol.specs.Ideal.{inputsTaken}
 use Rattle.run_protocol.specs.Shares.{wireAt, sharings, dealtAt, piecesAt, gateShare, coinsTaken, shareTable, coinsBelow}
-use Rattle.run_dealings.specs.Rows.{rowsOf, column, Standing, Taking, Worked, Stepped, Given}
+use Rattle.run_dealings.specs.Rows.{rowsOf, Standing, Taking, Worked, Stepped, Given}
 use Rattle.run_protocol.proofs.Below.{append-below, map-below, share-below}
 use Rattle.run_protocol.proofs.Wires.{table-length, table-gate}
-use Rattle.run_dealings.proofs.RowLaws.{flat-snoc, take-drop, part-front}
-use Rattle.run_tables.proofs.StepLaws.{planned-sized}
+use Rattle.numbers.proofs.Rows.{flat-snoc}
+use Rattle.run_dealings.proofs.RowLaws.{take-drop, part-front}
 use Rattle.run_tables.proofs.GateLaws.{rows-row, entry-of-wire}
 
 -- ---- a step over one gate
@@ -253,7 +251,7 @@ module _ (bs : List ℕ) (h : Header) (k : Planned bs h) (inputs coins : List �
       pub table-kept : drop (h .n * h .gates) d ≡ drop (h .n * h .gates) d₀
       table-kept = ap (λ (m : ℕ). drop (h .n * m) d) (sym all) ∙ f .rest ∙ ap (λ (m : ℕ). drop (h .n * m) d₀) all
 
-pub ruleset filling-table = (needs, planned-sized, fill-none, next-below, gate-taking, gate-standing, gate-room, coins-fit, inputs-fit, fill-next, table-filled, table-kept)
+pub ruleset filling-table = (needs, fill-none, next-below, gate-taking, gate-standing, gate-room, coins-fit, inputs-fit, fill-next, table-filled, table-kept)
 
 -- ---- reading the table of a run
 module _ (bs : List ℕ) (h : Header) (k : Planned bs h) (xs cs d : List ℕ) (room : h .n * h .gates ≤ length d) (is : take (h .n * h .gates) d ≡ rowsOf (planOf bs .points) (shareTable (planOf bs) xs cs)) (w : ℕ) (l : w < h .gates) where
@@ -300,8 +298,3 @@ module _ (plan : Plan) (env : List (ℕ → ℕ)) (x : ℕ) (cs ds : List ℕ) w
       let share : List (List ℕ) → ℕ → ℕ = λ fs y. dot (plan .p) (weights (plan .p) 0 (take (dealerCount plan) (plan .points))) (map (λ f. eval (plan .p) f y) fs) in
       ap share
       (sharings-coins (plan .t) ss cs ds (sym (take-take (plan .t * length ss) _ cs few) ∙ ap (take (plan .t * length ss)) e ∙ take-take (plan .t * length ss) _ ds few))
-
--- ---- a column of pieces is reduced
-pub column-reduced : (plan : Plan) (ws : List ℕ) (grid : List (List ℕ)) (j r : ℕ) → ws ≡ weights (plan .p) 0 (dealerPoints plan) → Is (plan .p) (dot (plan .p) ws (column grid j)) r → Is (plan .p) (reduced plan (column grid j)) r
-unfolding reduced
-column-reduced plan ws grid j r e is = rw (← e) is

@@ -5,7 +5,7 @@
 use mathlib.Core.Path.{_≡_, sym, ap, ap₂, _∙_}
 use mathlib.Core.Bool.{true}
 use mathlib.Core.List.{List, _∷_, map}
-use Prim.Native.Nat.{ℕ, suc, _+_, _*_, _/_, _<_, _≤_}
+use Prim.Native.Nat.{ℕ, _+_, _*_, _/_, _<_, _≤_}
 use native.Mathlib.Nat.{mul-one, mul-div-cancel-left}
 use native.Mathlib.Omega.{arith}
 use borrow.Author.Needs.{needs}
@@ -15,8 +15,7 @@ use lib.ListN.{length, take, drop, getD, length-map}
 use lib.Seq.{getD-take, getD-drop, length-take-le}
 use Rattle.numbers.specs.Tables.{tab}
 use Rattle.numbers.specs.Bytes.{allBelow}
-use Rattle.numbers.proofs.Tables.{length-tab, tab-ext, row-room}
-use Rattle.numbers.proofs.Below.{allBelow-take, allBelow-drop}
+use Rattle.numbers.proofs.Tables.{tab-ext, row-room}
 use Rattle.numbers.proofs.Truth.{both-true}
 use Rattle.field.specs.Mod.{add, mul}
 use Rattle.sharing_laws.specs.Poly.{eval}
@@ -29,12 +28,12 @@ use Rattle.plan.specs.declared.Header.{Header}
 use Rattle.plan.specs.Plans.{Plan, partyCount, dealerCount, dealerPoints}
 use Rattle.plan.specs.File.{planOf, gateAt, gateOk}
 use Rattle.plan.specs.Planned.{Planned}
-use Rattle.plan.proofs.Planned.{plan-t, plan-p, plan-points, plan-n, plan-gates, plan-gate}
+use Rattle.plan.proofs.Planned.{plan-t, plan-p, plan-n, plan-gates, plan-gate}
 use Rattle.plan.proofs.Valid.{valid, planned-ready}
 use Rattle.run_protocol.specs.Shares.{wireAt, sharings, piecesAt, dealtAt, gateShare, coinsTaken}
-use Rattle.run_dealings.specs.Rows.{rowsOf, productsOf, mixedAt, Prepared, Powered, Coined, Rowed, Standing, Taking, Worked, coinsIn}
-use Rattle.run_dealings.proofs.RowLaws.{flat-length, flat-part, part-front, standing-row}
-use Rattle.run_dealings.proofs.GridLaws.{getD-values}
+use Rattle.run_dealings.specs.Rows.{rowsOf, terms, productsOf, mixedAt, Prepared, Powered, Coined, Rowed, Standing, Taking, Worked, coinsIn}
+use Rattle.numbers.proofs.Rows.{flat-length, flat-part}
+use Rattle.run_dealings.proofs.RowLaws.{getD-values, standing-row}
 use Rattle.run_tables.proofs.StepLaws.{takes-coins}
 
 -- ---- the rows of a table
@@ -113,24 +112,36 @@ module _ (plan : Plan) (n g : ℕ) (en : length (plan .points) ≡ n) (low : 1 �
       is ∙ ap₂ (λ (vs ss : List ℕ). map (mixedAt (plan .p) vs (sharings (plan .t) ss cs)) (plan .points)) ew (products-dealt a b la lb le)
 
 -- ---- what is prepared
-module _ (h : Header) (rows ws : List ℕ) (prepared : Prepared h rows ws) where
-  pub powered : Powered (h .field .p) 8 (tab suc (h .n)) rows
-  powered = record {
-    room = rw (length-tab suc (h .n)) (prepared .room);
-    front = ap (λ (n : ℕ). take (8 * n) rows) (length-tab suc (h .n)) ∙ prepared .powers;
-  }
+module _ (bs : List ℕ) (h : Header) (points rows ws : List ℕ) (prepared : Prepared bs h points rows ws) where
+  pub powered : Powered (h .field .p) (terms (h .t)) points rows
+  powered = record { room = prepared .room; front = prepared .powers }
 
   pub weights-stand : h .t + h .t + 1 ≤ length ws
   weights-stand = prepared .wide
 
+  weights-long : length (take (h .t + h .t + 1) ws) ≡ h .t + h .t + 1
+  weights-long = length-take-le (h .t + h .t + 1) ws (prepared .wide)
+
   pub weights-counted : h .t + h .t + 1 ≡ length (take (h .t + h .t + 1) ws)
-  weights-counted = sym (length-take-le (h .t + h .t + 1) ws (prepared .wide))
+  weights-counted = sym weights-long
 
-  pub weights-counted-back : length (take (h .t + h .t + 1) ws) ≡ h .t + h .t + 1
-  weights-counted-back = sym weights-counted
+  module _ (k : Planned bs h) where
+    pub weights-elements : allBelow (h .field .p) (take (h .t + h .t + 1) ws) ≡ true
+    weights-elements = rw (prepared .weighs) (weights-below (planned-ready bs h k .prime) 0 (take (h .t + h .t + 1) points))
 
-  pub weights-elements : (bs : List ℕ) → Planned bs h → allBelow (h .field .p) (take (h .t + h .t + 1) ws) ≡ true
-  weights-elements bs k = rw (prepared .weighs) (weights-below (planned-ready bs h k .prime) 0 (take (h .t + h .t + 1) (tab suc (h .n))))
+    parties : length points ≡ h .n
+    unfolding partyCount
+    parties = ap length (prepared .are) ∙ plan-n k
+
+    pub points-few : length points ≤ 15
+    points-few = omega (arith, parties, k .n-high)
+
+    -- the dealers are parties
+    pub dealers-within : length (take (h .t + h .t + 1) ws) ≤ length points
+    dealers-within = omega (arith, weights-long, parties, k .majority)
+
+pub coins-few : (bs : List ℕ) (h : Header) → Planned bs h → h .t < 8
+coins-few bs h k = omega (arith, k .majority, k .n-high)
 
 -- ---- gate g of a plan that passes, as it was read
 module _ (bs : List ℕ) (h : Header) (k : Planned bs h) (g : ℕ) (l : g < h .gates) where
@@ -176,11 +187,12 @@ module _ (bs : List ℕ) (h : Header) (k : Planned bs h) (g : ℕ) (l : g < h .g
       pub offset-constant : read ≡ Offset a b → b < h .field .p
       offset-constant is = ltb-true b (h .field .p) (offsets is .1)
 
-      pub multiply-left-stands : read ≡ Multiply a b → Rowed (h .field .p) (h .n) a table
-      multiply-left-stands is = standing-row (h .field .p) (h .n) g a table s (ltb-true a g (multiplies is .0))
+      module _ (points rows ws : List ℕ) (prepared : Prepared bs h points rows ws) where
+        pub multiply-left-stands : read ≡ Multiply a b → Rowed (h .field .p) (length points) a table
+        multiply-left-stands is = rw (parties bs h points rows ws prepared k) (standing-row (h .field .p) (h .n) g a table s (ltb-true a g (multiplies is .0)))
 
-      pub multiply-right-stands : read ≡ Multiply a b → Rowed (h .field .p) (h .n) b table
-      multiply-right-stands is = standing-row (h .field .p) (h .n) g b table s (ltb-true b g (multiplies is .1))
+        pub multiply-right-stands : read ≡ Multiply a b → Rowed (h .field .p) (length points) b table
+        multiply-right-stands is = rw (parties bs h points rows ws prepared k) (standing-row (h .field .p) (h .n) g b table s (ltb-true b g (multiplies is .1)))
 
     -- coins
     module _ (at : ℕ) (cs : List ℕ) (taking : Taking (planOf bs) (gateAt bs g) at cs) where
@@ -190,11 +202,11 @@ module _ (bs : List ℕ) (h : Header) (k : Planned bs h) (g : ℕ) (l : g < h .g
           let q : coinsTaken (planOf bs) (gateAt bs g) ≡ h .t * 1 = sym (takes-coins bs h k (gateAt bs g) read e (h .t) (sym (ap (coinsIn (h .t)) is))) ∙ sym (mul-one (h .t)) in
           record { room = rw q at (taking .room); below = rw (q, plan-p k) at (taking .below) }
 
-      pub multiply-coins : (a b : ℕ) → read ≡ Multiply a b → Coined (h .field .p) (h .t) (h .t + h .t + 1) at cs
+      pub multiply-coins : (a b : ℕ) (points rows ws : List ℕ) → read ≡ Multiply a b → Prepared bs h points rows ws → Coined (h .field .p) (h .t) (length (take (h .t + h .t + 1) ws)) at cs
       unfolding coinsIn
-      multiply-coins a b is =
+      multiply-coins a b points rows ws is prepared =
           let q : coinsTaken (planOf bs) (gateAt bs g) ≡ h .t * (h .t + h .t + 1) = sym (takes-coins bs h k (gateAt bs g) read e (h .t * (h .t + h .t + 1)) (sym (ap (coinsIn (h .t)) is))) in
-          record { room = rw q at (taking .room); below = rw (q, plan-p k) at (taking .below) }
+          rw (weights-long bs h points rows ws prepared) (record { room = rw q at (taking .room); below = rw (q, plan-p k) at (taking .below) })
 
     -- rows
     module _ (x : ℕ) (cs row : List ℕ) where
@@ -227,24 +239,26 @@ module _ (bs : List ℕ) (h : Header) (k : Planned bs h) (g : ℕ) (l : g < h .g
           offset-share (planOf bs) (h .n) g n-is (k .n-low) table (s .room) env front x cs row a c (ltb-true a g (offsets a c is .0))
           (made ∙ ap (λ (p : ℕ). tab (λ j. add p (getD table (h .n * a + j) 0) c) (h .n)) (sym (plan-p k))))
 
-      pub worked-input : (i : ℕ) → read ≡ Input i → take (h .n) row ≡ map (eval (h .field .p) (x ∷ take (h .t) cs)) (tab suc (h .n)) → Worked (planOf bs) (h .n) (gateAt bs g) g x cs table row
-      worked-input i is made =
-          by-kind (Input i) is
-          (λ env front.
-          input-share (planOf bs) (h .n) g n-is (k .n-low) table (s .room) env front x cs row i
-          (rw (plan-p k, plan-t k, plan-points k) made))
+      module _ (points rows ws : List ℕ) (prepared : Prepared bs h points rows ws) where
+        pub worked-input : (i : ℕ) → read ≡ Input i → take (length points) row ≡ map (eval (h .field .p) (x ∷ take (h .t) cs)) points → Worked (planOf bs) (h .n) (gateAt bs g) g x cs table row
+        worked-input i is made =
+            by-kind (Input i) is
+            (λ env front.
+            input-share (planOf bs) (h .n) g n-is (k .n-low) table (s .room) env front x cs row i
+            (rw (plan-p k, plan-t k, ← prepared .are, ← parties bs h points rows ws prepared k) made))
 
-      pub worked-multiply : (rows ws : List ℕ) → Prepared h rows ws → (a b : ℕ) → read ≡ Multiply a b
-          → take (h .n) row ≡ map (mixedAt (h .field .p) (take (h .t + h .t + 1) ws) (sharings (h .t) (productsOf (h .field .p) (h .n) (h .t + h .t + 1) a b table) cs)) (tab suc (h .n))
-          → Worked (planOf bs) (h .n) (gateAt bs g) g x cs table row
-      unfolding dealerCount dealerPoints
-      worked-multiply rows ws prepared a b is made =
-          by-kind (Multiply a b) is
-          (λ env front.
-          multiply-share (planOf bs) (h .n) g n-is (k .n-low) table (s .room) env front x cs row a b (take (h .t + h .t + 1) ws)
-          (ltb-true a g (multiplies a b is .0)) (ltb-true b g (multiplies a b is .1))
-          (rw (plan-t k) (omega (arith, k .majority)))
-          (rw (plan-p k, plan-t k, plan-points k) (prepared .weighs))
-          (rw (plan-p k, plan-t k, plan-points k) made))
+        pub worked-multiply : (a b : ℕ) → read ≡ Multiply a b
+            → take (length points) row
+            ≡ map (mixedAt (h .field .p) (take (h .t + h .t + 1) ws) (sharings (h .t) (productsOf (h .field .p) (length points) (length (take (h .t + h .t + 1) ws)) a b table) cs)) points
+            → Worked (planOf bs) (h .n) (gateAt bs g) g x cs table row
+        unfolding dealerCount dealerPoints
+        worked-multiply a b is made =
+            by-kind (Multiply a b) is
+            (λ env front.
+            multiply-share (planOf bs) (h .n) g n-is (k .n-low) table (s .room) env front x cs row a b (take (h .t + h .t + 1) ws)
+            (ltb-true a g (multiplies a b is .0)) (ltb-true b g (multiplies a b is .1))
+            (rw (plan-t k) (omega (arith, k .majority)))
+            (rw (plan-p k, plan-t k, ← prepared .are) (prepared .weighs))
+            (rw (plan-p k, plan-t k, ← prepared .are, ← parties bs h points rows ws prepared k) (rw (weights-long bs h points rows ws prepared) at made)))
 
-pub ruleset working = (needs, planned-ready, powered, weights-stand, weights-counted, weights-counted-back, weights-elements, add-left-stands, add-right-stands, scale-stands, scale-constant, offset-stands, offset-constant, multiply-left-stands, multiply-right-stands, input-coins, multiply-coins, worked-add, worked-scale, worked-offset, worked-input, worked-multiply)
+pub ruleset working = (needs, planned-ready, powered, weights-stand, weights-counted, weights-elements, dealers-within, points-few, coins-few, add-left-stands, add-right-stands, scale-stands, scale-constant, offset-stands, offset-constant, multiply-left-stands, multiply-right-stands, input-coins, multiply-coins, worked-add, worked-scale, worked-offset, worked-input, worked-multiply)

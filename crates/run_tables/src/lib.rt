@@ -79,6 +79,7 @@ fn offset_row(f: Field, n: usize, a: usize, c: u64, table: &[u64]) -> [u64; 15]
 fn gate_row(
     plan: &[u8],
     h: Header,
+    points: &[u64],
     rows: &[u64],
     weights: &[u64],
     g: usize,
@@ -89,7 +90,7 @@ fn gate_row(
 ) -> [u64; 15]
     requires { ⌜ Planned (now plan) h ⌝ }
     requires { ⌜ g < h .gates ⌝ }
-    requires { ⌜ Prepared h (now rows) (now weights) ⌝ }
+    requires { ⌜ Prepared (now plan) h (now points) (now rows) (now weights) ⌝ }
     requires { ⌜ x < h .field .p ⌝ }
     requires { ⌜ Taking (planOf (now plan)) (gateAt (now plan) g) at (numbers (now coins)) ⌝ }
     requires { ⌜ Standing (h .field .p) (h .n) g (now table) ⌝ }
@@ -101,14 +102,14 @@ fn gate_row(
     let dealers = t + t + 1;
     let gate = plan::gate_at(plan, g);
     match gate {
-        Gate::Input(_) => run_dealings::input_row(f, n, t, rows, x, coins, at),
+        Gate::Input(_) => run_dealings::input_row(f, t, points, rows, x, coins, at),
         Gate::Add(a, b) => add_row(f, n, a, b, table),
         Gate::Scale(a, c) => scale_row(f, n, a, c, table),
         Gate::Offset(a, c) => offset_row(f, n, a, c, table),
         Gate::Multiply(a, b) => run_dealings::multiply_row(
             f,
-            n,
             t,
+            points,
             rows,
             &weights[..dealers],
             a,
@@ -137,6 +138,7 @@ fn put_row(table: &mut [u64], at: usize, row: [u64; 15], n: usize)
 pub fn step(
     plan: &[u8],
     h: Header,
+    points: &[u64],
     rows: &[u64],
     weights: &[u64],
     g: usize,
@@ -147,7 +149,7 @@ pub fn step(
 )
     requires { ⌜ Planned (now plan) h ⌝ }
     requires { ⌜ g < h .gates ⌝ }
-    requires { ⌜ Prepared h (now rows) (now weights) ⌝ }
+    requires { ⌜ Prepared (now plan) h (now points) (now rows) (now weights) ⌝ }
     requires { ⌜ x < h .field .p ⌝ }
     requires { ⌜ Taking (planOf (now plan)) (gateAt (now plan) g) at (numbers (now coins)) ⌝ }
     requires { ⌜ Standing (h .field .p) (h .n) g (now table) ⌝ }
@@ -156,7 +158,7 @@ pub fn step(
 {
     let n = h.n;
     let start = n * g;
-    let row = gate_row(plan, h, rows, weights, g, x, coins, at, table);
+    let row = gate_row(plan, h, points, rows, weights, g, x, coins, at, table);
     put_row(table, start, row, n);
 }
 
@@ -180,6 +182,38 @@ pub fn taken_at(plan: &[u8], h: Header, g: usize) -> Taken
     }
 }
 
+// The table of a run, with what is worked out once for the plan: its gates one after the other.
+fn steps(
+    plan: &[u8],
+    h: Header,
+    points: &[u64],
+    rows: &[u64],
+    weights: &[u64],
+    inputs: &[u8],
+    coins: &[u8],
+    table: &mut [u64],
+)
+    requires { ⌜ Planned (now plan) h ⌝ }
+    requires { ⌜ Prepared (now plan) h (now points) (now rows) (now weights) ⌝ }
+    requires { ⌜ Given (planOf (now plan)) (now inputs) (now coins) ⌝ }
+    requires { ⌜ h .n * h .gates ≤ length (now table) ⌝ }
+    ensures { λ _. ⌜ take (h .n * h .gates) (now (table .exit)) ≡ rowsOf (planOf (now (plan .entry)) .points) (shareTable (planOf (now (plan .entry))) (numbers (now (inputs .entry))) (numbers (now (coins .entry)))) ⌝ }
+    ensures { λ _. ⌜ drop (h .n * h .gates) (now (table .exit)) ≡ drop (h .n * h .gates) (now (table .entry)) ⌝ }
+{
+    let gates = h.gates;
+    let mut i: usize = 0;
+    let mut at: usize = 0;
+    let mut g: usize = 0;
+    while g < gates {
+        let x = numbers::read(inputs, i);
+        step(plan, h, points, rows, weights, g, x, coins, at, table);
+        let taken = taken_at(plan, h, g);
+        i += taken.inputs;
+        at += taken.coins;
+        g += 1;
+    }
+}
+
 // The table of a run: every party's share of every wire, in front of what the table holds beyond.
 pub fn fill(plan: &[u8], h: Header, inputs: &[u8], coins: &[u8], table: &mut [u64])
     requires { ⌜ Planned (now plan) h ⌝ }
@@ -188,19 +222,10 @@ pub fn fill(plan: &[u8], h: Header, inputs: &[u8], coins: &[u8], table: &mut [u6
     ensures { λ _. ⌜ take (h .n * h .gates) (now (table .exit)) ≡ rowsOf (planOf (now (plan .entry)) .points) (shareTable (planOf (now (plan .entry))) (numbers (now (inputs .entry))) (numbers (now (coins .entry)))) ⌝ }
     ensures { λ _. ⌜ drop (h .n * h .gates) (now (table .exit)) ≡ drop (h .n * h .gates) (now (table .entry)) ⌝ }
 {
+    let n = h.n;
+    let points = seat_messages::points();
     let mut rows = [0u64; 120];
     let mut weights = [0u64; 15];
-    run_dealings::prepare(h, &mut rows, &mut weights);
-    let gates = h.gates;
-    let mut i: usize = 0;
-    let mut at: usize = 0;
-    let mut g: usize = 0;
-    while g < gates {
-        let x = numbers::read(inputs, i);
-        step(plan, h, &rows, &weights, g, x, coins, at, table);
-        let taken = taken_at(plan, h, g);
-        i += taken.inputs;
-        at += taken.coins;
-        g += 1;
-    }
+    run_dealings::prepare(h.field, h.t, &points[..n], &mut rows, &mut weights);
+    steps(plan, h, &points[..n], &rows, &weights, inputs, coins, table);
 }

@@ -9,26 +9,14 @@ use Prim.Native.Nat.{ℕ, zero, suc, _+_, _-_, _*_, _<_, _≤_}
 use native.Mathlib.Numerals.{add-one}
 use native.Mathlib.Nat.{mul-suc, suc-mul}
 use native.Mathlib.Omega.{arith}
-use lib.ListN.{length, set, length-append, drop-of-length-le}
-use lib.Seq.{sets, sets-eq}
+use lib.ListN.{length, length-append}
+use lib.Seq.{sets}
 use Rattle.numbers.specs.Tables.{tab}
 use Rattle.numbers.specs.Bytes.{numbers, stored}
 use Rattle.numbers.proofs.Bytes.{numbers-length, length-stored, numbers-stored}
 use Rattle.numbers.proofs.Tables.{tab-next}
+use Rattle.numbers.proofs.Rows.{sets-append, sets-all}
 use Rattle.seat_sending.specs.Sending.{Sent}
-
--- ---- a list whose entries are set one after the other
-sets-append : (l : List ℕ) (at : ℕ) (vs ws : List ℕ) → sets l at (vs ++ ws) ≡ sets (sets l at vs) (at + length vs) ws
-sets-append l at [] ws = let e : at ≡ at + 0 = omega arith in ap (λ (n : ℕ). sets l n ws) e
-sets-append l at (v ∷ vs) ws =
-    let e : suc at + length vs ≡ at + suc (length vs) = omega arith in
-    sets-append (set l at v) (suc at) vs ws ∙ ap (λ (n : ℕ). sets (sets (set l at v) (suc at) vs) n ws) e
-
-sets-all : (l vs : List ℕ) → length vs ≡ length l → sets l 0 vs ≡ vs
-sets-all l vs e =
-    sets-eq vs l 0 (omega arith)
-    ∙ ap (λ (r : List ℕ). vs ++ r) (drop-of-length-le l {i = 0 + length vs} (omega arith))
-    ∙ append-nil vs
 
 -- ---- a number that is there or not
 pub one-long : (b : Bool) (v : ℕ) → length (cond b (v ∷ []) []) ≤ 1

@@ -27,7 +27,7 @@ use Rattle.field.specs.Field.{Below2, Is, reciprocal, Reducible, Ready}
 use Rattle.field.proofs.Solve.{Canon, zero-canon, Same, same, turn, _⨾_, plus, mul-same, add-same, mod-canon, add-canon, canon-same, canon-lt, mod-same}
 use Rattle.field.proofs.Products.{word}
 use Rattle.sharing_laws.specs.Poly.{eval}
-use Rattle.sharing_laws.specs.Interp.{dot}
+use Rattle.sharing_laws.specs.Interp.{dot, plainSum}
 use Rattle.sharing_laws.specs.Sharing.{deal}
 use Rattle.sharing_laws.proofs.Polys.{eval-canon}
 
@@ -101,12 +101,6 @@ dealt p s coins xs = refl
 pub ruleset dealing = (filling, filled-map, entry-below)
 
 -- ---- the weighted sum
--- the sum of the products as it stands, not reduced
-unfoldable pub plainSum : List ℕ → List ℕ → ℕ
-plainSum [] vs = 0
-plainSum (w ∷ ws) [] = 0
-plainSum (w ∷ ws) (v ∷ vs) = w * v + plainSum ws vs
-
 plain-same : (p : ℕ) (ws vs : List ℕ) → Same p (plainSum ws vs) (dot p ws vs)
 unfolding plainSum dot
 plain-same p [] vs = same refl

@@ -49,10 +49,13 @@ unfolding eval
 eval-above p k [] x = eval-zeros p k x
 eval-above p k (a ∷ f) x = ap (λ (v : ℕ). add p a (mul p x v)) (eval-above p k f x)
 
-pub values-padded : (p n : ℕ) (f xs : List ℕ) → map (eval p (padded n f)) xs ≡ map (eval p f) xs
+pub eval-padded : (p n : ℕ) (f : List ℕ) (x : ℕ) → eval p (padded n f) x ≡ eval p f x
 unfolding padded
+eval-padded p n f x = eval-above p (n - length f) f x
+
+pub values-padded : (p n : ℕ) (f xs : List ℕ) → map (eval p (padded n f)) xs ≡ map (eval p f) xs
 values-padded p n f [] = refl
-values-padded p n f (x ∷ xs) = ap₂ (λ (v : ℕ) (l : List ℕ). v ∷ l) (eval-above p (n - length f) f x) (values-padded p n f xs)
+values-padded p n f (x ∷ xs) = ap₂ (λ (v : ℕ) (l : List ℕ). v ∷ l) (eval-padded p n f x) (values-padded p n f xs)
 
 pub length-sum : (p : ℕ) (f g : List ℕ) → length (sumOf p f g) ≡ max (length f) (length g)
 unfolding sumOf

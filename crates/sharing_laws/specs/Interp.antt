@@ -2,7 +2,7 @@
 use mathlib.Core.Logic.{_≢_}
 use mathlib.Core.Bool.{cond}
 use mathlib.Core.List.{List, [], _∷_, map}
-use Prim.Native.Nat.{ℕ, _%_}
+use Prim.Native.Nat.{ℕ, _+_, _*_, _%_}
 use lib.Dec.{eqb}
 use Rattle.field.specs.Mod.{add, mul, sub}
 use Rattle.field.specs.Prime.{inv}
@@ -29,6 +29,12 @@ unfoldable pub dot : ℕ → List ℕ → List ℕ → ℕ
 dot p [] vs = 0
 dot p (w ∷ ws) [] = 0
 dot p (w ∷ ws) (v ∷ vs) = add p (mul p w v) (dot p ws vs)
+
+-- the same as it stands, not reduced
+unfoldable pub plainSum : List ℕ → List ℕ → ℕ
+plainSum [] vs = 0
+plainSum (w ∷ ws) [] = 0
+plainSum (w ∷ ws) (v ∷ vs) = w * v + plainSum ws vs
 
 -- the value at z of the polynomial that has the values vs at the points xs
 unfoldable pub interpolate : ℕ → ℕ → List ℕ → List ℕ → ℕ

@@ -1,22 +1,39 @@
 use Rattle.run_dealings.proofs.DealingLaws.{multiplying}
-use borrow.Author.Needs.{needs}
 use Rattle.run_dealings.proofs.multiply_row.Statement.{statement}
 use Rattle.run_dealings.proofs.multiply_row.Tie as tie
 
-add-products : tie.Need-add-products
-add-products c = search needs
-
-add-products-2 : tie.Need-add-products-2
-add-products-2 c = search needs
-
 products-requires : tie.Need-products-requires
-products-requires c κs = (search multiplying, (search multiplying, (search multiplying, search multiplying)))
+products-requires c κs = (search multiplying, ((search multiplying, search multiplying), (search multiplying, search multiplying)))
 
-pieces-requires : tie.Need-pieces-requires
-pieces-requires c κs = (search multiplying, (search multiplying, (search multiplying, (search multiplying, search multiplying))))
+terms-requires : tie.Need-terms-requires
+terms-requires c κs = search multiplying
 
-reduce-requires : tie.Need-reduce-requires
-reduce-requires c κs = (search multiplying, (search multiplying, (search multiplying, (search multiplying, search multiplying))))
+mul-used : tie.Need-mul-used
+mul-used c = search multiplying
+
+array-share-prefix-products : tie.Need-array-share-prefix-products
+array-share-prefix-products c = search multiplying
+
+slice-aggregate-polynomials : tie.Need-slice-aggregate-polynomials
+slice-aggregate-polynomials c = search multiplying
+
+array-borrow-prefix-dealt : tie.Need-array-borrow-prefix-dealt
+array-borrow-prefix-dealt c = search multiplying
+
+slice-aggregate-polynomials-2 : tie.Need-slice-aggregate-polynomials-2
+slice-aggregate-polynomials-2 c = search multiplying
+
+polynomials-requires : tie.Need-polynomials-requires
+polynomials-requires c κs = (search multiplying, (search multiplying, search multiplying))
+
+array-share-prefix-dealt : tie.Need-array-share-prefix-dealt
+array-share-prefix-dealt c = search multiplying
+
+slice-aggregate-shares : tie.Need-slice-aggregate-shares
+slice-aggregate-shares c = search multiplying
+
+shares-requires : tie.Need-shares-requires
+shares-requires c κs = (search multiplying, (search multiplying, (search multiplying, ((search multiplying, search multiplying), (search multiplying, search multiplying)))))
 
 returns : tie.Need-returns
 returns c = search multiplying
@@ -25,9 +42,15 @@ pub multiply-row-spec : {M : Type 1} → statement M
 multiply-row-spec =
     tie.close
     (tie.spec
-    add-products
-    add-products-2
     products-requires
-    pieces-requires
-    reduce-requires
+    terms-requires
+    mul-used
+    array-share-prefix-products
+    slice-aggregate-polynomials
+    array-borrow-prefix-dealt
+    slice-aggregate-polynomials-2
+    polynomials-requires
+    array-share-prefix-dealt
+    slice-aggregate-shares
+    shares-requires
     returns)

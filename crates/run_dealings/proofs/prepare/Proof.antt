@@ -2,6 +2,9 @@ use Rattle.run_dealings.proofs.DealingLaws.{preparing}
 use Rattle.run_dealings.proofs.prepare.Statement.{statement}
 use Rattle.run_dealings.proofs.prepare.Tie as tie
 
+terms-requires : tie.Need-terms-requires
+terms-requires c κs = search preparing
+
 add-m : tie.Need-add-m
 add-m c = search preparing
 
@@ -11,26 +14,14 @@ add-m-2 c = search preparing
 mul-e : tie.Need-mul-e
 mul-e c = search preparing
 
-points-requires : tie.Need-points-requires
-points-requires c κs = search preparing
-
-array-share-prefix-points : tie.Need-array-share-prefix-points
-array-share-prefix-points c = search preparing
+slice-relend-prefix-power-rows : tie.Need-slice-relend-prefix-power-rows
+slice-relend-prefix-power-rows c = search preparing
 
 slice-aggregate-power-rows : tie.Need-slice-aggregate-power-rows
 slice-aggregate-power-rows c = search preparing
 
-slice-relend-prefix-power-rows : tie.Need-slice-relend-prefix-power-rows
-slice-relend-prefix-power-rows c = search preparing
-
-slice-aggregate-power-rows-2 : tie.Need-slice-aggregate-power-rows-2
-slice-aggregate-power-rows-2 c = search preparing
-
 power-rows-requires : tie.Need-power-rows-requires
 power-rows-requires c κs = (search preparing, (search preparing, search preparing))
-
-array-share-prefix-points-2 : tie.Need-array-share-prefix-points-2
-array-share-prefix-points-2 c = search preparing
 
 slice-aggregate-weights : tie.Need-slice-aggregate-weights
 slice-aggregate-weights c = search preparing
@@ -51,22 +42,19 @@ same-length-2 : tie.Need-same-length-2
 same-length-2 c = search preparing
 
 returns : tie.Need-returns
-returns c = (search preparing, (search preparing, search preparing))
+returns c = (search preparing, (search preparing, (search preparing, search preparing)))
 
 pub prepare-spec : {M : Type 1} → statement M
 prepare-spec =
     tie.close
     (tie.spec
+    terms-requires
     add-m
     add-m-2
     mul-e
-    points-requires
-    array-share-prefix-points
-    slice-aggregate-power-rows
     slice-relend-prefix-power-rows
-    slice-aggregate-power-rows-2
+    slice-aggregate-power-rows
     power-rows-requires
-    array-share-prefix-points-2
     slice-aggregate-weights
     slice-relend-prefix-weights
     slice-aggregate-weights-2

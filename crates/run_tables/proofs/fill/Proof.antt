@@ -1,82 +1,60 @@
-use Prim.Native.Nat.{_-_}
-use Rattle.numbers.specs.Bytes.{numbers}
-use Rattle.run_tables.proofs.FillLaws.{Filling, filling-table}
+use Rattle.run_tables.proofs.StepLaws.{placing}
 use Rattle.run_tables.proofs.fill.Statement.{statement}
 use Rattle.run_tables.proofs.fill.Tie as tie
 
-abbrev Inv-loop : tie.InvT-loop
-Inv-loop plan h inputs coins table₀ rows weights gates i₀ at₀ g₀ table i at g = Filling plan h (numbers inputs) (numbers coins) table₀ table i at g
+points-requires : tie.Need-points-requires
+points-requires c κs = search placing
 
-abbrev μ-loop : tie.MeasureT-loop
-μ-loop plan h inputs coins table₀ rows weights gates i₀ at₀ g₀ table i at g = h .gates - g
+array-share-prefix-points : tie.Need-array-share-prefix-points
+array-share-prefix-points c = search placing
 
-slice-aggregate-prepare : tie.Need-slice-aggregate-prepare Inv-loop μ-loop
-slice-aggregate-prepare c = search filling-table
+slice-aggregate-prepare : tie.Need-slice-aggregate-prepare
+slice-aggregate-prepare c = search placing
 
-slice-aggregate-prepare-2 : tie.Need-slice-aggregate-prepare-2 Inv-loop μ-loop
-slice-aggregate-prepare-2 c = search filling-table
+slice-aggregate-prepare-2 : tie.Need-slice-aggregate-prepare-2
+slice-aggregate-prepare-2 c = search placing
 
-prepare-requires : tie.Need-prepare-requires Inv-loop μ-loop
-prepare-requires c κs = (search filling-table, (search filling-table, search filling-table))
+slice-aggregate-prepare-3 : tie.Need-slice-aggregate-prepare-3
+slice-aggregate-prepare-3 c = search placing
 
-loop-holds : tie.Need-loop-holds Inv-loop μ-loop
-loop-holds c = search filling-table
+prepare-requires : tie.Need-prepare-requires
+prepare-requires c κs = (search placing, ((search placing, search placing), (search placing, (search placing, search placing))))
 
-read-requires : tie.Need-read-requires Inv-loop μ-loop
-read-requires c κs = search filling-table
+array-share-prefix-points-2 : tie.Need-array-share-prefix-points-2
+array-share-prefix-points-2 c = search placing
 
-slice-aggregate-step : tie.Need-slice-aggregate-step Inv-loop μ-loop
-slice-aggregate-step c = search filling-table
+slice-aggregate-steps : tie.Need-slice-aggregate-steps
+slice-aggregate-steps c = search placing
 
-slice-aggregate-step-2 : tie.Need-slice-aggregate-step-2 Inv-loop μ-loop
-slice-aggregate-step-2 c = search filling-table
+slice-aggregate-steps-2 : tie.Need-slice-aggregate-steps-2
+slice-aggregate-steps-2 c = search placing
 
-step-requires : tie.Need-step-requires Inv-loop μ-loop
-step-requires c κs = (search filling-table, (search filling-table, (search filling-table, (search filling-table, (search filling-table, (search filling-table, search filling-table))))))
+slice-aggregate-steps-3 : tie.Need-slice-aggregate-steps-3
+slice-aggregate-steps-3 c = search placing
 
-taken-at-requires : tie.Need-taken-at-requires Inv-loop μ-loop
-taken-at-requires c κs = search filling-table
+steps-requires : tie.Need-steps-requires
+steps-requires c κs = (search placing, (search placing, (search placing, search placing)))
 
-add-i : tie.Need-add-i Inv-loop μ-loop
-add-i c = search filling-table
+same-length : tie.Need-same-length
+same-length c = search placing
 
-add-at : tie.Need-add-at Inv-loop μ-loop
-add-at c = search filling-table
-
-add-g : tie.Need-add-g Inv-loop μ-loop
-add-g c = search filling-table
-
-loop-less : tie.Need-loop-less Inv-loop μ-loop
-loop-less c = search filling-table
-
-loop-again : tie.Need-loop-again Inv-loop μ-loop
-loop-again c = search filling-table
-
-same-length : tie.Need-same-length Inv-loop μ-loop
-same-length c = search filling-table
-
-returns : tie.Need-returns Inv-loop μ-loop
-returns c = (search filling-table, search filling-table)
+returns : tie.Need-returns
+returns c = (search placing, search placing)
 
 pub fill-spec : {M : Type 1} → statement M
 fill-spec =
     tie.close
     (tie.spec
-    Inv-loop
-    μ-loop
+    points-requires
+    array-share-prefix-points
     slice-aggregate-prepare
     slice-aggregate-prepare-2
+    slice-aggregate-prepare-3
     prepare-requires
-    loop-holds
-    read-requires
-    slice-aggregate-step
-    slice-aggregate-step-2
-    step-requires
-    taken-at-requires
-    add-i
-    add-at
-    add-g
-    loop-less
-    loop-again
+    array-share-prefix-points-2
+    slice-aggregate-steps
+    slice-aggregate-steps-2
+    slice-aggregate-steps-3
+    steps-requires
     same-length
     returns)

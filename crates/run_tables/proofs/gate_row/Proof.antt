@@ -15,7 +15,7 @@ enum-told : tie.Need-enum-told
 enum-told c = search working
 
 input-row-requires : tie.Need-input-row-requires
-input-row-requires c κs = (search working, (search working, (search working, (search working, search working))))
+input-row-requires c κs = (search working, ((search working, search working), (search working, (search working, search working))))
 
 enum-known-gate : tie.Need-enum-known-gate
 enum-known-gate c = search working
@@ -42,7 +42,7 @@ slice-aggregate-multiply-row : tie.Need-slice-aggregate-multiply-row
 slice-aggregate-multiply-row c = search working
 
 multiply-row-requires : tie.Need-multiply-row-requires
-multiply-row-requires c κs = (search working, (search working, (search working, (search working, (search working, (search working, search working))))))
+multiply-row-requires c κs = (search working, (search working, ((search working, search working), (search working, (search working, (search working, (search working, search working)))))))
 
 returns : tie.Need-returns
 returns c = search working

@@ -7,8 +7,6 @@ use reference::run::{run_by_calls, Step};
 use std::hint::black_box;
 use std::time::{Duration, Instant};
 
-const N: u16 = 15;
-const T: usize = 7;
 const P: u16 = 65521;
 
 /// The work's shortest time over several goes, within about a fifth of a second.
@@ -26,15 +24,15 @@ fn time(mut work: impl FnMut()) -> Duration {
     best
 }
 
-/// Fifteen inputs and then only multiplies; one out for each seat.
-fn products(multiplies: usize) -> Vec<u8> {
-    let mut gates: Vec<Gate> = (1..=N).map(Gate::Input).collect();
+/// An input of each of n seats and then only multiplies; one out for each seat.
+fn products(n: u16, t: u8, multiplies: usize) -> Vec<u8> {
+    let mut gates: Vec<Gate> = (1..=n).map(Gate::Input).collect();
     for k in 0..multiplies {
         let g = gates.len();
         gates.push(Gate::Multiply(g - 1, k % g));
     }
-    let outs: Vec<Out> = (1..=N).map(|seat| Out { seat, wire: gates.len() - usize::from(seat) }).collect();
-    plan_file(N as u8, T as u8, P, &gates, &outs)
+    let outs: Vec<Out> = (1..=n).map(|seat| Out { seat, wire: gates.len() - usize::from(seat) }).collect();
+    plan_file(n as u8, t, P, &gates, &outs)
 }
 
 /// A plan with its figures and coins, and what its calls are lent.
@@ -54,9 +52,9 @@ impl Work {
         Work { file, plan, figures, coins }
     }
 
-    /// The bench with the view of seats 1 to 7.
+    /// The bench with the view of seats 1 to t.
     fn bench(&self, with: &Interface) -> Duration {
-        let (set, figures, coins) = (127, bytes(&self.figures), bytes(&self.coins));
+        let (set, figures, coins) = ((1 << self.plan.t) - 1, bytes(&self.figures), bytes(&self.coins));
         let mut view = vec![0; 2 * self.plan.view(set).expect("a set that passes")];
         time(|| {
             let answer = (with.bench)(&self.file, set, &figures, &coins, &mut view);
@@ -79,15 +77,18 @@ impl Work {
         })
     }
 
-    /// The matching for seats 9 to 15, whose outs stand nowhere in the changed plan.
+    /// The matching for the last t seats, whose outs stand nowhere in the changed plan.
     fn matching(&self, with: &Interface) -> Duration {
+        let Plan { n, t, .. } = self.plan;
+        let others = usize::from(n) - t;
         let outs = [Out { seat: 1, wire: self.plan.gates.len() - 1 }];
-        let file = plan_file(N as u8, T as u8, P, &self.plan.gates, &outs);
-        let second: Vec<u16> = (0..).zip(&self.figures).map(|(i, &x)| if i < 8 { P - 1 - x } else { x }).collect();
+        let file = plan_file(n as u8, t as u8, P, &self.plan.gates, &outs);
+        let second: Vec<u16> = (0..).zip(&self.figures).map(|(i, &x)| if i < others { P - 1 - x } else { x }).collect();
+        let set = ((1 << t) - 1) << others;
         let (first, second, coins) = (bytes(&self.figures), bytes(&second), bytes(&self.coins));
         let mut matched = vec![0; coins.len()];
         time(|| {
-            assert_eq!((with.matching)(&file, 0x7f00, &first, &second, &coins, &mut matched), 0);
+            assert_eq!((with.matching)(&file, set, &first, &second, &coins, &mut matched), 0);
             black_box(&matched);
         })
     }
@@ -106,7 +107,7 @@ fn report(name: &str, work: impl Fn(&Interface) -> Duration) {
 
 fn main() {
     println!("library: {}", if LINKED { "libpool.a" } else { "none linked, the reference stands in" });
-    let work = Work::new(products(1000));
+    let work = Work::new(products(15, 7, 1000));
     let mut steps = Vec::new();
     let keep = |step: &Step| {
         if step.seat == 1 {
@@ -114,7 +115,7 @@ fn main() {
         }
     };
     run_by_calls(&work.file, &work.figures, &work.coins, keep).expect("a whole run");
-    let check = products(1009);
+    let check = products(15, 7, 1009);
     let check_plan = |with: &Interface| time(|| (0..100).for_each(|_| assert_eq!((with.plan_check)(&check), 0))) / 100;
 
     report("bench, n=15 t=7, 1,000 multiplies", |with| work.bench(with));
@@ -122,7 +123,12 @@ fn main() {
     report("the matching on it", |with| work.matching(with));
     report("plan check, 1,024 gates", check_plan);
     for multiplies in [125, 250, 500, 1000] {
-        let work = Work::new(products(multiplies));
+        let work = Work::new(products(15, 7, multiplies));
         report(&format!("bench, {multiplies} multiplies"), |with| work.bench(with));
+    }
+    for (n, t) in [(3, 1), (5, 2)] {
+        let work = Work::new(products(n, t, 1000));
+        report(&format!("bench, n={n} t={t}, 1,000 multiplies"), |with| work.bench(with));
+        report("the matching on it", |with| work.matching(with));
     }
 }

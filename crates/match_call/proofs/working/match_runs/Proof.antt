@@ -5,10 +5,10 @@ use Rattle.match_call.proofs.working.match_runs.Statement.{statement}
 use Rattle.match_call.proofs.working.match_runs.Tie as tie
 
 abbrev Inv-loop : tie.InvT-loop
-Inv-loop plan h set delta rows weights first second coins before₀ after₀ out₀ at₀ next₀ g₀ before after out at next g = Matching plan h set delta rows weights first second coins out₀ before after out at next g
+Inv-loop plan h set delta points rows weights first second coins before₀ after₀ out₀ at₀ next₀ g₀ before after out at next g = Matching plan h set delta points rows weights first second coins out₀ before after out at next g
 
 abbrev μ-loop : tie.MeasureT-loop
-μ-loop plan h set delta rows weights first second coins before₀ after₀ out₀ at₀ next₀ g₀ before after out at next g = h .gates - g
+μ-loop plan h set delta points rows weights first second coins before₀ after₀ out₀ at₀ next₀ g₀ before after out at next g = h .gates - g
 
 loop-holds : tie.Need-loop-holds Inv-loop μ-loop
 loop-holds c = search matching-runs
@@ -39,7 +39,7 @@ loop-less c = search matching-runs
 
 loop-again : tie.Need-loop-again Inv-loop μ-loop
 loop-again c =
-    match-next _ _ _ _ _ _ _ _ _ _ _ _ _ _ _ _ (c .before .before .before .before .before .before .before .before .before .before .before .before .before .before .before .before .loop .inv) (search needs) _ _ (search needs) (search needs) _ _ _ _ _ _ (c .before .before .before .before .before .before .before .before .match-step .ensures)
+    match-next _ _ _ _ _ _ _ _ _ _ _ _ _ _ _ _ _ (c .before .before .before .before .before .before .before .before .before .before .before .before .before .before .before .before .loop .inv) (search needs) _ _ (search needs) (search needs) _ _ _ _ _ _ (c .before .before .before .before .before .before .before .before .match-step .ensures)
     (search needs) (search needs) (search needs) (c .before .gate-at .ensures) (c .inputs-taken .ensures .eq) (search needs)
 
 same-length : tie.Need-same-length Inv-loop μ-loop

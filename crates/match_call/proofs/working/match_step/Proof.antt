@@ -6,7 +6,7 @@ match-coins-requires : tie.Need-match-coins-requires
 match-coins-requires c κs = (search matching-step, search matching-step)
 
 step-both-requires : tie.Need-step-both-requires
-step-both-requires c κs = (search matching-step, (search matching-step, (search matching-step, ((search matching-step, search matching-step), (search matching-step, (search matching-step, ((search matching-step, search matching-step), (search matching-step, search matching-step))))))))
+step-both-requires c κs = (search matching-step, ((search matching-step, search matching-step), (search matching-step, (search matching-step, ((search matching-step, search matching-step), (search matching-step, (search matching-step, (search matching-step, search matching-step))))))))
 
 same-length : tie.Need-same-length
 same-length c = search matching-step
