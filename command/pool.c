@@ -13,6 +13,7 @@ static const struct command *const commands[] = {
     &show_command,
     &run_command,
     &match_command,
+    &import_command,
 };
 
 enum { COMMANDS = sizeof commands / sizeof *commands };

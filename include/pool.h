@@ -5,7 +5,7 @@
  * plants) compute a plan together: each puts in figures of its own, and each
  * learns only the results that the plan grants it. This library is one
  * party's part in that. Every function here was proved to answer exactly what
- * document 01 says, for every input, and to end.
+ * documents 01 and 02 say, for every input, and to end.
  *
  * Link target/staticlib/libpool.a. The library keeps no state of its own, takes
  * no memory from the heap, calls no function of the C library but memcpy and
@@ -50,8 +50,9 @@
  * -----
  *
  * A call takes at most so many bytes of its thread's stack: pool_bench
- * POOL_STACK_BENCH, pool_match POOL_STACK_MATCH, every other function
- * POOL_STACK_SEAT. A thread's own start takes some more (PTHREAD_STACK_MIN).
+ * POOL_STACK_BENCH, pool_match POOL_STACK_MATCH, pool_import and
+ * pool_import_size POOL_STACK_IMPORT, every other function POOL_STACK_SEAT. A
+ * thread's own start takes some more (PTHREAD_STACK_MIN).
  */
 #ifndef POOL_H
 #define POOL_H
@@ -67,6 +68,7 @@ extern "C" {
 #define POOL_STACK_SEAT 4096
 #define POOL_STACK_BENCH 131072
 #define POOL_STACK_MATCH 262144
+#define POOL_STACK_IMPORT 81920
 
 /* The refusal's number in an answer, 0 where there is none; and its place. */
 #define POOL_REFUSAL(answer) ((unsigned)((answer) & 0xff))
@@ -98,6 +100,44 @@ static inline const char *pool_refusal_sentence(unsigned number)
  * place. Writes nothing.
  */
 uint64_t pool_plan_check(const uint8_t *plan, size_t plan_len);
+
+/*
+ * The size in bytes of the plan that a circuit makes.
+ *
+ * text, text_len: a circuit in Bristol Fashion, any bytes. Lines end in line
+ *                 feeds, the last one may lack it; fields are parted by
+ *                 blanks, lines with nothing but blanks are skipped, numbers
+ *                 are decimal, at most 65,535 and without leading zeros. The
+ *                 lines: the count of gates, the count of wires; how many
+ *                 input values, each one's wires; the output values likewise;
+ *                 then a line for each gate: how many wires it reads, how many
+ *                 it sets (1), these wires, and XOR, AND (two wires read) or
+ *                 INV (one). Inputs are the first wires, outputs the last;
+ *                 every wire is set once, before it is read.
+ * n, t, p:        the plan's parties, threshold and prime, as they are: 257 is
+ *                 not 1.
+ *
+ * Answers the size as its value; or the first of refusals 23 and 24 and those
+ * of the plan, 3 to 6. The time is linear in the text's length.
+ */
+uint64_t pool_import_size(const uint8_t *text, size_t text_len, uint32_t n,
+    uint32_t t, uint32_t p);
+
+/*
+ * Imports a circuit: writes a plan that computes it.
+ *
+ * text, text_len, n, t, p: as above.
+ * plan, plan_len:          written: the plan file, of exactly its size.
+ *
+ * Input value k, counted from 1, belongs to party k: its figures are the bits
+ * of that value, 0 or 1, in wire order. Party 1 gets the output bits, in wire
+ * order.
+ *
+ * Answers 0 and has written plan, or answers the first of refusals 23 and 24,
+ * those of the plan, 3 to 6, and 19, and has written nothing.
+ */
+uint64_t pool_import(const uint8_t *text, size_t text_len, uint32_t n,
+    uint32_t t, uint32_t p, uint8_t *plan, size_t plan_len);
 
 /*
  * How many calls each party makes: M + 3, numbered 0 to M + 2, with M the

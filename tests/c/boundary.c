@@ -34,12 +34,13 @@ static struct slice lend(const uint8_t *from, size_t len)
 
 static void check(uint64_t answer)
 {
-    if (POOL_REFUSAL(answer) > 22)
+    if (POOL_REFUSAL(answer) > 24)
         failed++;
 }
 
 int main(void)
 {
+    static const char circuit[] = "3 7\n2 2 2\n1 1\n\n2 1 0 2 4 XOR\n2 1 1 3 5 AND\n2 1 4 5 6 XOR\n";
     uint8_t k[64];
     size_t k_len = plan_k(k);
     for (unsigned i = 0; i < CASES; i++) {
@@ -61,6 +62,14 @@ int main(void)
         check(pool_seat_call(s[0].at, s[0].len, seat, s[1].at, s[1].len, s[2].at, s[2].len, s[3].at, s[3].len, s[4].at, s[4].len, s[5].at, s[5].len));
         check(pool_bench(s[0].at, s[0].len, seat, s[1].at, s[1].len, s[2].at, s[2].len, s[3].at, s[3].len));
         check(pool_match(s[0].at, s[0].len, seat, s[1].at, s[1].len, s[2].at, s[2].len, s[4].at, s[4].len, s[5].at, s[5].len));
+        cut = below(4) ? sizeof circuit - 1 : below(sizeof circuit);
+        struct slice text = lend((const uint8_t *)circuit, cut), plan = lend(NULL, below(3) ? 99 : below(120));
+        if (cut && !below(3))
+            text.at[below((unsigned)cut)] = (uint8_t)below(256);
+        check(pool_import_size(text.at, text.len, 3, 1, 11));
+        check(pool_import(text.at, text.len, 3, 1, 11, plan.at, plan.len));
+        free(text.block);
+        free(plan.block);
         for (unsigned j = 0; j < 6; j++)
             free(s[j].block);
     }

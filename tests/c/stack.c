@@ -82,6 +82,22 @@ static uint64_t small(void)
     return refusals;
 }
 
+/* A circuit with as many wires as a text can have, and one that makes a plan. */
+static uint64_t import(void)
+{
+    static char text[2000000];
+    size_t len = (size_t)sprintf(text, "65534 65535\n1 1\n1 1\n");
+    for (unsigned g = 0; g < 65534; g++)
+        len += (size_t)sprintf(text + len, "1 1 %u %u INV\n", g, g + 1);
+    if (POOL_REFUSAL(pool_import_size((uint8_t *)text, len, 3, 1, 11)) != 24)
+        return 99;
+    len = (size_t)sprintf(text, "511 512\n1 1\n1 1\n");
+    for (unsigned g = 0; g < 511; g++)
+        len += (size_t)sprintf(text + len, "1 1 %u %u INV\n", g, g + 1);
+    size_t size = POOL_VALUE(pool_import_size((uint8_t *)text, len, 3, 1, 11));
+    return pool_import((uint8_t *)text, len, 3, 1, 11, buffer, size);
+}
+
 struct job {
     uint64_t (*call)(void);
     uint8_t *floor;
@@ -139,6 +155,7 @@ int main(void)
         on_stack("pool_seat_call, the last call", last_call, POOL_STACK_SEAT);
         on_stack("plan check and sizes", small, POOL_STACK_SEAT);
     }
+    on_stack("pool_import", import, POOL_STACK_IMPORT);
     printf("%d passed, %d failed\n", passed, failed);
     return failed != 0;
 }

@@ -33,6 +33,7 @@ use Rattle.seat_messages.specs.Messages.{sharesOfOut}
 use Rattle.seat_messages.specs.Calls.{nothingFound, openingCheck, partyChecks, callChecks, callAnswer, unlessRefused, stateAfter, outAfter}
 use Rattle.run_bench.specs.BenchCalls.{runChecks, benchAnswer, benchedOf, viewAfter}
 use Rattle.match_agreement.specs.MatchCalls.{inputsAgree, outsAgree, pairChecks, matchAnswer, matchedAfter}
+use Rattle.import_call.specs.Importing.{importFile, textChecks, importChecks, importAnswer, importAfter}
 use Rattle.pool_answers.specs.Sizes.{answerOf}
 use Rattle.demands.specs.Order.{checkingOrder, rankIn, rankOf}
 use Rattle.demands.specs.Demands.{Answers, Demand1}
@@ -128,8 +129,10 @@ first-ranked {ns = n ∷ ms} (Refused s ∷ cs) (c ▹ ns) o r e (suc k) q h =
     rw m (ranked-after n (both-true (before n ms) (ordered ms) o .0) ns k q h)
 
 -- ---- a check's place
-number-range : (r : Refusal) → (1 ≤ numberOf r) × (numberOf r ≤ 22)
+number-range : (r : Refusal) → (1 ≤ numberOf r) × (numberOf r ≤ 24)
 unfolding numberOf
+number-range refusal.CircuitText = (omega arith, omega arith)
+number-range refusal.TooLarge = (omega arith, omega arith)
 number-range refusal.Magic = (omega arith, omega arith)
 number-range refusal.Version = (omega arith, omega arith)
 number-range refusal.Parties = (omega arith, omega arith)
@@ -317,6 +320,14 @@ pair-numbers plan set xs ys coins room =
     ▹ outs-number plan set _ _
     ▹ none
 
+text-numbers : (n t p : ℕ) (text : List ℕ) → Numbers (23 ∷ 24 ∷ planNumbers) (textChecks n t p text)
+unfolding textChecks numberOf
+text-numbers n t p text = need-number refusal.CircuitText _ ▹ need-number refusal.TooLarge _ ▹ plan-numbers (importFile n t p text)
+
+room-number : (ok : Bool) → Numbers (19 ∷ []) (need refusal.BufferLength ok ∷ [])
+unfolding numberOf
+room-number ok = need-number refusal.BufferLength ok ▹ none
+
 plan-bounded : (bs : List ℕ) → Bounded (planChecks bs)
 unfolding planChecks placeOf
 plan-bounded bs =
@@ -335,6 +346,17 @@ plan-bounded bs =
 
     outs-small : Laid bs → Small (unlessFound refusal.OutputRule (firstFailing (outKept bs) (outCountAt bs)))
     outs-small l = found-small refusal.OutputRule _ (λ i. refl) (search-small (outKept bs) (outCountAt bs) (omega (arith, between-true 1 64 (outCountAt bs) (l .outs) .1)))
+
+text-bounded : (n t p : ℕ) (text : List ℕ) → Bounded (textChecks n t p text)
+unfolding textChecks placeOf
+text-bounded n t p text =
+    need-small refusal.CircuitText _ refl
+    ▸ λ e1. need-small refusal.TooLarge _ refl
+    ▸ λ e2. plan-bounded (importFile n t p text)
+
+room-bounded : (ok : Bool) → Bounded (need refusal.BufferLength ok ∷ [])
+unfolding placeOf
+room-bounded ok = need-small refusal.BufferLength ok refl ▸ λ e. Bounded.none
 
 module _ (bs : List ℕ) (passes : planCheck bs ≡ Passed) where
   opening-small : (i k : ℕ) (mail : List ℕ) → Small (openingCheck (planOf bs) i k mail)
@@ -413,7 +435,7 @@ unfolding planCheck
 plan-passed bs rest e = passed-both _ _ (sym (firstOf-append (planChecks bs) rest) ∙ e) .0
 
 pub demand1 : Demand1
-unfolding planCheck callChecks callAnswer benchAnswer matchAnswer stateAfter outAfter viewAfter matchedAfter ordered before rankIn checkingOrder
+unfolding planCheck callChecks callAnswer benchAnswer matchAnswer importChecks importAnswer stateAfter outAfter viewAfter matchedAfter importAfter ordered before rankIn checkingOrder
 demand1 = record {
   plan = λ bs. answers Unit (plan-numbers bs) refl (plan-bounded bs) (λ r e. tt);
   call = λ bs i inputs coins state mail out.
@@ -426,6 +448,8 @@ demand1 = record {
   matching = λ bs set xs ys coins out.
       answers _ (joined (plan-numbers bs) (pair-numbers (planOf bs) set xs ys coins (length out))) refl
       (bounded-joined (plan-bounded bs) (λ e. pair-bounded bs e set xs ys coins (length out))) (λ r e. kept _ r _ out e);
+  import = λ n t p text out.
+      answers _ (joined (text-numbers n t p text) (room-number _)) refl (bounded-joined (text-bounded n t p text) (λ e. room-bounded _)) (λ r e. kept _ r _ out e);
   counted = λ bs set xs coins room e. sent-whole bs _ (plan-passed bs _ e) e;
   uncounted = λ bs set xs coins room r e. sent-none _ _ r e;
 }

@@ -18,6 +18,7 @@ use Rattle.run_views.specs.ViewCounts.{viewCount}
 use Rattle.run_bench.specs.BenchCalls.{runChecks, benchAnswer, benchedOf, viewAfter}
 use Rattle.match_privacy.specs.Matching.{matchedCoins}
 use Rattle.match_agreement.specs.MatchCalls.{pairChecks, matchAnswer, matchedAfter}
+use Rattle.import_call.specs.Importing.{importChecks, importAnswer, importAfter}
 use Rattle.pool_answers.specs.Sizes.{answerOf}
 use Rattle.demands.specs.Order.{rankOf}
 use Rattle.demands.specs.Apart as apart
@@ -58,6 +59,9 @@ pub record Demand1 : Type 0 where
       (bs : List ℕ) (set : ℕ) (xs ys coins out : List ℕ)
       → Answers (planChecks bs ++ pairChecks (planOf bs) set xs ys coins (length out)) (matchAnswer bs set xs ys coins (length out))
       (matchedAfter bs set xs ys coins out ≡ out)
+  pub import :
+      (n t p : ℕ) (text out : List ℕ)
+      → Answers (importChecks n t p text (length out)) (importAnswer n t p text (length out)) (importAfter n t p text out ≡ out)
   -- the bench's answer is the refusal's, which counts no elements, or has the elements sent above its low byte, whole
   pub counted :
       (bs : List ℕ) (set : ℕ) (xs coins : List ℕ) (room : ℕ) → benchAnswer bs set xs coins room ≡ Passed

@@ -6,3 +6,4 @@ pub mod Below
 pub mod Fills
 pub mod Ways
 pub mod Truth
+pub mod Rows

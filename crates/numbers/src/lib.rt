@@ -19,7 +19,7 @@ fn wide(b: u8) -> u64
 }
 
 // The byte at an offset.
-fn byte(s: &[u8], at: usize) -> u64
+pub fn byte(s: &[u8], at: usize) -> u64
     ensures { λ r. ⌜ record { eq : r ≡ getD (now (s .entry)) at 0; lt : r < 256 } ⌝ }
 {
     if at < s.len() {

@@ -17,6 +17,7 @@ use Rattle.numbers.specs.declared.Found.the-variants.{Nothing}
 use Rattle.numbers.proofs.Tables.{length-tab, getD-tab}
 use Rattle.numbers.proofs.Truth.{both-true}
 use Rattle.field.specs.Prime.{isPrime}
+use Rattle.field.specs.Field.{fieldLimit}
 use Rattle.plan.specs.declared.Gate.the-variants.{Input}
 use Rattle.plan.specs.declared.Header.{Header}
 use Rattle.plan.specs.declared.Reading.{Reading}
@@ -26,16 +27,16 @@ use Rattle.plan.specs.declared.Refusal.the-variants as refusal
 use Rattle.plan.specs.declared.Checked.the-variants.{Passed, Refused}
 use Rattle.plan.specs.Refusals.{firstOf}
 use Rattle.plan.specs.Plans.{partyCount, dealerCount}
-use Rattle.plan.specs.File.{nAt, tAt, pAt, gateCountAt, outCountAt, between, gateAt, outAt, gateKept, outKept, layoutOk, planChecks, planCheck, planOf, headerOf}
+use Rattle.plan.specs.File.{nAt, tAt, pAt, gateCountAt, outCountAt, between, partiesOk, thresholdOk, modulusOk, gateAt, outAt, gateKept, outKept, layoutOk, planChecks, planCheck, planOf, headerOf}
 use Rattle.plan.specs.Planned.{Planned, ReadAs}
 use Rattle.plan.proofs.Refusals.{passed-both, passed-need, passed-found}
 use Rattle.plan.proofs.Ways.{check-of-passed, check-of-refused, header-of-passed, read-outcome}
 
 -- ---- the checks of a plan that passes
 pub record Passing (bs : List ℕ) : Type 0 where
-  pub parties : between 1 15 (nAt bs) ≡ true
-  pub threshold : ltb (2 * tAt bs) (nAt bs) ≡ true
-  pub modulus : (isPrime (pAt bs) && ltb (nAt bs) (pAt bs)) ≡ true
+  pub parties : partiesOk (nAt bs) ≡ true
+  pub threshold : thresholdOk (nAt bs) (tAt bs) ≡ true
+  pub modulus : modulusOk (nAt bs) (pAt bs) ≡ true
   pub layout : layoutOk bs ≡ true
   pub gates : firstFailing (gateKept bs) (gateCountAt bs) ≡ Nothing
   pub outs : firstFailing (outKept bs) (outCountAt bs) ≡ Nothing
@@ -61,6 +62,16 @@ passing bs h =
     }
 
 -- ---- its bounds
+module _ (n p : ℕ) (h : modulusOk n p ≡ true) where
+  pub modulus-prime : isPrime p ≡ true
+  modulus-prime = both-true (ltb p fieldLimit) (isPrime p) (both-true (ltb p fieldLimit && isPrime p) (ltb n p) h .0) .1
+
+  pub modulus-small : p < 65536
+  modulus-small = ltb-true p fieldLimit (both-true (ltb p fieldLimit) (isPrime p) (both-true (ltb p fieldLimit && isPrime p) (ltb n p) h .0) .0)
+
+  pub modulus-above : n < p
+  modulus-above = ltb-true n p (both-true (ltb p fieldLimit && isPrime p) (ltb n p) h .1)
+
 pub between-true : (a b x : ℕ) → between a b x ≡ true → (a ≤ x) × (x ≤ b)
 unfolding between
 between-true a b x h = let t = both-true (leb a x) (leb x b) h in (leb-true a x (t .0), leb-true x b (t .1))
@@ -97,7 +108,7 @@ planned bs small h =
       n-low = n .0;
       n-high = n .1;
       majority = ltb-true (2 * tAt bs) (nAt bs) (q .threshold);
-      p-low = ltb-true (nAt bs) (pAt bs) (both-true (isPrime (pAt bs)) (ltb (nAt bs) (pAt bs)) (q .modulus) .1);
+      p-low = modulus-above (nAt bs) (pAt bs) (q .modulus);
       p-high = small;
       gates-low = g .0;
       gates-high = g .1;

@@ -25,7 +25,7 @@ use Rattle.plan.specs.declared.Header.{Header}
 use Rattle.plan.specs.Plans.{Plan, partyCount}
 use Rattle.plan.specs.File.{nAt, tAt, pAt, gateCountAt, outCountAt, gateAt, outAt, gateOk, outOk, gateKept, outKept, planCheck, planOf}
 use Rattle.plan.specs.Planned.{Planned}
-use Rattle.plan.proofs.Planned.{Passing, passing, plan-p, plan-n, plan-gates, plan-gate}
+use Rattle.plan.proofs.Planned.{Passing, passing, modulus-prime, modulus-above, plan-p, plan-n, plan-gates, plan-gate}
 
 pub record Valid (plan : Plan) : Type 0 where
   pub prime : Prime (plan .p)
@@ -42,7 +42,7 @@ module _ (bs : List ℕ) (h : planCheck bs ≡ Passed) where
   checks = passing bs h
 
   above : nAt bs < pAt bs
-  above = ltb-true (nAt bs) (pAt bs) (both-true (isPrime (pAt bs)) (ltb (nAt bs) (pAt bs)) (checks .modulus) .1)
+  above = modulus-above (nAt bs) (pAt bs) (checks .modulus)
 
   points-small : (i : ℕ) → i < nAt bs → suc i < pAt bs
   points-small i l = omega (arith, above)
@@ -60,7 +60,7 @@ module _ (bs : List ℕ) (h : planCheck bs ≡ Passed) where
   unfolding planOf partyCount
   valid =
       record {
-        prime = prime-sound (pAt bs) (subst T (sym (both-true (isPrime (pAt bs)) (ltb (nAt bs) (pAt bs)) (checks .modulus) .0)) tt);
+        prime = prime-sound (pAt bs) (subst T (sym (modulus-prime (nAt bs) (pAt bs) (checks .modulus))) tt);
         majority = rw (length-tab suc (nAt bs)) (omega (arith, ltb-true (2 * tAt bs) (nAt bs) (checks .threshold)));
         distinct = points-distinct (pAt bs) (nAt bs) above;
         nonzero =

@@ -7,7 +7,7 @@ use mathlib.Core.List.{List, [], _∷_}
 use Prim.Native.Nat.{ℕ, _+_, _-_, _*_, _<_, _≤_}
 use native.Mathlib.Omega.{arith}
 use borrow.Author.Needs.{needs}
-use borrow.Author.Tests.{not-true, not-false, lt-ltb, le-ltb, le-leb, lt-leb, eq-eqb, ne-eqb}
+use borrow.Author.Tests.{not-true, not-false, lt-ltb, le-ltb, ltb-true, ltb-false, le-leb, lt-leb, eq-eqb, ne-eqb}
 use mir.Syntax.{w8}
 use mir.Val.{Fits}
 use lib.Dec.{eqb, leb, ltb}
@@ -21,7 +21,7 @@ use Rattle.field.specs.declared.Field.{Field}
 use Rattle.field.specs.declared.Made.{Made}
 use Rattle.field.specs.declared.Made.the-variants as made
 use Rattle.field.specs.Prime.{isPrime}
-use Rattle.field.specs.Field.{madeOf}
+use Rattle.field.specs.Field.{fieldLimit, madeOf}
 use Rattle.plan.specs.declared.Gate.{Gate}
 use Rattle.plan.specs.declared.Gate.the-variants.{Input, Add, Scale, Offset, Multiply}
 use Rattle.plan.specs.declared.Output.{Output}
@@ -34,7 +34,7 @@ use Rattle.plan.specs.declared.Refusal.{Refusal}
 use Rattle.plan.specs.declared.Refusal.the-variants as refusal
 use Rattle.plan.specs.Refusals.{firstOf, andThen, need, unlessFound}
 use Rattle.plan.proofs.Refusals.{andThen-passed, andThen-refused, firstOf-append}
-use Rattle.plan.specs.File.{magic, sameBytes, between, gateAt, outAt, gateOk, outOk, gateKept, outKept, layoutOk, planChecks, planCheck, headerOf, readingOf, outcomeOf, readPlan}
+use Rattle.plan.specs.File.{magic, sameBytes, between, partiesOk, thresholdOk, modulusOk, fieldAbove, gateAt, outAt, gateOk, outOk, gateKept, outKept, layoutOk, planChecks, planCheck, headerOf, readingOf, outcomeOf, readPlan}
 use Rattle.plan.specs.Planned.{ReadAs}
 
 -- ---- small tests
@@ -208,19 +208,19 @@ module _ (s : List ℕ) (t : Bool) (et : t ≡ (leb 18 (length s) && sameBytes (
     unfolding planChecks firstOf andThen need
     contents-version h = rw (← et, ht, ← ev, ne-eqb v 1 h)
 
-    module _ (hv : v ≡ 1) (n : ℕ) (en : n ≡ getD s 5 0) (u : Bool) (eu : u ≡ between 1 15 n) where
+    module _ (hv : v ≡ 1) (n : ℕ) (en : n ≡ getD s 5 0) (u : Bool) (eu : u ≡ partiesOk n) where
       pub contents-parties : u ≡ false → Refused refusal.Parties ≡ firstOf (take 4 (planChecks s))
       unfolding planChecks firstOf andThen need
       contents-parties h = rw (← et, ht, ← ev, eq-eqb v 1 hv, ← en, ← eu, h)
 
-      module _ (hu : u ≡ true) (d : ℕ) (ed : d ≡ getD s 6 0) where
-        pub contents-threshold : n ≤ 2 * d → Refused refusal.Threshold ≡ firstOf (take 4 (planChecks s))
+      module _ (hu : u ≡ true) (d : ℕ) (ed : d ≡ getD s 6 0) (w : Bool) (ew : w ≡ thresholdOk n d) where
+        pub contents-threshold : w ≡ false → Refused refusal.Threshold ≡ firstOf (take 4 (planChecks s))
         unfolding planChecks firstOf andThen need
-        contents-threshold h = rw (← et, ht, ← ev, eq-eqb v 1 hv, ← en, ← eu, hu, ← ed, le-ltb (2 * d) n h)
+        contents-threshold h = rw (← et, ht, ← ev, eq-eqb v 1 hv, ← en, ← eu, hu, ← ed, ← ew, h)
 
-        pub contents-passed : 2 * d < n → Passed ≡ firstOf (take 4 (planChecks s))
+        pub contents-passed : w ≡ true → Passed ≡ firstOf (take 4 (planChecks s))
         unfolding planChecks firstOf andThen need
-        contents-passed h = rw (← et, ht, ← ev, eq-eqb v 1 hv, ← en, ← eu, hu, ← ed, lt-ltb (2 * d) n h)
+        contents-passed h = rw (← et, ht, ← ev, eq-eqb v 1 hv, ← en, ← eu, hu, ← ed, ← ew, h)
 
 pub ruleset contents = (needs, not-true, not-false, contents-magic, contents-version, contents-parties, contents-threshold, contents-passed)
 
@@ -260,45 +260,68 @@ pub reading-refused : (c : Checked) (h : Header) (r : Refusal) → c ≡ Refused
 unfolding readingOf
 reading-refused c h r e = rw e
 
-made-not : (p : ℕ) → p < 65536 → madeOf p ≡ made.Refused → isPrime p ≡ false
-unfolding madeOf
-made-not p l h = pick (isPrime p) (rw (lt-ltb p 65536 l) at h)
+-- the field of a prime above n
+pub threshold-far : (n t : ℕ) → n ≤ t → false ≡ thresholdOk n t
+threshold-far n t l = let m : n ≤ 2 * t = omega arith in rw (le-ltb (2 * t) n m)
+
+pub threshold-near : (n t : ℕ) → t < n → ltb t (n - t) ≡ thresholdOk n t
+threshold-near n t l = pick (ltb t (n - t)) refl
+  where
+    pick : (b : Bool) → ltb t (n - t) ≡ b → b ≡ thresholdOk n t
+    pick true e = let m : 2 * t < n = omega (arith, ltb-true t (n - t) e) in rw (lt-ltb (2 * t) n m)
+    pick false e = let m : n ≤ 2 * t = omega (arith, ltb-false t (n - t) e) in rw (le-ltb (2 * t) n m)
+
+pub above-low : (n p : ℕ) → p ≤ n → made.Refused ≡ fieldAbove n p
+unfolding fieldAbove
+above-low n p l = rw (le-ltb n p l) (pick (ltb p fieldLimit && isPrime p))
+  where
+    pick : (b : Bool) → made.Refused ≡ cond (b && false) (made.Field (record { p = p })) made.Refused
+    pick true = refl
+    pick false = refl
+
+pub above-made : (n p : ℕ) (m : Made) → n < p → m ≡ madeOf p → m ≡ fieldAbove n p
+unfolding fieldAbove madeOf
+above-made n p m l e = rw (lt-ltb n p l) (e ∙ pick (ltb p fieldLimit && isPrime p))
+  where
+    pick : (b : Bool) → cond b (made.Field (record { p = p })) made.Refused ≡ cond (b && true) (made.Field (record { p = p })) made.Refused
+    pick true = refl
+    pick false = refl
+
+pub above-not : (n p : ℕ) → fieldAbove n p ≡ made.Refused → modulusOk n p ≡ false
+unfolding fieldAbove
+above-not n p h = pick (modulusOk n p) h
   where
     pick : (t : Bool) → cond t (made.Field (record { p = p })) made.Refused ≡ made.Refused → t ≡ false
     pick true e = let z : _≡_ {A = ℕ} 0 1 = cc in absurd (omega arith)
     pick false e = refl
 
-made-is : (p : ℕ) (f : Field) → p < 65536 → madeOf p ≡ made.Field f → (isPrime p ≡ true) × (f ≡ record { p = p })
-unfolding madeOf
-made-is p f l h = pick (isPrime p) (rw (lt-ltb p 65536 l) at h)
+pub above-is : (n p : ℕ) (f : Field) → fieldAbove n p ≡ made.Field f → (modulusOk n p ≡ true) × (f ≡ record { p = p })
+unfolding fieldAbove
+above-is n p f h = pick (modulusOk n p) h
   where
     pick : (t : Bool) → cond t (made.Field (record { p = p })) made.Refused ≡ made.Field f → (t ≡ true) × (f ≡ record { p = p })
     pick true e = (refl, (cc))
     pick false e = let z : _≡_ {A = ℕ} 0 1 = cc in absurd (omega arith)
 
 -- refusal 5, and what follows it
-module _ (s : List ℕ) (p : ℕ) (small : p < 65536) (ep : p ≡ wordAt s 8) (m : Made) (em : m ≡ madeOf p) where
+module _ (s : List ℕ) (p : ℕ) (ep : p ≡ wordAt s 8) (n : ℕ) (en : n ≡ getD s 5 0) (m : Made) (em : m ≡ fieldAbove n p) where
   pub reading-no-field : m ≡ made.Refused → reading.Refused refusal.Modulus ≡ readingOf (firstOf (drop 4 (planChecks s))) (headerOf s)
   unfolding planChecks firstOf andThen need readingOf
-  reading-no-field h = rw (← ep, made-not p small (sym em ∙ h))
+  reading-no-field h = rw (← ep, ← en, above-not n p (sym em ∙ h))
 
-  module _ (f : Field) (hf : m ≡ made.Field f) (n : ℕ) (en : n ≡ getD s 5 0) where
-    pub reading-low-prime : p ≤ n → reading.Refused refusal.Modulus ≡ readingOf (firstOf (drop 4 (planChecks s))) (headerOf s)
-    unfolding planChecks firstOf andThen need readingOf
-    reading-low-prime h = rw (← ep, made-is p f small (sym em ∙ hf) .0, ← en, le-ltb n p h)
-
-    prime-passes : n < p → firstOf (drop 4 (planChecks s)) ≡ firstOf (drop 5 (planChecks s))
+  module _ (f : Field) (hf : m ≡ made.Field f) where
+    prime-passes : firstOf (drop 4 (planChecks s)) ≡ firstOf (drop 5 (planChecks s))
     unfolding planChecks firstOf andThen need
-    prime-passes h = rw (← ep, made-is p f small (sym em ∙ hf) .0, ← en, lt-ltb n p h)
+    prime-passes = rw (← ep, ← en, above-is n p f (sym em ∙ hf) .0)
 
     module _ (t g o : ℕ) (et : t ≡ getD s 6 0) (eg : g ≡ wordAt s 12) (eo : o ≡ wordAt s 16) where
       its-header : record { n = n; t = t; field = f; gates = g; outs = o } ≡ headerOf s
       unfolding headerOf
-      its-header = rw (made-is p f small (sym em ∙ hf) .1, ep, en, et, eg, eo)
+      its-header = rw (above-is n p f (sym em ∙ hf) .1, ep, en, et, eg, eo)
 
-      pub reading-on : n < p → (c : Checked) (r : Reading) → c ≡ firstOf (drop 5 (planChecks s)) → r ≡ readingOf c (record { n = n; t = t; field = f; gates = g; outs = o })
+      pub reading-on : (c : Checked) (r : Reading) → c ≡ firstOf (drop 5 (planChecks s)) → r ≡ readingOf c (record { n = n; t = t; field = f; gates = g; outs = o })
           → r ≡ readingOf (firstOf (drop 4 (planChecks s))) (headerOf s)
-      reading-on h c r ec er = er ∙ rw (prime-passes h, ec, its-header)
+      reading-on c r ec er = er ∙ rw (prime-passes, ec, its-header)
 
 -- the four before
 module _ (s : List ℕ) (c : Checked) (ec : c ≡ firstOf (take 4 (planChecks s))) where
@@ -355,4 +378,4 @@ pub header-of-passed : (s : List ℕ) (h : Header) → readPlan s ≡ reading.Pa
 unfolding readPlan
 header-of-passed s h e = of-passed (planCheck s) (headerOf s) h e .1
 
-pub ruleset reads = (needs, reading-passed, reading-refused, reading-no-field, reading-low-prime, reading-on, read-contents, read-further, outcome-passed, outcome-refused, read-outcome)
+pub ruleset reads = (needs, reading-passed, reading-refused, threshold-far, threshold-near, above-low, above-made, reading-no-field, reading-on, read-contents, read-further, outcome-passed, outcome-refused, read-outcome)

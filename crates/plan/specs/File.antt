@@ -6,7 +6,10 @@ use lib.Dec.{eqb, leb, ltb}
 use lib.ListN.{length, take, getD}
 use Rattle.numbers.specs.Tables.{tab, firstFailing}
 use Rattle.numbers.specs.Bytes.{wordAt}
+use Rattle.field.specs.declared.Made.{Made}
+use Rattle.field.specs.declared.Made.the-variants as made
 use Rattle.field.specs.Prime.{isPrime}
+use Rattle.field.specs.Field.{fieldLimit}
 use Rattle.plan.specs.declared.Gate.{Gate}
 use Rattle.plan.specs.declared.Gate.the-variants.{Input, Add, Scale, Offset, Multiply}
 use Rattle.plan.specs.declared.Output.{Output}
@@ -100,14 +103,29 @@ layoutOk bs =
     && (between 1 64 (outCountAt bs)
     && eqb (length bs) (18 + 6 * gateCountAt bs + 3 * outCountAt bs)))))
 
+-- refusals 3 to 5, by n, t and p
+abbrev pub partiesOk : ℕ → Bool
+partiesOk n = between 1 15 n
+
+abbrev pub thresholdOk : ℕ → ℕ → Bool
+thresholdOk n t = ltb (2 * t) n
+
+-- a prime above n; on bytes p is below the limit
+abbrev pub modulusOk : ℕ → ℕ → Bool
+modulusOk n p = (ltb p fieldLimit && isPrime p) && ltb n p
+
+-- the field of such a prime
+unfoldable pub fieldAbove : ℕ → ℕ → Made
+fieldAbove n p = cond (modulusOk n p) (made.Field (record { p = p })) made.Refused
+
 -- refusals 1 to 8
 unfoldable pub planChecks : List ℕ → List Checked
 planChecks bs =
     need refusal.Magic (leb 18 (length bs) && sameBytes (take 4 bs) magic)
     ∷ need refusal.Version (eqb (getD bs 4 0) 1)
-    ∷ need refusal.Parties (between 1 15 (nAt bs))
-    ∷ need refusal.Threshold (ltb (2 * tAt bs) (nAt bs))
-    ∷ need refusal.Modulus (isPrime (pAt bs) && ltb (nAt bs) (pAt bs))
+    ∷ need refusal.Parties (partiesOk (nAt bs))
+    ∷ need refusal.Threshold (thresholdOk (nAt bs) (tAt bs))
+    ∷ need refusal.Modulus (modulusOk (nAt bs) (pAt bs))
     ∷ need refusal.Layout (layoutOk bs)
     ∷ unlessFound refusal.GateRule (firstFailing (gateKept bs) (gateCountAt bs))
     ∷ unlessFound refusal.OutputRule (firstFailing (outKept bs) (outCountAt bs))

@@ -1,4 +1,4 @@
--- Refusals (document 01, "The refusals, in checking order"): a call's checks are one list, and its answer is the first that does not hold.
+-- Refusals (document 01, "The refusals, in checking order"; document 02): a call's checks are one list, and its answer is the first that does not hold.
 use Prim.Native.Nat.{ℕ, _+_, _*_, _%_}
 use mathlib.Core.Bool.{Bool, cond}
 use mathlib.Core.List.{List, [], _∷_}
@@ -11,6 +11,8 @@ use Rattle.plan.specs.declared.Checked.the-variants.{Passed, Refused}
 
 -- a refusal's number
 unfoldable pub numberOf : Refusal → ℕ
+numberOf refusal.CircuitText = 23
+numberOf refusal.TooLarge = 24
 numberOf refusal.Magic = 1
 numberOf refusal.Version = 2
 numberOf refusal.Parties = 3
@@ -36,6 +38,8 @@ numberOf (refusal.OutputsDiffer o) = 22
 
 -- a refusal's place, 0 unless named
 unfoldable pub placeOf : Refusal → ℕ
+placeOf refusal.CircuitText = 0
+placeOf refusal.TooLarge = 0
 placeOf refusal.Magic = 0
 placeOf refusal.Version = 0
 placeOf refusal.Parties = 0

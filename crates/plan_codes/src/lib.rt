@@ -1,15 +1,17 @@
-// Refusals as document 01 numbers them, and the answer of a C call.
+// Refusals as documents 01 and 02 number them, and the answer of a C call.
 use plan::Checked;
 use plan::Refusal;
 ghost use mathlib.Core.Path.{_≡_};
 ghost use Prim.Native.Nat.{_≤_, _+_, _*_};
 ghost use Rattle.plan.specs.Refusals.{numberOf, placeOf, codeOf};
 
-// A refusal's number in document 01.
+// A refusal's number in documents 01 and 02.
 pub fn number(r: Refusal) -> u64
-    ensures { λ k. ⌜ record { eq : k ≡ numberOf r; le : k ≤ 22 } ⌝ }
+    ensures { λ k. ⌜ record { eq : k ≡ numberOf r; le : k ≤ 24 } ⌝ }
 {
     match r {
+        Refusal::CircuitText => 23,
+        Refusal::TooLarge => 24,
         Refusal::Magic => 1,
         Refusal::Version => 2,
         Refusal::Parties => 3,
@@ -40,6 +42,8 @@ pub fn place(r: Refusal) -> u64
     ensures { λ k. ⌜ k ≡ placeOf r ⌝ }
 {
     match r {
+        Refusal::CircuitText => 0,
+        Refusal::TooLarge => 0,
         Refusal::Magic => 0,
         Refusal::Version => 0,
         Refusal::Parties => 0,

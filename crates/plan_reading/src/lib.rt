@@ -5,6 +5,7 @@ use numbers::Found;
 use plan::Checked;
 use plan::Gate;
 use plan::Header;
+use plan::MAGIC;
 use plan::Output;
 use plan::Reading;
 use plan::Refusal;
@@ -16,12 +17,10 @@ ghost use lib.ListN.{length, take, drop};
 ghost use Rattle.numbers.specs.Bytes.{wordAt};
 ghost use Rattle.numbers.specs.Tables.{firstFailing};
 ghost use Rattle.plan.specs.Refusals.{firstOf};
-ghost use Rattle.plan.specs.File.{magic, sameBytes, between, gateOk, outOk, gateCountAt, outCountAt, gateKept, outKept, layoutOk, planChecks, planCheck, headerOf, readingOf, outcomeOf};
+ghost use Rattle.plan.specs.File.{magic, sameBytes, between, partiesOk, thresholdOk, fieldAbove, gateOk, outOk, gateCountAt, outCountAt, gateKept, outKept, layoutOk, planChecks, planCheck, headerOf, readingOf, outcomeOf};
 ghost use Rattle.plan.specs.Planned.{ReadAs};
 
-const MAGIC: [u8; 4] = *b"POOL";
-
-fn is_between(low: usize, high: usize, x: usize) -> bool
+pub fn is_between(low: usize, high: usize, x: usize) -> bool
     ensures { λ r. ⌜ r ≡ between low high x ⌝ }
 {
     if x < low {
@@ -97,6 +96,33 @@ fn first_bad_out(plan: &[u8]) -> Found
     Found::Nothing
 }
 
+// ---- refusals 3 to 5, by n, t and p
+
+pub fn parties_ok(n: usize) -> bool
+    ensures { λ r. ⌜ r ≡ partiesOk n ⌝ }
+{
+    is_between(1, 15, n)
+}
+
+pub fn threshold_ok(n: usize, t: usize) -> bool
+    ensures { λ r. ⌜ r ≡ thresholdOk n t ⌝ }
+{
+    if n <= t {
+        return false;
+    }
+    t < n - t
+}
+
+// The field of a prime above n.
+pub fn field_above(n: usize, p: u32) -> Made
+    ensures { λ r. ⌜ r ≡ fieldAbove n p ⌝ }
+{
+    if p as usize <= n {
+        return Made::Refused;
+    }
+    Field::new(p)
+}
+
 // ---- reading a plan
 
 // Whether a plan has room for its contents and begins with the letters POOL.
@@ -161,10 +187,10 @@ fn check_contents(plan: &[u8]) -> Checked
         return Checked::Refused(Refusal::Version);
     }
     let n = plan::byte(plan, 5);
-    if !is_between(1, 15, n) {
+    if !parties_ok(n) {
         return Checked::Refused(Refusal::Parties);
     }
-    if n <= 2 * plan::byte(plan, 6) {
+    if !threshold_ok(n, plan::byte(plan, 6)) {
         return Checked::Refused(Refusal::Threshold);
     }
     Checked::Passed
@@ -199,14 +225,11 @@ fn reading_of(c: Checked, h: Header) -> Reading
 fn read_on(plan: &[u8]) -> Reading
     ensures { λ r. ⌜ r ≡ readingOf (firstOf (drop 4 (planChecks (now (plan .entry))))) (headerOf (now (plan .entry))) ⌝ }
 {
+    let n = plan::byte(plan, 5);
     let p = plan::word(plan, 8);
-    let Made::Field(field) = Field::new(p as u32) else {
+    let Made::Field(field) = field_above(n, p as u32) else {
         return Reading::Refused(Refusal::Modulus);
     };
-    let n = plan::byte(plan, 5);
-    if p <= n {
-        return Reading::Refused(Refusal::Modulus);
-    }
     let h = Header {
         n,
         t: plan::byte(plan, 6),

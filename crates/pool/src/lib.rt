@@ -1,4 +1,5 @@
 // The C interface: include/pool.h is its manual.
+use import_call::Measured;
 use plan::Checked;
 use plan::Reading;
 use plan::Refusal;
@@ -11,7 +12,8 @@ ghost use Rattle.plan.specs.Plans.{sentCount};
 ghost use Rattle.seat_messages.specs.Calls.{callAnswer, stateAfter, outAfter};
 ghost use Rattle.run_bench.specs.BenchCalls.{benchAnswer, benchedOf, viewAfter};
 ghost use Rattle.match_agreement.specs.MatchCalls.{matchAnswer, matchedAfter};
-ghost use Rattle.pool_answers.specs.Sizes.{seatSize, callCount, runSize, answerOf};
+ghost use Rattle.import_call.specs.Importing.{importAnswer, importAfter};
+ghost use Rattle.pool_answers.specs.Sizes.{seatSize, callCount, runSize, importSize, answerOf};
 
 // Checks a plan: refusals 1 to 8.
 #[no_mangle]
@@ -114,4 +116,25 @@ pub extern "C" fn pool_match(
     ensures matched { λ _. ⌜ now (matched .exit) ≡ matchedAfter (now (plan .entry)) set (now (first .entry)) (now (second .entry)) (now (coins .entry)) (now (matched .entry)) ⌝ }
 {
     plan_codes::code(match_call::pair(plan, set, first, second, coins, matched))
+}
+
+// The bytes of the plan that a circuit's text makes: refusals 23, 24 and 1 to 8.
+#[no_mangle]
+pub extern "C" fn pool_import_size(text: &[u8], n: u32, t: u32, p: u32) -> u64
+    ensures { λ r. ⌜ r ≡ importSize n t p (now (text .entry)) ⌝ }
+{
+    let m = import_call::measure_text(text, n, t, p);
+    let Measured::Counts(gates, outs) = m else {
+        return plan_codes::code(import_call::refusal(m));
+    };
+    pool_answers::value(plan_file::file_size(gates, outs))
+}
+
+// A circuit in Bristol Fashion imported into a plan: refusals 23, 24, 1 to 8 and 19.
+#[no_mangle]
+pub extern "C" fn pool_import(text: &[u8], n: u32, t: u32, p: u32, plan: &mut [u8]) -> u64
+    ensures answer { λ r. ⌜ r ≡ codeOf (importAnswer n t p (now (text .entry)) (length (now (plan .entry)))) ⌝ }
+    ensures plan { λ _. ⌜ now (plan .exit) ≡ importAfter n t p (now (text .entry)) (now (plan .entry)) ⌝ }
+{
+    plan_codes::code(import_call::import_plan(text, n, t, p, plan))
 }

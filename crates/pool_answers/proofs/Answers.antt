@@ -28,10 +28,16 @@ use Rattle.plan.proofs.Refusals.{firstOf-append, andThen-passed, andThen-refuse
 use Rattle.plan.proofs.Planned.{planned-read, refused-read, plan-t, plan-n, plan-gates}
 use Rattle.plan.proofs.Ways.{read-outcome}
 use Rattle.plan_coalition.proofs.Coalitions.{set-ok}
+use Rattle.plan_file.specs.Bodies.{fileSize}
+use Rattle.import_call.specs.declared.Measured.{Measured}
+use Rattle.import_call.specs.declared.Measured.the-variants as measured
+use Rattle.import_call.specs.Importing.{importFile, textChecks, refusalOf}
+use Rattle.import_call.specs.Measures.{MeasuredAs}
+use Rattle.import_call.proofs.Calls.{told, refused, passed, gates-small, outs-small, file-size}
 use Rattle.run_bench.specs.declared.Benched.{Benched}
 use Rattle.run_bench.specs.declared.Benched.the-variants as benched
 use Rattle.run_views.specs.ViewCounts.{viewCount}
-use Rattle.pool_answers.specs.Sizes.{valueOf, mailOfCall, writtenByCall, seatCount, seatSize, callCount, runCount, runSize, answerOf}
+use Rattle.pool_answers.specs.Sizes.{valueOf, mailOfCall, writtenByCall, seatCount, seatSize, callCount, runCount, runSize, importSize, answerOf}
 
 pub code-answered : (a c : Checked) (r : ℕ) → c ≡ a → r ≡ codeOf c → r ≡ codeOf a
 code-answered a c r e f = f ∙ ap codeOf e
@@ -208,6 +214,20 @@ pub all-other : (plan : Plan) (set what : ℕ) → (what ≡ 0 → ⊥) → (wha
 unfolding runCount
 all-other plan set what a b c = rw (ne-eqb what 0 a, ne-eqb what 1 b, ne-eqb what 2 c) refl
 
+-- ---- the size of an imported plan
+module _ (text : List ℕ) (n t p : ℕ) (m : Measured) (h : MeasuredAs text n t p m) (k : ℕ) where
+  pub import-size-refused : (r : Refusal) (c : Checked) → m ≡ measured.Refused r → c ≡ refusalOf m → k ≡ codeOf c → k ≡ importSize n t p text
+  unfolding importSize
+  import-size-refused r c q e f =
+      let first : firstOf (textChecks n t p text) ≡ Refused r = sym (told text n t p m h) ∙ refused text n t p m h r q in
+      f ∙ ap codeOf (e ∙ told text n t p m h) ∙ sym (value-refused (firstOf (textChecks n t p text)) r (length (importFile n t p text)) first)
+
+  pub import-sized : (gates outs size : ℕ) → m ≡ measured.Counts gates outs → size ≡ fileSize gates outs → k ≡ 256 * size → k ≡ importSize n t p text
+  unfolding importSize
+  import-sized gates outs size q e f =
+      let first : firstOf (textChecks n t p text) ≡ Passed = sym (told text n t p m h) ∙ passed text n t p m h gates outs q in
+      f ∙ ap (λ (s : ℕ). 256 * s) (e ∙ sym (file-size text n t p m h gates outs q)) ∙ sym (value-passed (firstOf (textChecks n t p text)) (length (importFile n t p text)) first)
+
 -- ---- the bench
 pub sent-value : (b : Benched) (n k : ℕ) → b ≡ benched.Sent n → k ≡ 256 * (n % 4294967296) → k ≡ answerOf b
 unfolding answerOf
@@ -227,6 +247,6 @@ pub count-other : (plan : Plan) (i call what : ℕ) → (what ≡ 0 → ⊥) →
 unfolding seatCount
 count-other plan i call what a b c d e = rw (ne-eqb what 0 a, ne-eqb what 1 b, ne-eqb what 2 c, ne-eqb what 3 d, ne-eqb what 4 e) refl
 
-pub ruleset answering = (needs, code-answered, seat-plan-refused, calls-refused, read-planned, seat-below, seat-above, seat-sized, calls-counted, run-plan-refused, set-refused, run-sized, sent-value, sent-refused, small-rest, bench-answered)
+pub ruleset answering = (needs, code-answered, seat-plan-refused, calls-refused, read-planned, seat-below, seat-above, seat-sized, calls-counted, run-plan-refused, set-refused, run-sized, import-size-refused, import-sized, gates-small, outs-small, sent-value, sent-refused, small-rest, bench-answered)
 
 pub ruleset counting = (needs, mail-there, mail-none, written-there, written-none, own-coins-fit, own-coins-le, own-coins-eq, state-count, count-0, count-1, count-3, count-4, count-other, coins-fit, coins-le, coins-eq, all-0, all-1, all-2, all-other)

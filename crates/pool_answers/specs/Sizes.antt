@@ -12,6 +12,7 @@ use Rattle.plan.specs.Plans.{Plan, partyCount, multiplies, inputCount, coinCoun
 use Rattle.plan.specs.File.{between, planChecks, planCheck, planOf}
 use Rattle.plan_coalition.specs.Coalitions.{members, setOk}
 use Rattle.run_views.specs.ViewCounts.{viewCount}
+use Rattle.import_call.specs.Importing.{importFile, textChecks}
 use Rattle.run_bench.specs.declared.Benched.{Benched}
 use Rattle.run_bench.specs.declared.Benched.the-variants as benched
 
@@ -55,6 +56,10 @@ runSize bs set what =
 -- how many calls each party makes: 0 to M + 2
 unfoldable pub callCount : List ℕ → ℕ
 callCount bs = valueOf (planCheck bs) (multiplies (planOf bs) + 3)
+
+-- the bytes of the plan that a circuit's text makes
+unfoldable pub importSize : ℕ → ℕ → ℕ → List ℕ → ℕ
+importSize n t p text = valueOf (firstOf (textChecks n t p text)) (length (importFile n t p text))
 
 -- what the bench answers: the elements sent as its value, in bits 8 to 39 (they are at most 231,360), or the refusal's code
 unfoldable pub answerOf : Benched → ℕ

@@ -1,9 +1,10 @@
-//! The pooling seat, written a second time from document 01 alone.
+//! The pooling seat, written a second time from documents 01 and 02 alone.
 //!
 //! A plan names `n` seats, a threshold `t` and a prime `p`, and a circuit of gates. Each seat works the gates on
 //! Shamir shares; a product is dealt anew by seats 1 to 2t+1 to bring its degree back to `t`.
 
 pub mod field;
+pub mod import;
 pub mod library;
 pub mod matching;
 pub mod plan;
@@ -11,3 +12,4 @@ pub mod program;
 pub mod random;
 pub mod run;
 pub mod seat;
+pub mod texts;

@@ -1,5 +1,6 @@
 //! The C interface: the product's library, and the reference in the same form.
 
+use crate::import::{import, import_file};
 use crate::matching::matching;
 use crate::plan::{plan_check, refuse, Plan, Refusal};
 use crate::run::bench;
@@ -15,6 +16,8 @@ pub struct Interface {
     pub matching: fn(&[u8], u16, &[u8], &[u8], &[u8], &mut [u8]) -> u64,
     pub seat_size: fn(&[u8], u16, u16, u16) -> u64,
     pub run_size: fn(&[u8], u16, u16) -> u64,
+    pub import: fn(&[u8], u32, u32, u32, &mut [u8]) -> u64,
+    pub import_size: fn(&[u8], u32, u32, u32) -> u64,
 }
 
 /// An answer's 64 bits.
@@ -64,6 +67,8 @@ pub const REFERENCE: Interface = Interface {
     },
     seat_size: |plan, seat, call, what| answer(seat_size(plan, seat, call, what)),
     run_size: |plan, set, what| answer(run_size(plan, set, what)),
+    import: |text, n, t, p, plan| answer(import(text, n, t, p, plan).map(|_| 0)),
+    import_size: |text, n, t, p| answer(import_file(text, n, t, p).map(|file| file.len())),
 };
 
 /// The product's static library.
@@ -114,6 +119,16 @@ pub const LIBRARY: Interface = {
             ) -> u64;
             pub fn pool_seat_size(plan: Bytes, plan_len: usize, seat: u16, call: u16, what: u16) -> u64;
             pub fn pool_run_size(plan: Bytes, plan_len: usize, set: u16, what: u16) -> u64;
+            pub fn pool_import(
+                text: Bytes,
+                text_len: usize,
+                n: u32,
+                t: u32,
+                p: u32,
+                plan: *mut u8,
+                plan_len: usize,
+            ) -> u64;
+            pub fn pool_import_size(text: Bytes, text_len: usize, n: u32, t: u32, p: u32) -> u64;
         }
     }
     Interface {
@@ -165,6 +180,10 @@ pub const LIBRARY: Interface = {
         },
         seat_size: |plan, seat, call, what| unsafe { c::pool_seat_size(plan.as_ptr(), plan.len(), seat, call, what) },
         run_size: |plan, set, what| unsafe { c::pool_run_size(plan.as_ptr(), plan.len(), set, what) },
+        import: |text, n, t, p, plan| unsafe {
+            c::pool_import(text.as_ptr(), text.len(), n, t, p, plan.as_mut_ptr(), plan.len())
+        },
+        import_size: |text, n, t, p| unsafe { c::pool_import_size(text.as_ptr(), text.len(), n, t, p) },
     }
 };
 

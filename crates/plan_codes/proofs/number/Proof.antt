@@ -69,6 +69,12 @@ enum-told-21 c = search coding
 enum-told-22 : tie.Need-enum-told-22
 enum-told-22 c = search coding
 
+enum-told-23 : tie.Need-enum-told-23
+enum-told-23 c = search coding
+
+enum-told-24 : tie.Need-enum-told-24
+enum-told-24 c = search coding
+
 returns : tie.Need-returns
 unfolding numberOf
 returns c = search coding
@@ -157,6 +163,14 @@ returns-22 : tie.Need-returns-22
 unfolding numberOf
 returns-22 c = search coding
 
+returns-23 : tie.Need-returns-23
+unfolding numberOf
+returns-23 c = search coding
+
+returns-24 : tie.Need-returns-24
+unfolding numberOf
+returns-24 c = search coding
+
 pub number-spec : {M : Type 1} → statement M
 number-spec =
     tie.close
@@ -183,6 +197,8 @@ number-spec =
     enum-told-20
     enum-told-21
     enum-told-22
+    enum-told-23
+    enum-told-24
     returns
     returns-2
     returns-3
@@ -204,4 +220,6 @@ number-spec =
     returns-19
     returns-20
     returns-21
-    returns-22)
+    returns-22
+    returns-23
+    returns-24)

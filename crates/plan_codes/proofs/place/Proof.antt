@@ -21,32 +21,32 @@ enum-told-5 c = search coding
 enum-told-6 : tie.Need-enum-told-6
 enum-told-6 c = search coding
 
-enum-known-r : tie.Need-enum-known-r
-enum-known-r c = search coding
-
-enum-known-r-2 : tie.Need-enum-known-r-2
-enum-known-r-2 c = search coding
-
 enum-told-7 : tie.Need-enum-told-7
 enum-told-7 c = search coding
 
 enum-told-8 : tie.Need-enum-told-8
 enum-told-8 c = search coding
 
-enum-known-r-3 : tie.Need-enum-known-r-3
-enum-known-r-3 c = search coding
+enum-known-r : tie.Need-enum-known-r
+enum-known-r c = search coding
+
+enum-known-r-2 : tie.Need-enum-known-r-2
+enum-known-r-2 c = search coding
 
 enum-told-9 : tie.Need-enum-told-9
 enum-told-9 c = search coding
 
-enum-known-r-4 : tie.Need-enum-known-r-4
-enum-known-r-4 c = search coding
-
 enum-told-10 : tie.Need-enum-told-10
 enum-told-10 c = search coding
 
+enum-known-r-3 : tie.Need-enum-known-r-3
+enum-known-r-3 c = search coding
+
 enum-told-11 : tie.Need-enum-told-11
 enum-told-11 c = search coding
+
+enum-known-r-4 : tie.Need-enum-known-r-4
+enum-known-r-4 c = search coding
 
 enum-told-12 : tie.Need-enum-told-12
 enum-told-12 c = search coding
@@ -54,11 +54,17 @@ enum-told-12 c = search coding
 enum-told-13 : tie.Need-enum-told-13
 enum-told-13 c = search coding
 
+enum-told-14 : tie.Need-enum-told-14
+enum-told-14 c = search coding
+
+enum-told-15 : tie.Need-enum-told-15
+enum-told-15 c = search coding
+
 enum-known-r-5 : tie.Need-enum-known-r-5
 enum-known-r-5 c = search coding
 
-enum-told-14 : tie.Need-enum-told-14
-enum-told-14 c = search coding
+enum-told-16 : tie.Need-enum-told-16
+enum-told-16 c = search coding
 
 enum-known-r-6 : tie.Need-enum-known-r-6
 enum-known-r-6 c = search coding
@@ -157,6 +163,14 @@ returns-22 : tie.Need-returns-22
 unfolding placeOf
 returns-22 c = search coding
 
+returns-23 : tie.Need-returns-23
+unfolding placeOf
+returns-23 c = search coding
+
+returns-24 : tie.Need-returns-24
+unfolding placeOf
+returns-24 c = search coding
+
 pub place-spec : {M : Type 1} → statement M
 place-spec =
     tie.close
@@ -167,19 +181,21 @@ place-spec =
     enum-told-4
     enum-told-5
     enum-told-6
-    enum-known-r
-    enum-known-r-2
     enum-told-7
     enum-told-8
-    enum-known-r-3
+    enum-known-r
+    enum-known-r-2
     enum-told-9
-    enum-known-r-4
     enum-told-10
+    enum-known-r-3
     enum-told-11
+    enum-known-r-4
     enum-told-12
     enum-told-13
-    enum-known-r-5
     enum-told-14
+    enum-told-15
+    enum-known-r-5
+    enum-told-16
     enum-known-r-6
     enum-known-r-7
     enum-known-r-8
@@ -204,4 +220,6 @@ place-spec =
     returns-19
     returns-20
     returns-21
-    returns-22)
+    returns-22
+    returns-23
+    returns-24)

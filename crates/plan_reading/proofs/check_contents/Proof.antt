@@ -17,8 +17,8 @@ returns-2 c = search contents
 byte-requires-2 : tie.Need-byte-requires-2
 byte-requires-2 c κs = search contents
 
-is-between-requires : tie.Need-is-between-requires
-is-between-requires c κs = search contents
+parties-ok-requires : tie.Need-parties-ok-requires
+parties-ok-requires c κs = search contents
 
 returns-3 : tie.Need-returns-3
 returns-3 c = search contents
@@ -26,8 +26,8 @@ returns-3 c = search contents
 byte-requires-3 : tie.Need-byte-requires-3
 byte-requires-3 c κs = search contents
 
-mul-if4 : tie.Need-mul-if4
-mul-if4 c = search contents
+threshold-ok-requires : tie.Need-threshold-ok-requires
+threshold-ok-requires c κs = search contents
 
 returns-4 : tie.Need-returns-4
 returns-4 c = search contents
@@ -44,9 +44,9 @@ check-contents-spec =
     byte-requires
     returns-2
     byte-requires-2
-    is-between-requires
+    parties-ok-requires
     returns-3
     byte-requires-3
-    mul-if4
+    threshold-ok-requires
     returns-4
     returns-5)

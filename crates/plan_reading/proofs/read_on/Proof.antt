@@ -2,14 +2,17 @@ use Rattle.plan.proofs.Ways.{reads}
 use Rattle.plan_reading.proofs.read_on.Statement.{statement}
 use Rattle.plan_reading.proofs.read_on.Tie as tie
 
+byte-requires : tie.Need-byte-requires
+byte-requires c κs = search reads
+
 word-requires : tie.Need-word-requires
 word-requires c κs = search reads
 
-cast-new : tie.Need-cast-new
-cast-new c = search reads
+cast-field-above : tie.Need-cast-field-above
+cast-field-above c = search reads
 
-new-requires : tie.Need-new-requires
-new-requires c κs = search reads
+field-above-requires : tie.Need-field-above-requires
+field-above-requires c κs = search reads
 
 enum-known-field : tie.Need-enum-known-field
 enum-known-field c = search reads
@@ -19,12 +22,6 @@ enum-told c = search reads
 
 returns : tie.Need-returns
 returns c = search reads
-
-byte-requires : tie.Need-byte-requires
-byte-requires c κs = search reads
-
-returns-2 : tie.Need-returns-2
-returns-2 c = search reads
 
 byte-requires-2 : tie.Need-byte-requires-2
 byte-requires-2 c κs = search reads
@@ -41,24 +38,23 @@ check-body-requires c κs = search reads
 reading-of-requires : tie.Need-reading-of-requires
 reading-of-requires c κs = search reads
 
-returns-3 : tie.Need-returns-3
-returns-3 c = search reads
+returns-2 : tie.Need-returns-2
+returns-2 c = search reads
 
 pub read-on-spec : {M : Type 1} → statement M
 read-on-spec =
     tie.close
     (tie.spec
+    byte-requires
     word-requires
-    cast-new
-    new-requires
+    cast-field-above
+    field-above-requires
     enum-known-field
     enum-told
     returns
-    byte-requires
-    returns-2
     byte-requires-2
     word-requires-2
     word-requires-3
     check-body-requires
     reading-of-requires
-    returns-3)
+    returns-2)

@@ -10,6 +10,7 @@ use reference::plan::{bytes, number, plan_file, Gate, Out, Plan};
 use reference::program::program;
 use reference::random::{self, Random};
 use reference::run::{ideal, run_by_calls, Step};
+use reference::texts::{self, Text};
 use std::fmt::Write as _;
 use std::io::Write as _;
 use std::process::{Command, ExitCode, Stdio};
@@ -24,9 +25,17 @@ enum Case {
     Match { plan: Vec<u8>, set: u16, first: Vec<u8>, second: Vec<u8>, coins: Vec<u8>, matched: Vec<u8> },
     SeatSize { plan: Vec<u8>, seat: u16, call: u16, what: u16 },
     RunSize { plan: Vec<u8>, set: u16, what: u16 },
+    Import { text: Vec<u8>, sizes: [u32; 3], plan: Vec<u8> },
+    ImportSize { text: Vec<u8>, sizes: [u32; 3] },
 }
 
-const NAMES: [&str; 6] = ["plan check", "seat call", "bench", "matching", "seat size", "run size"];
+/// Kinds of calls; the refusals and none; how often an import must meet 23, and 24.
+const KINDS: usize = 8;
+const NUMBERS: usize = 25;
+const TEXTS_MET: usize = 500;
+
+const NAMES: [&str; KINDS] =
+    ["plan check", "seat call", "bench", "matching", "seat size", "run size", "import", "import size"];
 
 /// A lent buffer between two odd stretches of guard bytes.
 struct Lent(Vec<u8>);
@@ -53,6 +62,8 @@ impl Case {
             Case::Match { .. } => 3,
             Case::SeatSize { .. } => 4,
             Case::RunSize { .. } => 5,
+            Case::Import { .. } => 6,
+            Case::ImportSize { .. } => 7,
         }
     }
 
@@ -60,6 +71,7 @@ impl Case {
         match self {
             Case::Check { plan } | Case::Call { plan, .. } | Case::Bench { plan, .. } => plan,
             Case::Match { plan, .. } | Case::SeatSize { plan, .. } | Case::RunSize { plan, .. } => plan,
+            Case::Import { .. } | Case::ImportSize { .. } => unreachable!("a text is no plan"),
         }
     }
 
@@ -82,6 +94,11 @@ impl Case {
             }
             Case::SeatSize { plan, seat, call, what } => ((with.seat_size)(plan, *seat, *call, *what), vec![]),
             Case::RunSize { plan, set, what } => ((with.run_size)(plan, *set, *what), vec![]),
+            Case::Import { text, sizes: [n, t, p], plan } => {
+                let mut plan = Lent::new(plan);
+                ((with.import)(text, *n, *t, *p, plan.slice()), vec![plan.0])
+            }
+            Case::ImportSize { text, sizes: [n, t, p] } => ((with.import_size)(text, *n, *t, *p), vec![]),
         }
     }
 
@@ -117,6 +134,14 @@ impl Case {
                 write!(numbers, "\n  set {set} what {what}").unwrap();
                 list("plan", plan);
             }
+            Case::Import { text, sizes, plan } => {
+                write!(numbers, "\n  n, t, p {sizes:?} room {}", plan.len()).unwrap();
+                list("text", text);
+            }
+            Case::ImportSize { text, sizes } => {
+                write!(numbers, "\n  n, t, p {sizes:?}").unwrap();
+                list("text", text);
+            }
         }
         text + &numbers
     }
@@ -130,7 +155,7 @@ fn hex(bytes: &[u8]) -> String {
 #[derive(Default)]
 struct Tally {
     /// Cases by kind of call and refusal; 0 is a call that went through.
-    met: [[usize; 23]; 6],
+    met: [[usize; NUMBERS]; KINDS],
     /// Matchings that changed a coin.
     moved: usize,
     passed: usize,
@@ -691,6 +716,99 @@ fn programs(random: &mut Random, path: &str) -> (usize, usize) {
     (inputs.len(), differences)
 }
 
+/// One text, imported into a buffer of its plan's size, or of another; then its size.
+fn text(random: &mut Random, tally: &mut Tally, text: Vec<u8>, sizes: [u32; 3], expected: Option<u8>) {
+    let answer = (REFERENCE.import_size)(&text, sizes[0], sizes[1], sizes[2]);
+    let size = if answer & 255 == 0 { (answer >> 8) as usize } else { random.below(200) };
+    let plan = filler(random, size);
+    if random.once_in(20) {
+        let mut other = plan.clone();
+        wrong_length(random, &mut other);
+        let short = if answer & 255 == 0 { Some(19) } else { expected };
+        tally.compare(&Case::Import { text: text.clone(), sizes, plan: other }, short);
+    }
+    tally.compare(&Case::Import { text: text.clone(), sizes, plan }, expected);
+    tally.compare(&Case::ImportSize { text, sizes }, expected);
+}
+
+/// n, t and p for a text of so many input values: of a plan that passes, now and then of another.
+fn text_sizes(random: &mut Random, values: usize) -> [u32; 3] {
+    let (mut n, mut t, mut p) = random::size(random);
+    while usize::from(n) < values {
+        (n, t, p) = random::size(random);
+    }
+    let mut sizes = [u32::from(n), t as u32, u32::from(p)];
+    if random.once_in(6) {
+        let field = random.below(3);
+        let any = random.bits() as u32;
+        sizes[field] =
+            random.pick(&[0, 1, 2, 9, 15, 16, 17, 256, 257, 65521, 65535, 65536, 65537, 0x8000_0000, u32::MAX, any]);
+        if field == 0 && (sizes[0] as usize) < values {
+            sizes[0] = 257;
+        }
+    }
+    sizes
+}
+
+/// Circuits' texts: random ones, damaged ones, and those at the limits.
+fn circuits(random: &mut Random, tally: &mut Tally) {
+    for round in 0..6000 {
+        let gates = match round % 12 {
+            0 => 0,
+            1 | 7 => random.range(200, 600),
+            2 => random.range(20, 120),
+            _ => random.range(1, 12),
+        };
+        let (xors, outputs) =
+            (random.below(11), if random.once_in(6) { random.range(60, 70) } else { random.below(9) });
+        let whole = Text::new(random, random_values(round), gates, xors, outputs);
+        let sizes = text_sizes(random, whole.values());
+        let loose = random.once_in(2);
+        let bytes = whole.bytes(random, loose);
+        text(random, tally, bytes.clone(), sizes, None);
+        if whole.values() > 0 && random.once_in(4) {
+            let few = [random.below(whole.values()) as u32, sizes[1], sizes[2]];
+            text(random, tally, bytes.clone(), few, Some(23));
+        }
+        let mut broken = whole.clone();
+        if broken.damage(random, round % texts::DAMAGES) {
+            let bytes = broken.bytes(random, loose);
+            text(random, tally, bytes, sizes, Some(23));
+        }
+        // any other byte, and any cut
+        let mut other = bytes.clone();
+        for _ in 0..random.range(1, 3) {
+            let i = random.below(other.len());
+            other[i] = if random.once_in(2) { random.pick(b"0129 \n\t\rXAI") } else { random.bits() as u8 };
+        }
+        text(random, tally, other, sizes, None);
+        let cut = random.below(bytes.len());
+        text(random, tally, bytes[..cut].to_vec(), sizes, None);
+    }
+    for gates in [1020, 1021, 1022, 1023, 1024, 1025, 4096] {
+        text(random, tally, texts::chain(gates / 2 + 1), [3, 1, 11], None);
+        text(random, tally, texts::straight(gates), [3, 1, 11], None);
+    }
+    for wires in [1, 2, 63, 64, 65, 66, 1024, 1025, 65535] {
+        text(random, tally, texts::straight(wires), [1, 0, 2], None);
+    }
+    let long = texts::chain(65535);
+    text(random, tally, long.clone(), [3, 1, 11], Some(24));
+    for (damage, place) in [(&b"1 1 0 0 INV"[..], long.len()), (b"x", long.len() - 1), (b"X", long.len() - 4)] {
+        let broken = [&long[..place], damage, &long[place..]].concat();
+        text(random, tally, broken, [3, 1, 11], Some(23));
+    }
+    for filling in [b' ', b'\n', b'0', b'1', 0, 255] {
+        text(random, tally, vec![filling; 2_000_000], [3, 1, 11], Some(23));
+        text(random, tally, [&vec![filling; 1_000_000], &texts::straight(3)[..]].concat(), [3, 1, 11], None);
+    }
+}
+
+/// At most so many input values.
+fn random_values(round: usize) -> usize {
+    [1, 2, 3, 15][round % 4]
+}
+
 fn main() -> ExitCode {
     let start = Instant::now();
     let mut random = Random(20_260_101);
@@ -709,29 +827,31 @@ fn main() -> ExitCode {
         calls(&mut random, &mut tally, &world, 8);
         runs(&mut random, &mut tally, &world, 2);
     }
+    circuits(&mut random, &mut tally);
 
     println!("library: {}", if LINKED { "libpool.a" } else { "none linked, the reference stands in" });
     println!("refusal  {}    all", NAMES.map(|name| format!("{name:>10}")).join(" "));
     let mut scarce = 0;
-    for refusal in 0..23 {
+    for refusal in 0..NUMBERS {
         let row: Vec<usize> = tally.met.iter().map(|kind| kind[refusal]).collect();
         let all: usize = row.iter().sum();
         let row: Vec<String> = row.iter().map(|count| format!("{count:>10}")).collect();
-        let few = refusal > 0 && all < 50;
+        let few = if refusal > 22 { tally.met[6][refusal] < TEXTS_MET } else { refusal > 0 && all < 50 };
         scarce += usize::from(few);
         println!("{refusal:>7}  {} {all:>6}{}", row.join(" "), if few { "  TOO FEW" } else { "" });
     }
     println!("{} of the matchings changed a coin", tally.moved);
+    let texts: usize = tally.met[6].iter().sum();
+    println!("{texts} texts imported or refused");
     let mut cases: usize = tally.met.iter().flatten().sum();
-    if let Ok(path) = std::env::var("POOL_PROGRAM") {
-        let (count, differences) = programs(&mut random, &path);
-        println!("bench program: {count} inputs, {differences} differ");
-        cases += count;
-        tally.passed += count - differences;
-        tally.differences += differences;
-    }
+    let path = std::env::var("POOL_PROGRAM").expect("POOL_PROGRAM: the path of the bench program");
+    let (count, differences) = programs(&mut random, &path);
+    println!("bench program: {count} inputs, {differences} differ");
+    cases += count;
+    tally.passed += count - differences;
+    tally.differences += differences;
     println!("{cases} cases, {} passed, {} differ, {:.1?}", tally.passed, tally.differences, start.elapsed());
-    if tally.differences == 0 && scarce == 0 && cases >= 20_000 {
+    if LINKED && tally.differences == 0 && scarce == 0 && cases >= 20_000 && texts >= 20_000 {
         ExitCode::SUCCESS
     } else {
         ExitCode::FAILURE

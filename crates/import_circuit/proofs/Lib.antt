@@ -1,0 +1,5 @@
+pub mod Wires
+pub mod Sound
+pub mod Right
+pub mod Figures
+pub mod Ways

@@ -1,0 +1,3 @@
+pub mod Scanned
+pub mod Words
+pub mod Texts

@@ -1,0 +1,87 @@
+-- A plan that is written: n, t, p and the two bodies that were made, gates and outs, as the bytes of a version 1 file (document 01, "The plan file").
+use Prim.Native.Nat.{ℕ, suc, _+_, _*_, _/_, _%_}
+use mathlib.Core.Bool.{_&&_}
+use mathlib.Core.List.{List, [], _∷_, _++_, flatMap}
+use lib.ListN.{length}
+use lib.Seq.{sets}
+use Rattle.numbers.specs.Tables.{tab}
+use Rattle.numbers.specs.Bytes.{bytesOf}
+use Rattle.plan.specs.declared.Gate.{Gate}
+use Rattle.plan.specs.declared.Gate.the-variants.{Input, Add, Scale, Offset, Multiply}
+use Rattle.plan.specs.declared.Output.{Output}
+use Rattle.plan.specs.declared.Checked.{Checked}
+use Rattle.plan.specs.declared.Refusal.the-variants as refusal
+use Rattle.plan.specs.Refusals.{need}
+use Rattle.plan.specs.Plans.{Plan}
+use Rattle.plan.specs.File.{magic, between, partiesOk, thresholdOk, modulusOk}
+
+-- gates and outs, before they are a file
+pub record Bodies : Type 0 where
+  pub gates : List Gate
+  pub outs : List Output
+
+-- the plan that they make; the points are 1 to n
+unfoldable pub planWith : ℕ → ℕ → ℕ → Bodies → Plan
+planWith n t p b = record { t = t; p = p; points = tab suc n; gates = b .gates; outs = b .outs }
+
+-- ---- the bytes
+-- a list after others are written over it from a place on; past the end nothing changes
+unfoldable pub written : List ℕ → ℕ → List ℕ → List ℕ
+written s at bs = sets s at bs
+
+unfoldable pub kindOf : Gate → ℕ
+kindOf (Input s) = 1
+kindOf (Add a b) = 2
+kindOf (Scale a c) = 3
+kindOf (Offset a c) = 4
+kindOf (Multiply a b) = 5
+
+-- a gate's a and b
+unfoldable pub aOf : Gate → ℕ
+aOf (Input s) = s
+aOf (Add a b) = a
+aOf (Scale a c) = a
+aOf (Offset a c) = a
+aOf (Multiply a b) = a
+
+unfoldable pub bOf : Gate → ℕ
+bOf (Input s) = 0
+bOf (Add a b) = b
+bOf (Scale a c) = c
+bOf (Offset a c) = c
+bOf (Multiply a b) = b
+
+unfoldable pub gateBytes : Gate → List ℕ
+gateBytes g = kindOf g ∷ 0 ∷ bytesOf (aOf g ∷ bOf g ∷ [])
+
+unfoldable pub outBytes : Output → List ℕ
+outBytes o = o .party ∷ bytesOf (o .wire ∷ [])
+
+-- bytes 0 to 7
+unfoldable pub started : ℕ → ℕ → List ℕ
+started n t = magic ++ (1 ∷ n ∷ t ∷ 0 ∷ [])
+
+-- from byte 10 on: the gates' offset and count, the outs' offset and count
+unfoldable pub counted : ℕ → ℕ → List ℕ
+counted gates outs = bytesOf (18 ∷ gates ∷ (18 + 6 * gates) ∷ outs ∷ [])
+
+-- the contents. n, t and p are given as numbers and stand as they are: one that has no room in its bytes is refused by 3, 4 or 5
+unfoldable pub contents : ℕ → ℕ → ℕ → ℕ → ℕ → List ℕ
+contents n t p gates outs =
+    started n t ++ (p % 256 ∷ p / 256 ∷ counted gates outs)
+
+unfoldable pub fileSize : ℕ → ℕ → ℕ
+fileSize gates outs = 18 + 6 * gates + 3 * outs
+
+unfoldable pub planFile : ℕ → ℕ → ℕ → Bodies → List ℕ
+planFile n t p b =
+    contents n t p (length (b .gates)) (length (b .outs)) ++ (flatMap gateBytes (b .gates) ++ flatMap outBytes (b .outs))
+
+-- ---- refusals 3 to 6, by what decides them in such a file
+unfoldable pub contentChecks : ℕ → ℕ → ℕ → ℕ → ℕ → List Checked
+contentChecks n t p gates outs =
+    need refusal.Parties (partiesOk n)
+    ∷ need refusal.Threshold (thresholdOk n t)
+    ∷ need refusal.Modulus (modulusOk n p)
+    ∷ need refusal.Layout (between 1 1024 gates && between 1 64 outs)
+    ∷ []
