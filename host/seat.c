@@ -33,7 +33,7 @@
 #include "lists.h"
 #include "pool.h"
 
-enum { MAX_SEATS = 15, RETRY_MS = 20, TIMEOUT_S = 5 };
+enum { MAX_SEATS = 15, RETRY_MS = 20, TIMEOUT_S = 5, OFF_POLYNOMIAL = 20 };
 
 static struct bytes plan, figures, coins;
 static unsigned seat, seats;
@@ -58,12 +58,21 @@ _Noreturn void fail(enum fault fault, const char *format, ...)
     exit(1);
 }
 
+/* Ends the program with a refusal in words; with 20 they say at which seat to look. */
+_Noreturn static void refused(uint64_t answer)
+{
+    unsigned number = POOL_REFUSAL(answer), place = POOL_PLACE(answer);
+    if (number == OFF_POLYNOMIAL)
+        fail(NOT_POSSIBLE, "refused %u: the share that seat %u sent does not fit those of seats 1 to %u. Look at seat %u first, then at seats 1 to %u. %s",
+             number, place, place - 1, place, plan.at[6] + 1u, pool_refusal_sentence(number));
+    fail(NOT_POSSIBLE, "refused %u at place %u: %s", number, place, pool_refusal_sentence(number));
+}
+
 /* The value of an answer; a refusal ends the program. */
 static uint64_t value(uint64_t answer)
 {
-    unsigned number = POOL_REFUSAL(answer);
-    if (number)
-        fail(NOT_POSSIBLE, "refused %u at place %lu: %s", number, (unsigned long)POOL_PLACE(answer), pool_refusal_sentence(number));
+    if (POOL_REFUSAL(answer))
+        refused(answer);
     return POOL_VALUE(answer);
 }
 

@@ -36,9 +36,9 @@
  *
  * Each function answers 64 bits. Bits 0 to 7 are the number of a refusal, 0
  * where there is none. Bits 8 to 39 are the refusal's place, 0 unless its
- * sentence names one; places count from 0. Of several faults the first in
- * checking order is answered, and of several places the lowest. A refused call
- * has written nothing.
+ * sentence names one; places count from 0, but for a seat's, which is its
+ * number. Of several faults the first in checking order is answered, and of
+ * several places the lowest. A refused call has written nothing.
  *
  * What each number says stands in pool_refusals.h, one row a number in checking
  * order, with what its place is; pool_refusal_sentence below gives the sentence.
@@ -193,6 +193,11 @@ uint64_t pool_seat_size(const uint8_t *plan, size_t plan_len, uint16_t seat,
  *
  * Answers 0 and has written state and out, or answers the first of refusals 1
  * to 20 and has written nothing.
+ *
+ * Refusal 20 speaks of the first of the party's outs that breaks. Its place is
+ * a party's number, t + 2 to n: the shares of all parties before it lie on one
+ * polynomial of degree t or less, and with its share they do not. Where only
+ * one party has sent a wrong share, it is this one or one of 1 to t + 1.
  */
 uint64_t pool_seat_call(const uint8_t *plan, size_t plan_len, uint16_t seat,
     const uint8_t *figures, size_t figures_len,

@@ -78,7 +78,7 @@ static void run(void)
     uint8_t before[2 * (GATES + 1)], o[2] = {9, 9};
     const uint8_t off[6] = {10, 0, 7, 0, 5, 0};
     memcpy(before, state[2], sizeof before);
-    expect("shares off the polynomial", call(3, off, sizeof off, o, 2), 20, 0);
+    expect("seat 3's share off the polynomial", call(3, off, sizeof off, o, 2), 20, 3);
     expect_bytes("a refused call keeps the state", state[2], before, sizeof before);
     expect_bytes("a refused call keeps the buffer", o, (const uint8_t[]){9, 9}, 2);
     step(3, written);

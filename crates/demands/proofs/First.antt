@@ -13,31 +13,31 @@ use lib.Dec.{eqb, leb}
 use lib.ListN.{length, getD}
 use Rattle.numbers.specs.declared.Found.{Found}
 use Rattle.numbers.specs.declared.Found.the-variants.{At, Nothing}
-use Rattle.numbers.specs.Tables.{firstFailing}
+use Rattle.numbers.specs.Tables.{tab, firstFailing}
 use Rattle.numbers.specs.Bytes.{numbers, holdsCount, firstOver}
 use Rattle.numbers.proofs.Truth.{both-true}
 use Rattle.numbers.proofs.Searches.{first-failing}
 use Rattle.numbers.proofs.Below.{firstOver-at}
 use Rattle.numbers.proofs.Bytes.{holds-numbers}
-use Rattle.sharing_laws.specs.Sharing.{firstOff}
+use Rattle.sharing_laws.proofs.OffLine.{off-within}
 use Rattle.plan.specs.declared.Refusal.{Refusal}
 use Rattle.plan.specs.declared.Refusal.the-variants as refusal
 use Rattle.plan.specs.declared.Checked.{Checked}
 use Rattle.plan.specs.declared.Checked.the-variants.{Passed, Refused}
 use Rattle.plan.specs.Refusals.{numberOf, placeOf, codeOf, andThen, firstOf, need, unlessFound}
-use Rattle.plan.proofs.Refusals.{firstOf-append, passed-both, passed-need}
+use Rattle.plan.proofs.Refusals.{firstOf-append, passed-both, passed-need, first-refused}
 use Rattle.plan.specs.Plans.{Plan, partyCount, multiplies, inputCount, ownInputCount, coinCount, ownCoinCount, ownOutCount, mailCount, sentCount}
 use Rattle.plan.specs.File.{gateCountAt, outCountAt, gateKept, outKept, layoutOk, planChecks, planCheck, planOf}
 use Rattle.plan.proofs.Planned.{between-true, Laid, laid}
 use Rattle.seat_messages.specs.Messages.{sharesOfOut}
-use Rattle.seat_messages.specs.Calls.{nothingFound, openingCheck, partyChecks, callChecks, callAnswer, unlessRefused, stateAfter, outAfter}
+use Rattle.seat_messages.specs.Calls.{onPolynomial, outsCheck, openingCheck, partyChecks, callChecks, callAnswer, unlessRefused, stateAfter, outAfter}
 use Rattle.run_bench.specs.BenchCalls.{runChecks, benchAnswer, benchedOf, viewAfter}
 use Rattle.match_agreement.specs.MatchCalls.{inputsAgree, outsAgree, pairChecks, matchAnswer, matchedAfter}
 use Rattle.import_call.specs.Importing.{importFile, textChecks, importChecks, importAnswer, importAfter}
 use Rattle.pool_answers.specs.Sizes.{answerOf}
 use Rattle.demands.specs.Order.{checkingOrder, rankIn, rankOf}
 use Rattle.demands.specs.Demands.{Answers, Demand1}
-use Rattle.demands.proofs.Bounds.{outs-few, inputs-few, own-few, own-coins-few, coins-few, own-outs-few, mail-few, sent-few}
+use Rattle.demands.proofs.Bounds.{outs-few, parties-few, inputs-few, own-few, own-coins-few, coins-few, mail-few, sent-few}
 
 infixr 5 _▹_
 infixr 5 _▸_
@@ -50,17 +50,17 @@ numbered : Checked → ℕ
 numbered Passed = 0
 numbered (Refused r) = numberOf r
 
-clash : {A : Type 0} (q : Refusal) → Passed ≡ Refused q → A
+pub clash : {A : Type 0} (q : Refusal) → Passed ≡ Refused q → A
 unfolding refused?
 clash q e = absurd (let z : _≡_ {A = ℕ} 0 1 = ap refused? e in omega (arith, z))
 
-same-number : (r q : Refusal) → Refused r ≡ Refused q → numberOf r ≡ numberOf q
+pub same-number : (r q : Refusal) → Refused r ≡ Refused q → numberOf r ≡ numberOf q
 unfolding numbered
 same-number r q e = ap numbered e
 
 -- where this check refuses, its number is n
-record Numbered (n : ℕ) (c : Checked) : Type 0 where
-  is : (q : Refusal) → c ≡ Refused q → numberOf q ≡ n
+pub record Numbered (n : ℕ) (c : Checked) : Type 0 where
+  pub is : (q : Refusal) → c ≡ Refused q → numberOf q ≡ n
 
 need-number : (r : Refusal) (ok : Bool) → Numbered (numberOf r) (need r ok)
 unfolding need
@@ -77,11 +77,11 @@ cond-number n true c h = h
 cond-number n false c h = record { is = λ q e. clash q e }
 
 -- ---- a list of checks by their numbers
-data Numbers : List ℕ → List Checked → Type 0 where
+pub data Numbers : List ℕ → List Checked → Type 0 where
   none : Numbers [] []
   _▹_ : {n : ℕ} {ns : List ℕ} {c : Checked} {cs : List Checked} → Numbered n c → Numbers ns cs → Numbers (n ∷ ns) (c ∷ cs)
 
-joined : {ns ms : List ℕ} {cs ds : List Checked} → Numbers ns cs → Numbers ms ds → Numbers (ns ++ ms) (cs ++ ds)
+pub joined : {ns ms : List ℕ} {cs ds : List Checked} → Numbers ns cs → Numbers ms ds → Numbers (ns ++ ms) (cs ++ ds)
 joined none ds = ds
 joined (c ▹ cs) ds = c ▹ joined cs ds
 
@@ -128,6 +128,10 @@ first-ranked {ns = n ∷ ms} (Refused s ∷ cs) (c ▹ ns) o r e (suc k) q h =
     let m : numberOf r ≡ n = sym (same-number s r e) ∙ c .is s refl in
     rw m (ranked-after n (both-true (before n ms) (ordered ms) o .0) ns k q h)
 
+-- checks by a rule, each with the number n: so has the first of them that refuses
+each-number : (n : ℕ) (check : ℕ → Checked) (m : ℕ) → ((k : ℕ) → Numbered n (check k)) → Numbered n (firstOf (tab check m))
+each-number n check m h = record { is = λ q e. let o = first-refused check m q e in h (o .at) .is q (o .refuses) }
+
 -- ---- a check's place
 number-range : (r : Refusal) → (1 ≤ numberOf r) × (numberOf r ≤ 24)
 unfolding numberOf
@@ -160,7 +164,7 @@ placed : Checked → ℕ
 placed Passed = 0
 placed (Refused r) = placeOf r
 
-same-place : (r q : Refusal) → Refused r ≡ Refused q → placeOf r ≡ placeOf q
+pub same-place : (r q : Refusal) → Refused r ≡ Refused q → placeOf r ≡ placeOf q
 unfolding placed
 same-place r q e = ap placed e
 
@@ -173,10 +177,16 @@ unfolding need
 need-small r true z q e = clash q e
 need-small r false z q e = omega (arith, z, same-place r q e)
 
-found-small : (r : ℕ → Refusal) (f : Found) → ((i : ℕ) → placeOf (r i) ≡ i) → ((i : ℕ) → f ≡ At i → i < 4294967296) → Small (unlessFound r f)
+found-below : (r : ℕ → Refusal) (f : Found) → ((i : ℕ) → f ≡ At i → placeOf (r i) < 4294967296) → Small (unlessFound r f)
 unfolding unlessFound
-found-small r (At i) z l q e = omega (arith, z i, l i refl, same-place (r i) q e)
-found-small r Nothing z l q e = clash q e
+found-below r (At i) l q e = omega (arith, l i refl, same-place (r i) q e)
+found-below r Nothing l q e = clash q e
+
+found-small : (r : ℕ → Refusal) (f : Found) → ((i : ℕ) → placeOf (r i) ≡ i) → ((i : ℕ) → f ≡ At i → i < 4294967296) → Small (unlessFound r f)
+found-small r f z l = found-below r f (λ i e. omega (arith, z i, l i e))
+
+each-small : (check : ℕ → Checked) (n : ℕ) → ((k : ℕ) → Small (check k)) → Small (firstOf (tab check n))
+each-small check n h q e = let o = first-refused check n q e in h (o .at) q (o .refuses)
 
 cond-small : (b : Bool) (c : Checked) → Small c → Small (cond b c Passed)
 cond-small true c h q e = h q e
@@ -238,10 +248,10 @@ module _ {ns : List ℕ} {cs : List Checked} (K : Type 0) (numbers : Numbers ns 
   }
 
 -- ---- the checks of each call
-abbrev planNumbers : List ℕ
+abbrev pub planNumbers : List ℕ
 planNumbers = 1 ∷ 2 ∷ 3 ∷ 4 ∷ 5 ∷ 6 ∷ 7 ∷ 8 ∷ []
 
-abbrev partyNumbers : List ℕ
+abbrev pub partyNumbers : List ℕ
 partyNumbers = 9 ∷ 10 ∷ 11 ∷ 12 ∷ 13 ∷ 14 ∷ 15 ∷ 16 ∷ 17 ∷ 18 ∷ 19 ∷ 20 ∷ []
 
 abbrev runNumbers : List ℕ
@@ -250,7 +260,7 @@ runNumbers = 9 ∷ 10 ∷ 11 ∷ 12 ∷ 13 ∷ 19 ∷ []
 abbrev pairNumbers : List ℕ
 pairNumbers = 9 ∷ 10 ∷ 10 ∷ 11 ∷ 11 ∷ 12 ∷ 13 ∷ 19 ∷ 21 ∷ 22 ∷ []
 
-plan-numbers : (bs : List ℕ) → Numbers planNumbers (planChecks bs)
+pub plan-numbers : (bs : List ℕ) → Numbers planNumbers (planChecks bs)
 unfolding planChecks numberOf
 plan-numbers bs =
     need-number refusal.Magic _
@@ -264,10 +274,11 @@ plan-numbers bs =
     ▹ none
 
 opening-number : (plan : Plan) (i k : ℕ) (mail : List ℕ) → Numbered 20 (openingCheck plan i k mail)
-unfolding openingCheck numberOf
+unfolding openingCheck outsCheck onPolynomial numberOf
 opening-number plan i k mail =
-    let f : Found = firstFailing (λ j. nothingFound (firstOff (plan .p) (plan .t) (plan .points) (sharesOfOut (partyCount plan) (ownOutCount plan i) j mail))) (ownOutCount plan i) in
-    cond-number 20 (eqb k (multiplies plan + 2)) (unlessFound refusal.OffPolynomial f) (found-number refusal.OffPolynomial 20 f (λ o. refl))
+    cond-number 20 (eqb k (multiplies plan + 2)) (outsCheck plan i mail)
+    (each-number 20 (λ j. onPolynomial (plan .p) (plan .t) (plan .points) (sharesOfOut (partyCount plan) (ownOutCount plan i) j mail)) (ownOutCount plan i)
+    (λ j. found-number (λ s. refusal.OffPolynomial (s + 1)) 20 _ (λ s. refl)))
 
 inputs-number : (plan : Plan) (set : ℕ) (xs ys : List ℕ) → Numbered 21 (inputsAgree plan set xs ys)
 unfolding inputsAgree numberOf
@@ -277,7 +288,7 @@ outs-number : (plan : Plan) (set : ℕ) (xs ys : List ℕ) → Numbered 22 (outs
 unfolding outsAgree numberOf
 outs-number plan set xs ys = found-number refusal.OutputsDiffer 22 _ (λ o. refl)
 
-party-numbers : (plan : Plan) (i : ℕ) (inputs coins state mail : List ℕ) (room : ℕ) → Numbers partyNumbers (partyChecks plan i inputs coins state mail room)
+pub party-numbers : (plan : Plan) (i : ℕ) (inputs coins state mail : List ℕ) (room : ℕ) → Numbers partyNumbers (partyChecks plan i inputs coins state mail room)
 unfolding partyChecks numberOf
 party-numbers plan i inputs coins state mail room =
     need-number refusal.Coalition _
@@ -360,11 +371,15 @@ room-bounded ok = need-small refusal.BufferLength ok refl ▸ λ e. Bounded.none
 
 module _ (bs : List ℕ) (passes : planCheck bs ≡ Passed) where
   opening-small : (i k : ℕ) (mail : List ℕ) → Small (openingCheck (planOf bs) i k mail)
-  unfolding openingCheck placeOf
+  unfolding openingCheck outsCheck onPolynomial placeOf partyCount
   opening-small i k mail =
-      let ok : ℕ → Bool = λ j. nothingFound (firstOff (planOf bs .p) (planOf bs .t) (planOf bs .points) (sharesOfOut (partyCount (planOf bs)) (ownOutCount (planOf bs) i) j mail)) in
-      cond-small (eqb k (multiplies (planOf bs) + 2)) (unlessFound refusal.OffPolynomial (firstFailing ok (ownOutCount (planOf bs) i)))
-      (found-small refusal.OffPolynomial (firstFailing ok (ownOutCount (planOf bs) i)) (λ o. refl) (search-small ok (ownOutCount (planOf bs) i) (omega (arith, own-outs-few bs passes i))))
+      cond-small (eqb k (multiplies (planOf bs) + 2)) (outsCheck (planOf bs) i mail)
+      (each-small (λ j. onPolynomial (planOf bs .p) (planOf bs .t) (planOf bs .points) (shares j)) (ownOutCount (planOf bs) i)
+      (λ j. found-below (λ s. refusal.OffPolynomial (s + 1)) _
+      (λ s e. omega (arith, off-within (planOf bs .p) (planOf bs .t) (planOf bs .points) (shares j) s e, parties-few bs passes))))
+    where
+      shares : ℕ → List ℕ
+      shares j = sharesOfOut (partyCount (planOf bs)) (ownOutCount (planOf bs) i) j mail
 
   inputs-small : (set : ℕ) (xs ys : List ℕ) → Small (inputsAgree (planOf bs) set xs ys)
   unfolding inputsAgree placeOf

@@ -1,14 +1,19 @@
--- What else is claimed beside the demands: of the matching from its calls alone, of a view piece by piece, and of the sizes that a host cuts by.
-use Prim.Native.Nat.{ℕ, suc, _+_, _*_, _≤_}
+-- What else is claimed beside the demands: of the matching from its calls alone, of a view piece by piece, of the sizes that a host cuts by, and of
+-- the party that refusal 20 tells.
+use Prim.Native.Nat.{ℕ, suc, _+_, _*_, _≤_, _<_}
 use mathlib.Core.Path.{_≡_}
 use mathlib.Core.Bool.{true}
 use mathlib.Core.List.{List}
 use lib.ListN.{length}
-use Rattle.numbers.specs.Bytes.{width, allBelow}
-use Rattle.plan.specs.declared.Checked.the-variants.{Passed}
-use Rattle.plan.specs.Plans.{Plan, partyCount, multiplies, ownInputs, ownCoins, mailCount, writtenCount}
+use Rattle.numbers.specs.Bytes.{width, numbers, allBelow}
+use Rattle.sharing_laws.specs.OffLine.{OnOne, OffAt}
+use Rattle.plan.specs.declared.Checked.the-variants.{Passed, Refused}
+use Rattle.plan.specs.declared.Refusal.the-variants as refusal
+use Rattle.plan.specs.Plans.{Plan, partyCount, multiplies, ownInputs, ownCoins, ownOutCount, mailCount, writtenCount}
 use Rattle.plan.specs.File.{planOf}
 use Rattle.plan_coalition.specs.Coalitions.{inSet, members}
+use Rattle.seat_messages.specs.Messages.{sharesOfOut}
+use Rattle.seat_messages.specs.Calls.{callAnswer}
 use Rattle.run_protocol.specs.Rounds.{mailTo, round, results}
 use Rattle.run_views.specs.ViewCounts.{viewCount}
 use Rattle.match_privacy.specs.Matching.{matchedCoins}
@@ -44,3 +49,24 @@ pub record Cut (plan : Plan) : Type 0 where
   pub dealt : (j k i : ℕ) → k ≤ multiplies plan → partyCount plan * partCount plan j k i ≡ writtenCount plan j k
   -- call M + 1: party i's part is one of the equal parts of the mail that it takes next
   pub outs : (j i : ℕ) → partyCount plan * partCount plan j (suc (multiplies plan)) i ≡ mailCount plan i (suc (suc (multiplies plan)))
+
+-- ---- the n shares of party i's own out j, in the mail of the last round
+abbrev pub sharesIn : Plan → ℕ → List ℕ → ℕ → List ℕ
+sharesIn plan i mail j = sharesOfOut (partyCount plan) (ownOutCount plan i) j mail
+
+-- an out of party i breaks at a party, counted from 1: the shares of every own out before it lie on one polynomial of degree t or less; in this
+-- one the shares of the parties before that party do, and with its share they do not
+pub record Broken (plan : Plan) (i : ℕ) (mail : List ℕ) (party : ℕ) : Type 0 where
+  pub out : ℕ
+  pub own : out < ownOutCount plan i
+  pub earlier : (j : ℕ) → j < out → OnOne (plan .p) (plan .t) (plan .points) (sharesIn plan i mail j)
+  pub index : ℕ
+  pub counted : party ≡ index + 1
+  pub off : OffAt (plan .p) (plan .t) (plan .points) (sharesIn plan i mail out) index
+
+-- a party's call that is refused with 20 has been told the party at which the first of its own outs that breaks does
+abbrev pub FirstBroken : Type 0
+FirstBroken =
+    (bytes : List ℕ) (i : ℕ) (inputs coins state mail : List ℕ) (room place : ℕ)
+    → callAnswer bytes i inputs coins state mail room ≡ Refused (refusal.OffPolynomial place)
+    → Broken (planOf bytes) i (numbers mail) place

@@ -1,15 +1,16 @@
--- The sums worked by hand of document 01, P1 to P10, as one table; and that plan K with P5's lists meets the premises of the demands.
-use Prim.Native.Nat.{ℕ}
+-- The sums worked by hand of document 01, P1 to P10, as one table, with R-9's of document 02; and that plan K with P5's lists meets the premises of the demands.
+use Prim.Native.Nat.{ℕ, _+_, _*_}
 use mathlib.Core.Path.{_≡_}
 use mathlib.Core.Bool.{true}
 use mathlib.Core.List.{List, [], _∷_, _++_, map}
 use lib.ListN.{length}
 use Rattle.numbers.specs.Bytes.{bytesOf, allBelow}
 use Rattle.sharing_laws.specs.Interp.{weights, interpolate, delta}
-use Rattle.plan.specs.Refusals.{codeOf}
+use Rattle.plan.specs.Refusals.{codeOf, firstOf}
 use Rattle.plan.specs.Plans.{Plan}
 use Rattle.plan.specs.declared.Gate.the-variants.{Multiply}
 use Rattle.plan.specs.File.{planCheck, planOf}
+use Rattle.seat_messages.specs.Calls.{onPolynomial, callAnswer}
 use Rattle.run_protocol.specs.Rounds.{results, view}
 use Rattle.run_protocol.specs.Shares.{wireAt, dealtAt, shareTable}
 use Rattle.run_bench.specs.BenchCalls.{benchAnswer}
@@ -55,6 +56,10 @@ sharesOf w = map (wireAt (shareTable K inputs1 coins1) w) (K .points)
 unfoldable pub benchOf : ℕ → List ℕ → ℕ → ℕ
 benchOf set xs room = codeOf (benchAnswer (likeK 3 1 11 0) set (bytesOf xs) (bytesOf coins1) room)
 
+-- the answer to seat 3's last call in P1's run, with this mail
+unfoldable pub lastCallOf : List ℕ → ℕ
+lastCallOf mail = codeOf (callAnswer (likeK 3 1 11 0) 3 [] (bytesOf (7 ∷ [])) (bytesOf (3 ∷ 10 ∷ 3 ∷ 5 ∷ 4 ∷ [])) (bytesOf mail) 2)
+
 -- P5's second list
 abbrev pub inputs5 : List ℕ
 inputs5 = 1 ∷ 1 ∷ []
@@ -81,6 +86,14 @@ pub record Sums : Type 0 where
   pub p9-passes : codeOf (planCheck single) ≡ 0
   pub p9-result : results (planOf single) (1 ∷ []) [] 1 ≡ 1 ∷ []
   pub p10 : benchOf 3 inputs1 0 ≡ 9
+  -- R-9: seat 3's last call in P1's run, its shares 10 7 4 as they came and with the last wrong; and three openings of five shares, of which the
+  -- second breaks at seats 4 and 5, the third at seat 3
+  pub r9-right : lastCallOf (10 ∷ 7 ∷ 4 ∷ []) ≡ 0
+  pub r9-seat : lastCallOf (10 ∷ 7 ∷ 5 ∷ []) ≡ 20 + 256 * 3
+  pub r9-first :
+      codeOf
+      (firstOf (map (onPolynomial 11 1 (1 ∷ 2 ∷ 3 ∷ 4 ∷ 5 ∷ [])) ((10 ∷ 7 ∷ 4 ∷ 1 ∷ 9 ∷ []) ∷ (10 ∷ 7 ∷ 4 ∷ 0 ∷ 0 ∷ []) ∷ (10 ∷ 7 ∷ 5 ∷ 1 ∷ 9 ∷ []) ∷ [])))
+      ≡ 20 + 256 * 4
   -- the premises of demands 2 and 3 are met, for the set {3}
   pub bytes-met : allBelow 256 (likeK 3 1 11 0) ≡ true
   pub given-met : Given (likeK 3 1 11 0) inputs1 coins1

@@ -23,9 +23,8 @@ use Rattle.numbers.proofs.Truth.{both-true}
 use Rattle.field.specs.Mod.{mul}
 use Rattle.field.proofs.Inverse.{pos}
 use Rattle.sharing_laws.specs.Interp.{All}
-use Rattle.sharing.proofs.Coding.{map-tab}
 use Rattle.sharing_laws.proofs.Elements.{scale-below, sum-below}
-use Rattle.sharing_laws.proofs.Alls.{all-tab}
+use Rattle.sharing_laws.proofs.Alls.{all-tab, map-tab}
 use Rattle.plan.specs.declared.Gate.{Gate}
 use Rattle.plan.specs.declared.Gate.the-variants.{Input, Add, Scale, Offset, Multiply}
 use Rattle.plan.specs.declared.Header.{Header}

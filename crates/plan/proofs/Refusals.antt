@@ -3,12 +3,16 @@
 --     need-true, need-false                a check by a test
 --     found-at, found-nothing              a check by a search
 --     passed-both, passed-need, passed-found     what a list of checks that passes says
+--     all-pass, first-refused              checks by a rule: that all pass, and the first that refuses
+--     Tried, trying                        a loop that tries one after the other
 -- Assumes nothing.
-use mathlib.Core.Path.{_≡_, refl, sym}
+use mathlib.Core.Path.{_≡_, refl, sym, ap, _∙_}
 use mathlib.Core.Bool.{Bool, true, false}
 use mathlib.Core.List.{List, [], _∷_, _++_}
-use Prim.Native.Nat.{ℕ}
+use Prim.Native.Nat.{ℕ, zero, suc, _+_, _-_, _<_, _≤_}
 use native.Mathlib.Omega.{arith}
+use Rattle.numbers.specs.Tables.{tab}
+use Rattle.numbers.proofs.Tables.{tab-next, tab-append}
 use Rattle.numbers.specs.declared.Found.{Found}
 use Rattle.numbers.specs.declared.Found.the-variants.{At, Nothing}
 use Rattle.plan.specs.declared.Refusal.{Refusal}
@@ -81,3 +85,64 @@ pub passed-found : (r : ℕ → Refusal) (f : Found) → unlessFound r f ≡ Pas
 unfolding unlessFound
 passed-found r (At i) h = absurd (passed≢refused (r i) h)
 passed-found r Nothing h = refl
+
+-- ---- checks by a rule, the first n
+pub all-pass : (check : ℕ → Checked) (n : ℕ) → ((k : ℕ) → k < n → check k ≡ Passed) → firstOf (tab check n) ≡ Passed
+unfolding tab firstOf andThen
+all-pass check zero h = refl
+all-pass check (suc n) h = rw (h 0 (omega arith), all-pass (λ k. check (suc k)) n (λ k l. h (suc k) (omega arith)))
+
+-- the first of them that refuses: those before it pass
+pub record FirstRefused (check : ℕ → Checked) (n : ℕ) (r : Refusal) : Type 0 where
+  pub at : ℕ
+  pub within : at < n
+  pub refuses : check at ≡ Refused r
+  pub before : (k : ℕ) → k < at → check k ≡ Passed
+
+before-suc : (check : ℕ → Checked) (j : ℕ) → check 0 ≡ Passed → ((k : ℕ) → k < j → check (suc k) ≡ Passed) → (k : ℕ) → k < suc j → check k ≡ Passed
+before-suc check j e h zero l = e
+before-suc check j e h (suc k) l = h k (omega arith)
+
+refused-step : (check : ℕ → Checked) (n : ℕ) (r : Refusal) (c rest : Checked) → check 0 ≡ c → andThen c rest ≡ Refused r
+    → (rest ≡ Refused r → FirstRefused (λ k. check (suc k)) n r) → FirstRefused check (suc n) r
+unfolding andThen
+refused-step check n r (Refused q) rest e h next = record { at = 0; within = omega arith; refuses = e ∙ h; before = λ k l. absurd (omega arith) }
+refused-step check n r Passed rest e h next =
+    let w : FirstRefused (λ k. check (suc k)) n r = next h in
+    record { at = suc (w .at); within = omega (arith, w .within); refuses = w .refuses; before = before-suc check (w .at) e (w .before) }
+
+pub first-refused : (check : ℕ → Checked) (n : ℕ) (r : Refusal) → firstOf (tab check n) ≡ Refused r → FirstRefused check n r
+unfolding tab firstOf
+first-refused check zero r e = absurd (passed≢refused r (sym e))
+first-refused check (suc n) r e = refused-step check n r (check 0) (firstOf (tab (λ k. check (suc k)) n)) refl e (λ h. first-refused (λ k. check (suc k)) n r h)
+
+-- the invariant of a loop that tries one after the other and stands at j: those before it passed
+pub record Tried (check : ℕ → Checked) (n j : ℕ) : Type 0 where
+  pub within : j ≤ n
+  pub before : firstOf (tab check j) ≡ Passed
+
+pub try-none : (check : ℕ → Checked) (n : ℕ) → Tried check n 0
+try-none check n = record { within = omega arith; before = all-pass check 0 (λ k l. absurd (omega arith)) }
+
+module _ (check : ℕ → Checked) (n j : ℕ) (h : Tried check n j) where
+  pub try-passed : (c : Checked) → j < n → c ≡ check j → c ≡ Passed → Tried check n (j + 1)
+  unfolding firstOf andThen
+  try-passed c l is e = record { within = omega arith; before = rw (tab-next check j, firstOf-append, h .before, ← is, e) }
+
+  pub try-refused : (c : Checked) (r : Refusal) → j < n → c ≡ check j → c ≡ Refused r → c ≡ firstOf (tab check n)
+  unfolding tab firstOf
+  try-refused c r l is e =
+      let here : j + 0 ≡ j = omega arith in
+      let parts : n ≡ j + suc (n - (j + 1)) = omega arith in
+      e
+      ∙ sym
+      (ap (λ (m : ℕ). firstOf (tab check m)) parts
+      ∙ ap firstOf (tab-append check j (suc (n - (j + 1))))
+      ∙ firstOf-append (tab check j) (tab (λ k. check (j + k)) (suc (n - (j + 1))))
+      ∙ andThen-passed _ _ (h .before)
+      ∙ andThen-refused (check (j + 0)) _ r (ap check here ∙ sym is ∙ e))
+
+  pub try-all : n ≤ j → Passed ≡ firstOf (tab check n)
+  try-all l = let e : j ≡ n = omega (arith, h .within) in sym (ap (λ (m : ℕ). firstOf (tab check m)) (sym e) ∙ h .before)
+
+pub ruleset trying = (try-none, try-passed, try-refused, try-all)

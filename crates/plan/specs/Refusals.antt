@@ -32,7 +32,7 @@ numberOf refusal.Finished = 16
 numberOf refusal.MailCount = 17
 numberOf (refusal.MailValue i) = 18
 numberOf refusal.BufferLength = 19
-numberOf (refusal.OffPolynomial o) = 20
+numberOf (refusal.OffPolynomial i) = 20
 numberOf (refusal.InputsDiffer i) = 21
 numberOf (refusal.OutputsDiffer o) = 22
 
@@ -59,7 +59,7 @@ placeOf refusal.Finished = 0
 placeOf refusal.MailCount = 0
 placeOf (refusal.MailValue i) = i
 placeOf refusal.BufferLength = 0
-placeOf (refusal.OffPolynomial o) = o
+placeOf (refusal.OffPolynomial i) = i
 placeOf (refusal.InputsDiffer i) = i
 placeOf (refusal.OutputsDiffer o) = o
 

@@ -25,8 +25,9 @@ use Rattle.field.specs.Field.{Below2, Is, reciprocal, Reducible, Ready}
 use Rattle.sharing_laws.specs.Interp.{weights, dot}
 use Rattle.field.proofs.Solve.{canon-lt}
 use Rattle.field.proofs.Inverse.{pos}
-use Rattle.sharing.proofs.Coding.{entry-below, map-tab, dot-canon, plain-dot, Summed, sum-none, next-fits, sum-next, sum-reducible, sum-reduced}
-use Rattle.sharing_openings.proofs.Rows.{length-weights}
+use Rattle.sharing.proofs.Coding.{entry-below, dot-canon, plain-dot, Summed, sum-none, next-fits, sum-next, sum-reducible, sum-reduced}
+use Rattle.sharing_laws.proofs.Interpolation.{length-weights}
+use Rattle.sharing_laws.proofs.Alls.{map-tab}
 use Rattle.plan.specs.Plans.{Plan, dealerCount, dealerPoints}
 use Rattle.seat_messages.specs.Messages.{reduced}
 use Rattle.run_dealings.specs.Rows.{powers, Powered}

@@ -30,7 +30,8 @@ use Rattle.sharing_laws.specs.Interp.{dot, weights}
 use Rattle.sharing_laws.specs.Sharing.{rowsOf}
 use Rattle.sharing_laws.proofs.Polys.{eval-padded, values-padded}
 use Rattle.sharing_laws.proofs.Elements.{padded-below}
-use Rattle.sharing.proofs.Coding.{map-tab, plain-dot}
+use Rattle.sharing_laws.proofs.Alls.{map-tab}
+use Rattle.sharing.proofs.Coding.{plain-dot}
 use Rattle.sharing_openings.proofs.Rows.{row-at}
 use Rattle.run_protocol.specs.Shares.{sharings}
 use Rattle.run_protocol.proofs.Below.{append-below}

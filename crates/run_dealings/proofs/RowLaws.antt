@@ -16,7 +16,7 @@ use Rattle.numbers.proofs.Tables.{tab-next, tab-zero, getD-tab, row-room}
 use Rattle.numbers.proofs.Below.{allBelow-at, allBelow-take, allBelow-drop}
 use Rattle.field.specs.Mod.{mul}
 use Rattle.field.specs.Field.{Is}
-use Rattle.sharing.proofs.Coding.{map-tab}
+use Rattle.sharing_laws.proofs.Alls.{map-tab}
 use Rattle.run_dealings.specs.Rows.{productsOf, Rowed, Standing}
 
 -- an entry of a list of values

@@ -15,7 +15,6 @@ use lib.Dec.{eqb, leb}
 use lib.ListN.{length, getD, take, drop, replicate, length-replicate, length-drop}
 use lib.Seq.{getD-drop}
 use Rattle.numbers.specs.Bytes.{numbers, bytesOf, holdsCount, firstOver, allBelow}
-use Rattle.numbers.proofs.Searches.{passes-nothing}
 use Rattle.numbers.proofs.Bytes.{length-bytesOf, numbers-of-bytes}
 use Rattle.numbers.proofs.Below.{allBelow-at, at-allBelow, nothing-firstOver}
 use Rattle.field.proofs.Inverse.{pos}
@@ -30,9 +29,10 @@ use Rattle.plan.specs.Refusals.{andThen, firstOf, need, unlessFound}
 use Rattle.plan.specs.Plans.{Plan, partyCount, parties, pointOf, dealings, multiplies, multiplyWire, inputWires, outWires, ownInputCount, ownOutCount, coinCount, ownCoinCount, mailCount, writtenCount, ownInputs, ownBlocks, ownCoins}
 use Rattle.plan.specs.File.{between}
 use Rattle.plan.proofs.Wires.{length-inputWires}
+use Rattle.plan.proofs.Refusals.{found-nothing, all-pass}
 use Rattle.plan.proofs.Valid.{Valid}
 use Rattle.seat_messages.specs.Messages.{wiresByParty, sharesOfOut}
-use Rattle.seat_messages.specs.Calls.{nothingFound, openingCheck, partyChecks}
+use Rattle.seat_messages.specs.Calls.{onPolynomial, outsCheck, openingCheck, partyChecks}
 use Rattle.run_protocol.specs.Rounds.{fresh, callOf, mailTo, round, stateIn, mailIn}
 use Rattle.run_protocol.specs.Shares.{shareTable, wireAt}
 use Rattle.run_protocol.proofs.Lists.{length-map, all-getD, at-all, all-mapped}
@@ -125,20 +125,20 @@ module _ (plan : Plan) (valid : Valid plan) (xs cs : List ℕ) (full : length cs
 
   -- every opening of the last call is right
   on-polynomial : (r : ℕ) → r < ownOutCount plan i
-      → nothingFound (firstOff (plan .p) (plan .t) (plan .points) (sharesOfOut (partyCount plan) (ownOutCount plan i) r (mailTo i (round plan xs cs (suc (multiplies plan)))))) ≡ true
-  unfolding nothingFound
+      → onPolynomial (plan .p) (plan .t) (plan .points) (sharesOfOut (partyCount plan) (ownOutCount plan i) r (mailTo i (round plan xs cs (suc (multiplies plan))))) ≡ Passed
+  unfolding onPolynomial
   on-polynomial r l =
-      ap (λ (m : List ℕ). nothingFound (firstOff (plan .p) (plan .t) (plan .points) m)) (shares-of-out plan valid xs cs full i r from1 upto l)
-      ∙ ap nothingFound (none-off plan valid xs cs small (getD (outWires plan i) r 0))
+      found-nothing (λ j. refusal.OffPolynomial (j + 1)) _
+      (ap (firstOff (plan .p) (plan .t) (plan .points)) (shares-of-out plan valid xs cs full i r from1 upto l)
+      ∙ none-off plan valid xs cs small (getD (outWires plan i) r 0))
 
   opening-last : openingCheck plan i (suc (suc (multiplies plan))) (mailTo i (round plan xs cs (suc (multiplies plan)))) ≡ Passed
-  unfolding openingCheck unlessFound
+  unfolding openingCheck outsCheck
   opening-last =
       let e : suc (suc (multiplies plan)) ≡ multiplies plan + 2 = omega arith in
       rw (eq-eqb (suc (suc (multiplies plan))) (multiplies plan + 2) e)
-      (ap (unlessFound refusal.OffPolynomial)
-      (passes-nothing (λ r. nothingFound (firstOff (plan .p) (plan .t) (plan .points) (sharesOfOut (partyCount plan) (ownOutCount plan i) r (mailTo i (round plan xs cs (suc (multiplies plan)))))))
-      (ownOutCount plan i) on-polynomial))
+      (all-pass (λ r. onPolynomial (plan .p) (plan .t) (plan .points) (sharesOfOut (partyCount plan) (ownOutCount plan i) r (mailTo i (round plan xs cs (suc (multiplies plan))))))
+      (ownOutCount plan i) on-polynomial)
 
   opening-other : (k : ℕ) (mail : List ℕ) → k ≢ multiplies plan + 2 → openingCheck plan i k mail ≡ Passed
   unfolding openingCheck

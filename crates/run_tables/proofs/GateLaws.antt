@@ -20,7 +20,7 @@ use Rattle.numbers.proofs.Truth.{both-true}
 use Rattle.field.specs.Mod.{add, mul}
 use Rattle.sharing_laws.specs.Poly.{eval}
 use Rattle.sharing_laws.specs.Interp.{weights}
-use Rattle.sharing.proofs.Coding.{map-tab}
+use Rattle.sharing_laws.proofs.Alls.{map-tab}
 use Rattle.sharing_openings.proofs.Rows.{weights-below}
 use Rattle.plan.specs.declared.Gate.{Gate}
 use Rattle.plan.specs.declared.Gate.the-variants.{Input, Add, Scale, Offset, Multiply}

@@ -1,7 +1,7 @@
 -- What each way through the checks of a call says of its definition.
 --     listing              a lent list: its count and its numbers
 --     stating              the state
---     opening, rowing      the search for an out whose shares don't lie on one polynomial
+--     opening, each, rowing     an out's shares, the outs one after the other, and the opening rows' room
 --     owning, mailing      refusals 9 to 13, and 17 to 20
 --     ordering             refusals 9 to 20
 -- Assumes nothing.
@@ -20,12 +20,12 @@ use mir.Syntax.{w64}
 use mir.Val.{Fits}
 use Rattle.numbers.specs.declared.Found.{Found}
 use Rattle.numbers.specs.declared.Found.the-variants.{At, Nothing}
-use Rattle.numbers.specs.Tables.{tab, firstFailing, countWhere}
+use Rattle.numbers.specs.Tables.{tab, countWhere}
 use Rattle.numbers.specs.Bytes.{numbers, holdsCount, firstOver, allBelow}
 use Rattle.numbers.proofs.Tables.{length-tab}
 use Rattle.numbers.proofs.Below.{firstOver-nothing}
-use Rattle.numbers.proofs.Searches.{Seeking, begin, found, passed, nothing}
 use Rattle.sharing_laws.specs.Sharing.{firstOff, openingRow, openingRows}
+use Rattle.sharing_laws.proofs.OffLine.{off-within}
 use Rattle.sharing_openings.proofs.Rows.{length-row, length-rows}
 use Rattle.plan.specs.declared.Header.{Header}
 use Rattle.plan.specs.declared.Checked.{Checked}
@@ -36,13 +36,13 @@ use Rattle.plan.specs.Refusals.{andThen, firstOf, need, unlessFound}
 use Rattle.plan.specs.Plans.{partyCount, deals, ownInputCount, ownCoinCount, ownOutCount, mailCount, writtenCount, multiplies}
 use Rattle.plan.specs.File.{between, planOf}
 use Rattle.plan.specs.Planned.{Planned}
-use Rattle.plan.proofs.Refusals.{andThen-passed, andThen-refused, andThen-end, firstOf-nil, firstOf-cons, firstOf-append, need-true, need-false, found-at, found-nothing, passed-both, passed-found}
+use Rattle.plan.proofs.Refusals.{andThen-passed, andThen-refused, andThen-end, firstOf-nil, firstOf-cons, firstOf-append, need-true, need-false, found-at, found-nothing, passed-both, passed-found, trying}
 use Rattle.plan.proofs.Planned.{plan-t, plan-p, plan-n, plan-points, plan-gates}
 use Rattle.plan.proofs.Valid.{planned-ready}
 use Rattle.seat_messages.specs.Messages.{sharesOfOut}
-use Rattle.seat_messages.specs.Calls.{nothingFound, openingCheck, partyChecks}
+use Rattle.seat_messages.specs.Calls.{onPolynomial, outsCheck, openingCheck, partyChecks}
 use Rattle.seat_messages.proofs.PointLaws.{first-points, points-below}
-use Rattle.seat_admission.specs.Parts.{listChecks, ownChecks, stateChecks, mailChecks, outsCheck, outLies, OwnOuts}
+use Rattle.seat_admission.specs.Parts.{listChecks, ownChecks, stateChecks, mailChecks, outCheck, OwnOuts}
 use Rattle.seat_results.proofs.ResultLaws.{shares-long, shares-below}
 
 -- ---- a lent list
@@ -108,21 +108,24 @@ module _ (h : Header) (own : ℕ) (o : OwnOuts h own) where
   pub gathered-below : (j : ℕ) (mail xs : List ℕ) → allBelow (h .field .p) mail ≡ true → xs ≡ sharesOfOut (h .n) own j mail → allBelow (h .field .p) xs ≡ true
   gathered-below j mail xs b e = rw e (shares-below (h .field .p) (h .n) own j mail (o .ready) b)
 
-module _ (h : Header) (own : ℕ) (mail : List ℕ) (j : ℕ) (s : Seeking (outLies h own mail) own j) where
-  module _ (points xs : List ℕ) (f : Found) (l : j < own) (is : points ≡ tab suc (h .n)) (e : xs ≡ sharesOfOut (h .n) own j mail) (ef : f ≡ firstOff (h .field .p) (h .t) points xs) where
-    lies : outLies h own mail j ≡ nothingFound f
-    unfolding outLies
-    lies = rw (ef, is, e)
+module _ (h : Header) (own : ℕ) (mail : List ℕ) (j : ℕ) (points xs : List ℕ) (f : Found) (is : points ≡ tab suc (h .n)) (e : xs ≡ sharesOfOut (h .n) own j mail) (ef : f ≡ firstOff (h .field .p) (h .t) points xs) where
+  out-is : outCheck h own mail j ≡ unlessFound (λ i. refusal.OffPolynomial (i + 1)) f
+  unfolding outCheck onPolynomial
+  out-is = rw (ef, is, e)
 
-    pub out-off : (i : ℕ) → f ≡ At i → At j ≡ firstFailing (outLies h own mail) own
-    unfolding nothingFound
-    out-off i q = found (outLies h own mail) own j s l (rw (lies, q))
+  pub out-off : (i : ℕ) → f ≡ At i → Refused (refusal.OffPolynomial (i + 1)) ≡ outCheck h own mail j
+  out-off i q = sym (out-is ∙ found-at (λ i. refusal.OffPolynomial (i + 1)) f i q)
 
-    pub out-on : f ≡ Nothing → Seeking (outLies h own mail) own (j + 1)
-    unfolding nothingFound
-    out-on q = passed (outLies h own mail) own j s l (rw (lies, q))
+  pub out-on : f ≡ Nothing → Passed ≡ outCheck h own mail j
+  out-on q = sym (out-is ∙ found-nothing (λ i. refusal.OffPolynomial (i + 1)) f q)
 
-pub ruleset opening = (needs, begin, nothing, shares-count, points-over, points-few, points-each, gathered-below, out-off, out-on)
+pub off-fits : (p t : ℕ) (points xs : List ℕ) (f : Found) (i : ℕ) → length points ≤ 65536 → f ≡ firstOff p t points xs → f ≡ At i → Fits w64 (i + 1)
+off-fits p t points xs f i l ef e = record { fits = omega (arith, off-within p t points xs i (sym ef ∙ e)) }
+
+pub ruleset opening = (needs, shares-count, points-over, points-few, points-each, gathered-below, off-fits, out-off, out-on)
+
+-- the party's own outs, one after the other
+pub ruleset each = (needs, trying)
 
 -- the room of the opening rows
 module _ (h : Header) (own : ℕ) (o : OwnOuts h own) where
@@ -174,26 +177,17 @@ pub ruleset rowing = (needs, used-fits, used-within, used-count, opened-below, p
 pub plan-own-outs : (bs : List ℕ) (h : Header) (own : ℕ) → Planned bs h → own ≤ 64 → OwnOuts h own
 plan-own-outs bs h own pl l = record { ready = planned-ready bs h pl; n-high = pl .n-high; majority = pl .majority; p-low = pl .p-low; own-high = l }
 
-search-off : ℕ → ℕ → List ℕ → ℕ → ℕ → List ℕ → Found
-search-off p t points n own mail = firstFailing (λ j. nothingFound (firstOff p t points (sharesOfOut n own j mail))) own
+outs-by : ℕ → ℕ → List ℕ → ℕ → ℕ → List ℕ → Checked
+outs-by p t points n own mail = firstOf (tab (λ j. onPolynomial p t points (sharesOfOut n own j mail)) own)
 
-same-search : {p q t u : ℕ} {xs ys : List ℕ} {n m a b : ℕ} → p ≡ q → t ≡ u → xs ≡ ys → n ≡ m → a ≡ b → (mail : List ℕ) → search-off p t xs n a mail ≡ search-off q u ys m b mail
-same-search ep et ex en ea mail = rw (ep, et, ex, en, ea)
+same-outs : {p q t u : ℕ} {xs ys : List ℕ} {n m a b : ℕ} → p ≡ q → t ≡ u → xs ≡ ys → n ≡ m → a ≡ b → (mail : List ℕ) → outs-by p t xs n a mail ≡ outs-by q u ys m b mail
+same-outs ep et ex en ea mail = rw (ep, et, ex, en, ea)
 
 module _ (bs : List ℕ) (h : Header) (pl : Planned bs h) (i : ℕ) where
   -- refusal 20
-  module _ (mail : List ℕ) (own : ℕ) (eo : own ≡ ownOutCount (planOf bs) i) (f : Found) (ef : f ≡ firstFailing (outLies h own mail) own) where
-    outs-search : outsCheck (planOf bs) i mail ≡ unlessFound refusal.OffPolynomial f
-    unfolding outsCheck outLies search-off
-    outs-search =
-        ap (unlessFound refusal.OffPolynomial)
-        (same-search (plan-p pl) (plan-t pl) (plan-points pl) (plan-n pl) (sym eo) mail ∙ sym ef)
-
-    pub outs-found : (j : ℕ) → f ≡ At j → Refused (refusal.OffPolynomial j) ≡ outsCheck (planOf bs) i mail
-    outs-found j e = sym (outs-search ∙ found-at refusal.OffPolynomial f j e)
-
-    pub outs-nothing : f ≡ Nothing → Passed ≡ outsCheck (planOf bs) i mail
-    outs-nothing e = sym (outs-search ∙ found-nothing refusal.OffPolynomial f e)
+  pub outs-are : (mail : List ℕ) (own : ℕ) → own ≡ ownOutCount (planOf bs) i → (r : Checked) → r ≡ firstOf (tab (outCheck h own mail) own) → r ≡ outsCheck (planOf bs) i mail
+  unfolding outsCheck outCheck outs-by
+  outs-are mail own eo r er = er ∙ sym (same-outs (plan-p pl) (plan-t pl) (plan-points pl) (plan-n pl) (sym eo) mail)
 
   -- refusals 9 to 13
   module _ (inputs coins : List ℕ) where
@@ -240,7 +234,7 @@ module _ (bs : List ℕ) (h : Header) (pl : Planned bs h) (i : ℕ) where
 pub coins-fit : (bs : List ℕ) (h : Header) → Planned bs h → (d : ℕ) → d ≤ 1024 → Fits w64 (h .t * d)
 coins-fit bs h pl d l = record { fits = omega (arith, mul-le-mul {n₁ = h .t} {m₁ = d} {n₂ = 15} {m₂ = 1024} (omega (arith, pl .majority, pl .n-high)) l) }
 
-pub ruleset owning = (needs, plan-own-outs, outs-found, outs-nothing, own-under, own-over, own-inputs, own-coins, coins-fit)
+pub ruleset owning = (needs, plan-own-outs, outs-are, own-under, own-over, own-inputs, own-coins, coins-fit)
 
 -- refusals 17 to 20
 pub list-below : (few : Refusal) (over : ℕ → Refusal) (p n : ℕ) (bs : List ℕ) (c : Checked) → c ≡ firstOf (listChecks few over p n bs) → c ≡ Passed → allBelow p (numbers bs) ≡ true
@@ -278,7 +272,7 @@ module _ (bs : List ℕ) (h : Header) (pl : Planned bs h) (i k : ℕ) (mail : Li
 
       module _ (q : room ≡ 2 * w) (m : ℕ) (em : m ≡ multiplies (planOf bs)) where
         last-parts : firstOf (mailChecks (planOf bs) i k mail room) ≡ cond (eqb k (m + 2)) (outsCheck (planOf bs) i (numbers mail)) Passed
-        unfolding openingCheck outsCheck
+        unfolding openingCheck
         last-parts =
             room-parts
             ∙ andThen-passed _ _ (need-true refusal.BufferLength (eqb room (2 * w)) (eq-eqb room (2 * w) q))

@@ -1,22 +1,21 @@
 -- Refusals 9 to 20 in parts: one list of checks for each thing that a call takes.
 use Prim.Native.Nat.{ℕ, suc, _+_, _*_, _≤_, _<_}
-use mathlib.Core.Bool.{Bool, not, _&&_}
+use mathlib.Core.Bool.{not, _&&_}
 use mathlib.Core.List.{List, [], _∷_, _++_}
 use lib.Dec.{eqb, leb}
 use lib.ListN.{drop, getD}
-use Rattle.numbers.specs.Tables.{tab, firstFailing}
+use Rattle.numbers.specs.Tables.{tab}
 use Rattle.numbers.specs.Bytes.{numbers, holdsCount, firstOver, allBelow}
-use Rattle.sharing_laws.specs.Sharing.{firstOff}
 use Rattle.field.specs.Field.{Ready}
 use Rattle.plan.specs.declared.Header.{Header}
 use Rattle.plan.specs.declared.Checked.{Checked}
 use Rattle.plan.specs.declared.Refusal.{Refusal}
 use Rattle.plan.specs.declared.Refusal.the-variants as refusal
 use Rattle.plan.specs.Refusals.{need, unlessFound}
-use Rattle.plan.specs.Plans.{Plan, partyCount, ownInputCount, ownCoinCount, ownOutCount, mailCount, writtenCount}
+use Rattle.plan.specs.Plans.{Plan, partyCount, ownInputCount, ownCoinCount, mailCount, writtenCount}
 use Rattle.plan.specs.File.{between}
 use Rattle.seat_messages.specs.Messages.{sharesOfOut}
-use Rattle.seat_messages.specs.Calls.{nothingFound, openingCheck}
+use Rattle.seat_messages.specs.Calls.{onPolynomial, openingCheck}
 
 -- the checks of a lent list: its count, then the first of its numbers that isn't below p
 unfoldable pub listChecks : Refusal → (ℕ → Refusal) → ℕ → ℕ → List ℕ → List Checked
@@ -45,16 +44,9 @@ mailChecks plan i k mail room =
     ∷ openingCheck plan i k (numbers mail)
     ∷ []
 
--- whether the n shares of a party's own out j lie on one polynomial of degree t or less
-unfoldable pub outLies : Header → ℕ → List ℕ → ℕ → Bool
-outLies h own mail j = nothingFound (firstOff (h .field .p) (h .t) (tab suc (h .n)) (sharesOfOut (h .n) own j mail))
-
--- refusal 20 of the last call
-unfoldable pub outsCheck : Plan → ℕ → List ℕ → Checked
-outsCheck plan i mail =
-    unlessFound refusal.OffPolynomial
-    (firstFailing (λ j. nothingFound (firstOff (plan .p) (plan .t) (plan .points) (sharesOfOut (partyCount plan) (ownOutCount plan i) j mail)))
-    (ownOutCount plan i))
+-- refusal 20 of a party's own out j
+unfoldable pub outCheck : Header → ℕ → List ℕ → ℕ → Checked
+outCheck h own mail j = onPolynomial (h .field .p) (h .t) (tab suc (h .n)) (sharesOfOut (h .n) own j mail)
 
 -- contents of a plan whose outs can be opened, and a party's number of outs
 pub record OwnOuts (h : Header) (own : ℕ) : Type 0 where

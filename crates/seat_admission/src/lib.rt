@@ -8,7 +8,7 @@ ghost use mathlib.Core.Path.{_≡_};
 ghost use mathlib.Core.Bool.{true};
 ghost use Prim.Native.Nat.{suc, _<_, _≤_, _+_, _*_};
 ghost use lib.ListN.{length};
-ghost use Rattle.numbers.specs.Tables.{tab, firstFailing};
+ghost use Rattle.numbers.specs.Tables.{tab};
 ghost use Rattle.numbers.specs.Bytes.{numbers, allBelow};
 ghost use Rattle.sharing_laws.specs.Sharing.{openingRows};
 ghost use Rattle.plan.specs.declared.Refusal.the-variants as refusal;
@@ -16,8 +16,8 @@ ghost use Rattle.plan.specs.Refusals.{firstOf};
 ghost use Rattle.plan.specs.File.{planOf};
 ghost use Rattle.plan.specs.Planned.{Planned};
 ghost use Rattle.plan_counts.specs.Counts.{Tallied};
-ghost use Rattle.seat_messages.specs.Calls.{partyChecks};
-ghost use Rattle.seat_admission.specs.Parts.{listChecks, ownChecks, stateChecks, mailChecks, outsCheck, outLies, OwnOuts};
+ghost use Rattle.seat_messages.specs.Calls.{outsCheck, partyChecks};
+ghost use Rattle.seat_admission.specs.Parts.{listChecks, ownChecks, stateChecks, mailChecks, outCheck, OwnOuts};
 
 // Refusals 10 and 11.
 pub fn check_inputs(inputs: &[u8], count: usize, p: u64) -> Checked
@@ -83,50 +83,67 @@ fn check_mail_list(mail: &[u8], count: usize, p: u64) -> Checked
 
 // ---- refusal 20
 
-// The first of a party's own outs whose shares don't lie on one polynomial, by the opening rows.
-fn first_off_out(h: Header, points: &[u64], rows: &[u64], own: usize, mail: &[u8]) -> Found
+// Refusal 20 of a party's own out j, by the opening rows: the place is the first party whose share is off.
+fn check_out(h: Header, points: &[u64], rows: &[u64], own: usize, j: usize, mail: &[u8]) -> Checked
+    requires { ⌜ OwnOuts h own ⌝ }
+    requires { ⌜ j < own ⌝ }
+    requires { ⌜ now points ≡ tab suc (h .n) ⌝ }
+    requires { ⌜ now rows ≡ openingRows (h .field .p) (h .t) (now points) ⌝ }
+    requires { ⌜ allBelow (h .field .p) (numbers (now mail)) ≡ true ⌝ }
+    ensures { λ r. ⌜ r ≡ outCheck h own (numbers (now (mail .entry))) j ⌝ }
+{
+    let n = h.n;
+    let shares = seat_results::shares_of_out(n, own, j, mail);
+    let off = sharing_openings::first_off_by(h.field, h.t, points, rows, &shares[..n]);
+    if let Found::At(i) = off {
+        let party = i + 1;
+        return Checked::Refused(Refusal::OffPolynomial(party));
+    }
+    Checked::Passed
+}
+
+// Refusal 20 of the first of a party's own outs that breaks, by the opening rows.
+fn check_each(h: Header, points: &[u64], rows: &[u64], own: usize, mail: &[u8]) -> Checked
     requires { ⌜ OwnOuts h own ⌝ }
     requires { ⌜ now points ≡ tab suc (h .n) ⌝ }
     requires { ⌜ now rows ≡ openingRows (h .field .p) (h .t) (now points) ⌝ }
     requires { ⌜ allBelow (h .field .p) (numbers (now mail)) ≡ true ⌝ }
-    ensures { λ r. ⌜ r ≡ firstFailing (outLies h own (numbers (now (mail .entry)))) own ⌝ }
+    ensures { λ r. ⌜ r ≡ firstOf (tab (outCheck h own (numbers (now (mail .entry)))) own) ⌝ }
 {
-    let n = h.n;
     let mut j: usize = 0;
     while j < own {
-        let shares = seat_results::shares_of_out(n, own, j, mail);
-        let off = sharing_openings::first_off_by(h.field, h.t, points, rows, &shares[..n]);
-        if let Found::At(_) = off {
-            return Found::At(j);
-        }
+        let c = check_out(h, points, rows, own, j, mail);
+        let Checked::Passed = c else {
+            return c;
+        };
         j += 1;
     }
-    Found::Nothing
+    Checked::Passed
 }
 
 // The same, with the opening rows worked in a room that is lent.
-fn first_off_in(h: Header, points: &[u64], room: &mut [u64], own: usize, mail: &[u8]) -> Found
+fn check_each_in(h: Header, points: &[u64], room: &mut [u64], own: usize, mail: &[u8]) -> Checked
     requires { ⌜ OwnOuts h own ⌝ }
     requires { ⌜ now points ≡ tab suc (h .n) ⌝ }
     requires { ⌜ length (now room) ≡ 120 ⌝ }
     requires { ⌜ allBelow (h .field .p) (numbers (now mail)) ≡ true ⌝ }
-    ensures { λ r. ⌜ r ≡ firstFailing (outLies h own (numbers (now (mail .entry)))) own ⌝ }
+    ensures { λ r. ⌜ r ≡ firstOf (tab (outCheck h own (numbers (now (mail .entry)))) own) ⌝ }
 {
     let used = (h.t + 1) * h.n;
     sharing_openings::opening_rows(h.field, h.t, points, &mut room[..used]);
-    first_off_out(h, points, &room[..used], own, mail)
+    check_each(h, points, &room[..used], own, mail)
 }
 
-// The first of a party's own outs whose shares don't lie on one polynomial.
-fn first_off_of(h: Header, own: usize, mail: &[u8]) -> Found
+// The same from the plan's header alone.
+fn check_each_of(h: Header, own: usize, mail: &[u8]) -> Checked
     requires { ⌜ OwnOuts h own ⌝ }
     requires { ⌜ allBelow (h .field .p) (numbers (now mail)) ≡ true ⌝ }
-    ensures { λ r. ⌜ r ≡ firstFailing (outLies h own (numbers (now (mail .entry)))) own ⌝ }
+    ensures { λ r. ⌜ r ≡ firstOf (tab (outCheck h own (numbers (now (mail .entry)))) own) ⌝ }
 {
     let n = h.n;
     let points = seat_messages::points();
     let mut room: [u64; 120] = [0; 120];
-    first_off_in(h, &points[..n], &mut room, own, mail)
+    check_each_in(h, &points[..n], &mut room, own, mail)
 }
 
 // Refusal 20 of the last call, which has passed refusal 18.
@@ -136,10 +153,7 @@ fn check_outs(plan: &[u8], h: Header, i: usize, mail: &[u8]) -> Checked
     ensures { λ r. ⌜ r ≡ outsCheck (planOf (now (plan .entry))) i (numbers (now (mail .entry))) ⌝ }
 {
     let own = plan_sizes::own_out_count(plan, h, i);
-    if let Found::At(j) = first_off_of(h, own, mail) {
-        return Checked::Refused(Refusal::OffPolynomial(j));
-    }
-    Checked::Passed
+    check_each_of(h, own, mail)
 }
 
 // ---- the checks in their order

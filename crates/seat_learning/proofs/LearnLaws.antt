@@ -29,7 +29,7 @@ use Rattle.field.specs.Field.{Is, Ready}
 use Rattle.sharing_laws.specs.Interp.{weights, dot, interpolate}
 use Rattle.sharing_laws.specs.Sharing.{opened}
 use Rattle.sharing_openings.specs.Openable.{Openable}
-use Rattle.sharing_openings.proofs.Rows.{length-weights}
+use Rattle.sharing_laws.proofs.Interpolation.{length-weights}
 use Rattle.sharing.proofs.Coding.{entry-below}
 use Rattle.seat_messages.proofs.PointLaws.{first-points, points-below}
 use Rattle.plan.specs.declared.Gate.{Gate}

@@ -4,9 +4,7 @@ use mathlib.Core.Bool.{Bool, true, false, cond, not, _&&_}
 use mathlib.Core.List.{List, [], _∷_, _++_, flatMap}
 use lib.Dec.{eqb, leb, ltb}
 use lib.ListN.{length, drop, getD}
-use Rattle.numbers.specs.declared.Found.{Found}
-use Rattle.numbers.specs.declared.Found.the-variants.{At, Nothing}
-use Rattle.numbers.specs.Tables.{firstFailing}
+use Rattle.numbers.specs.Tables.{tab}
 use Rattle.numbers.specs.Bytes.{numbers, bytesOf, holdsCount, firstOver, allBelow}
 use Rattle.sharing_laws.specs.Sharing.{firstOff}
 use Rattle.plan.specs.declared.Checked.{Checked}
@@ -17,18 +15,20 @@ use Rattle.plan.specs.Plans.{Plan, partyCount, multiplies, ownInputCount, ownCo
 use Rattle.plan.specs.File.{between, planChecks, planOf}
 use Rattle.seat_messages.specs.Messages.{Called, call, sharesOfOut}
 
-unfoldable pub nothingFound : Found → Bool
-nothingFound (At i) = false
-nothingFound Nothing = true
+-- refusal 20 of one out: its place is the first party, counted from 1, whose share isn't on the polynomial through those of parties 1 to t + 1
+unfoldable pub onPolynomial : ℕ → ℕ → List ℕ → List ℕ → Checked
+onPolynomial p t points shares = unlessFound (λ i. refusal.OffPolynomial (i + 1)) (firstOff p t points shares)
 
--- refusal 20: the first of the party's own outs whose shares don't lie on one polynomial of degree t or less
+-- refusal 20 of the last call: that of the first of the party's own outs that breaks
+unfoldable pub outsCheck : Plan → ℕ → List ℕ → Checked
+outsCheck plan i mail =
+    firstOf
+    (tab (λ j. onPolynomial (plan .p) (plan .t) (plan .points) (sharesOfOut (partyCount plan) (ownOutCount plan i) j mail))
+    (ownOutCount plan i))
+
+-- refusal 20 of call k
 unfoldable pub openingCheck : Plan → ℕ → ℕ → List ℕ → Checked
-openingCheck plan i k mail =
-    cond (eqb k (multiplies plan + 2))
-    (unlessFound refusal.OffPolynomial
-    (firstFailing (λ j. nothingFound (firstOff (plan .p) (plan .t) (plan .points) (sharesOfOut (partyCount plan) (ownOutCount plan i) j mail)))
-    (ownOutCount plan i)))
-    Passed
+openingCheck plan i k mail = cond (eqb k (multiplies plan + 2)) (outsCheck plan i mail) Passed
 
 -- refusals 9 to 20 of party i's call; the lists are lent as bytes, and `room` is the length of the buffer to be written
 unfoldable pub partyChecks : Plan → ℕ → List ℕ → List ℕ → List ℕ → List ℕ → ℕ → List Checked

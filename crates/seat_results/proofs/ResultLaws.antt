@@ -22,7 +22,8 @@ use Rattle.field.specs.Field.{Is, Ready}
 use Rattle.sharing_laws.specs.Interp.{weights, dot, interpolate}
 use Rattle.sharing_laws.specs.Sharing.{opened}
 use Rattle.sharing.proofs.Coding.{entry-below}
-use Rattle.sharing_openings.proofs.Rows.{weights-below, length-weights}
+use Rattle.sharing_laws.proofs.Interpolation.{length-weights}
+use Rattle.sharing_openings.proofs.Rows.{weights-below}
 use Rattle.plan.specs.declared.Header.{Header}
 use Rattle.plan.specs.File.{planOf}
 use Rattle.plan.specs.Planned.{Planned}

@@ -12,24 +12,23 @@ use native.Mathlib.Numerals.{add-one}
 use native.Mathlib.Nat.{mod-lt, mul-le-mul, mul-le-mul-right, add-mul}
 use native.Mathlib.Omega.{arith}
 use borrow.Author.Needs.{needs}
-use borrow.Author.Tests.{ltb-true, ltb-false, lt-ltb}
+use borrow.Author.Tests.{ltb-true, ltb-false}
 use lib.Dec.{ltb}
 use lib.ListN.{length, drop, getD, List·getD-eq-default, drop-of-length-le}
 use lib.Seq.{drop-cons, drop-length}
 use Rattle.numbers.specs.Tables.{tab}
 use Rattle.numbers.specs.Bytes.{allBelow}
-use Rattle.numbers.proofs.Tables.{list-tab, tab-map}
 use Rattle.numbers.proofs.Below.{allBelow-at, allBelow-drop}
 use Rattle.numbers.proofs.Fills.{Filled, filling, filled}
 use Rattle.field.specs.Mod.{add, mul}
 use Rattle.field.specs.Prime.{Prime}
 use Rattle.field.specs.Field.{Below2, Is, reciprocal, Reducible, Ready}
-use Rattle.field.proofs.Solve.{Canon, zero-canon, Same, same, turn, _⨾_, plus, mul-same, add-same, mod-canon, add-canon, canon-same, canon-lt, mod-same}
+use Rattle.field.proofs.Solve.{Canon, zero-canon, Same, same, turn, _⨾_, plus, mul-same, add-same, mod-canon, add-canon, canon-same, mod-same}
 use Rattle.field.proofs.Products.{word}
 use Rattle.sharing_laws.specs.Poly.{eval}
 use Rattle.sharing_laws.specs.Interp.{dot, plainSum}
 use Rattle.sharing_laws.specs.Sharing.{deal}
-use Rattle.sharing_laws.proofs.Polys.{eval-canon}
+use Rattle.sharing_laws.proofs.Alls.{map-tab}
 
 -- ---- lists of elements
 -- every entry of a list of elements is one, and so is the 0 past its end
@@ -39,14 +38,6 @@ below-by p xs i pos h false e = rw (List·getD-eq-default xs 0 {n = i} (ltb-fals
 
 pub entry-below : (p : ℕ) (xs : List ℕ) (i : ℕ) → Ready p → allBelow p xs ≡ true → getD xs i 0 < p
 entry-below p xs i r h = below-by p xs i (omega (arith, r .prime .above)) h (ltb i (length xs)) refl
-
-pub map-below : (p : ℕ) (f : ℕ → ℕ) (xs : List ℕ) → ((x : ℕ) → f x < p) → allBelow p (map f xs) ≡ true
-unfolding allBelow
-map-below p f [] h = refl
-map-below p f (x ∷ xs) h = rw (lt-ltb (f x) p (h x)) (map-below p f xs h)
-
-pub values-below : (p : ℕ) → 0 < p → (f xs : List ℕ) → allBelow p (map (eval p f) xs) ≡ true
-values-below p pos f xs = map-below p (eval p f) xs (λ x. canon-lt pos (eval-canon f x))
 
 -- ---- the value of a polynomial
 -- one remainder for a step
@@ -87,9 +78,6 @@ module _ (p : ℕ) (f : List ℕ) (x : ℕ) where
 pub ruleset valuing = (needs, value-none, value-more, value-whole, step-fits, product-fits)
 
 -- ---- the values at the points
-pub map-tab : (f : ℕ → ℕ) (xs : List ℕ) → map f xs ≡ tab (λ i. f (getD xs i 0)) (length xs)
-map-tab f xs = ap (map f) (list-tab xs 0) ∙ tab-map f (λ i. getD xs i 0) (length xs)
-
 pub filled-map : (f : ℕ → ℕ) (xs d₀ d : List ℕ) (i : ℕ) → length d₀ ≡ length xs → length xs ≤ i → Filled (λ k. f (getD xs k 0)) d₀ d i → d ≡ map f xs
 filled-map f xs d₀ d i e l h = filled (λ k. f (getD xs k 0)) d₀ d i (omega (arith, h .long)) h ∙ ap (tab (λ k. f (getD xs k 0))) e ∙ sym (map-tab f xs)
 

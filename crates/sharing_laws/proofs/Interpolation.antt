@@ -6,7 +6,7 @@ use mathlib.Core.List.{List, [], _∷_, _++_, map}
 use Prim.Native.Nat.{ℕ, zero, suc, _+_, _*_, _-_, _%_, _≤_, _<_}
 use native.Mathlib.Omega.{arith}
 use lib.Dec.{T, eqb, eqb→eq, eqb-refl}
-use lib.ListN.{length}
+use lib.ListN.{length, length-map}
 use Rattle.field.proofs.Solve.{Canon, Same, same, turn, _⨾_, plus, cancel, add-same, sub-same, zero-canon, add-canon, mul-canon, mod-canon, canon-same, #, quote, solve, combine}
 use Rattle.field.proofs.Inverse.{inv-law, pos, one-canon, no-zero-divisor, mul-cancel, sub-nonzero}
 use Rattle.sharing_laws.proofs.Polys.{eval-canon, quotient, length-quotient, division, tailsAt}
@@ -14,6 +14,10 @@ use Rattle.field.specs.Mod.{add, mul, sub}
 use Rattle.field.specs.Prime.{Prime, inv}
 use Rattle.sharing_laws.specs.Poly.{eval}
 use Rattle.sharing_laws.specs.Interp.{factor, weight, weights, dot, interpolate, All, Distinct}
+
+pub length-weights : (p z : ℕ) (xs : List ℕ) → length (weights p z xs) ≡ length xs
+unfolding weights
+length-weights p z xs = length-map xs (weight p z xs)
 
 -- the weighted sum of h over the points xs, each with its weight among ys
 part : ℕ → ℕ → List ℕ → (ℕ → ℕ) → List ℕ → ℕ

@@ -6,3 +6,4 @@ pub mod Shares
 pub mod Worked
 pub mod Elements
 pub mod Alls
+pub mod OffLine

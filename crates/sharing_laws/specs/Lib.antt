@@ -1,3 +1,4 @@
 pub mod Poly
 pub mod Interp
 pub mod Sharing
+pub mod OffLine

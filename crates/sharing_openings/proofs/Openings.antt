@@ -14,11 +14,14 @@ use lib.Seq.{take-at, length-take-le}
 use mir.Syntax.{w64}
 use mir.Val.{Fits}
 use Rattle.numbers.specs.Bytes.{allBelow}
+use Rattle.numbers.proofs.Below.{allBelow-take}
 use Rattle.field.specs.Field.{Is}
 use Rattle.sharing_laws.specs.Interp.{weights, dot, interpolate}
 use Rattle.sharing_laws.specs.Sharing.{opened, openingRow, openingRows}
 use Rattle.sharing_openings.specs.Openable.{Openable}
-use Rattle.sharing_openings.proofs.Rows.{take-below, weights-below, length-weights, length-first, length-row, length-rows}
+use Rattle.sharing_laws.proofs.Alls.{length-first}
+use Rattle.sharing_laws.proofs.Interpolation.{length-weights}
+use Rattle.sharing_openings.proofs.Rows.{weights-below, length-row, length-rows}
 
 -- ---- an opening
 module _ (p t : ℕ) (points shares room : List ℕ) (o : Openable p t points shares) (size : length room ≡ 15) where
@@ -51,7 +54,7 @@ module _ (p t : ℕ) (points shares room ys : List ℕ) (o : Openable p t points
   unfolding opened interpolate
   opened-is r e = record { eq = e .eq ∙ ap (λ (ws : List ℕ). dot p ws shares) (front ∙ is); lt = e .lt }
 
-pub ruleset opening = (needs, take-below, length-first, room-first, room-sized, front-long, front-below, front-short, front-small, opened-is)
+pub ruleset opening = (needs, allBelow-take, length-first, room-first, room-sized, front-long, front-below, front-short, front-small, opened-is)
 
 -- ---- its check
 module _ (p t : ℕ) (points shares : List ℕ) (o : Openable p t points shares) where

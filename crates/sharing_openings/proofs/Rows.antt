@@ -5,24 +5,23 @@
 -- Assumes nothing.
 use mathlib.Core.Path.{_≡_, refl, sym, ap, _∙_}
 use mathlib.Core.Logic.{⊎-elim}
-use mathlib.Core.Bool.{Bool, true, false}
-use mathlib.Core.List.{List, [], _∷_, _++_, map}
+use mathlib.Core.Bool.{true}
+use mathlib.Core.List.{List, [], _++_}
 use Prim.Native.Nat.{ℕ, zero, suc, _+_, _-_, _*_, _%_, _^_, _<_, _≤_}
 use native.Mathlib.Numerals.{add-one}
 use native.Mathlib.Nat.{mul-le-mul-left, mul-suc, add-sub-cancel-left, eq-or-lt-of-le}
 use native.Mathlib.Omega.{arith}
 use borrow.Author.Needs.{needs}
 use borrow.Author.Tests.{eq-eqb, ne-eqb}
-use lib.Dec.{eqb}
-use lib.ListN.{length, take, drop, getD, length-append, length-take, length-drop, length-map}
-use lib.Seq.{take-all, take-append-add, take-append-le, drop-append-le, drop-at, take-at, getD-take, length-take-le}
+use lib.ListN.{length, take, drop, getD, length-append, length-drop}
+use lib.Seq.{take-all, take-append-add, take-append-le, drop-append-le, drop-at, take-at, length-take-le}
 use mir.Syntax.{w64}
 use mir.Val.{Fits}
 use Rattle.numbers.specs.Bytes.{allBelow}
 use Rattle.numbers.specs.declared.Found.{Found}
 use Rattle.numbers.specs.declared.Found.the-variants.{At, Nothing}
 use Rattle.numbers.proofs.Tables.{row-room}
-use Rattle.numbers.proofs.Below.{allBelow-at, at-allBelow}
+use Rattle.numbers.proofs.Below.{allBelow-take}
 use Rattle.numbers.proofs.Searches.{Seeking, begin, found, passed, nothing}
 use Rattle.field.specs.Mod.{mul}
 use Rattle.field.specs.Prime.{Prime}
@@ -31,31 +30,20 @@ use Rattle.field.proofs.Solve.{canon-lt}
 use Rattle.field.proofs.Inverse.{pos}
 use Rattle.sharing_laws.specs.Interp.{weight, weights, dot, interpolate}
 use Rattle.sharing_laws.specs.Sharing.{opened, firstOff, rowsOf, openingRow, openingRows}
-use Rattle.sharing.proofs.Coding.{entry-below, map-below}
+use Rattle.sharing_laws.proofs.Alls.{length-first, map-below}
+use Rattle.sharing_laws.proofs.Interpolation.{length-weights}
+use Rattle.sharing_laws.proofs.OffLine.{agrees}
+use Rattle.sharing.proofs.Coding.{entry-below}
 use Rattle.sharing.proofs.Weighing.{weight-canon}
 
 -- ---- lists of elements
-pub take-below : (p n : ℕ) (xs : List ℕ) → allBelow p xs ≡ true → allBelow p (take n xs) ≡ true
-take-below p n xs h = at-allBelow p (take n xs) (λ i l. below-at i l)
-  where
-    below-at : (i : ℕ) → i < length (take n xs) → getD (take n xs) i 0 < p
-    below-at i l = rw (getD-take n xs i 0 (omega (arith, length-take n xs))) (allBelow-at p xs i h (omega (arith, length-take n xs)))
-
 pub weights-below : {p : ℕ} → Prime p → (z : ℕ) (xs : List ℕ) → allBelow p (weights p z xs) ≡ true
 unfolding weights
 weights-below {p} prime z xs = map-below p (weight p z xs) xs (λ x. canon-lt (pos prime) (weight-canon prime z xs x))
 
-pub length-weights : (p z : ℕ) (xs : List ℕ) → length (weights p z xs) ≡ length xs
-unfolding weights
-length-weights p z xs = length-map xs (weight p z xs)
-
 pub length-row : (p t : ℕ) (points : List ℕ) (i : ℕ) → t < length points → length (openingRow p t points i) ≡ t + 1
 unfolding openingRow
 length-row p t points i l = length-weights p (getD points i 0) (take (t + 1) points) ∙ length-take-le (t + 1) points (omega arith)
-
--- the first t + 1 points
-pub length-first : (t : ℕ) (points : List ℕ) → t < length points → length (take (t + 1) points) ≡ t + 1
-length-first t points l = length-take-le (t + 1) points (omega arith)
 
 -- ---- the loop that writes rows of k entries: j of them stand, and `at` is past them
 pub record Written (g : ℕ → List ℕ) (k n : ℕ) (d₀ d : List ℕ) (at j : ℕ) : Type 0 where
@@ -129,7 +117,7 @@ module _ (p t : ℕ) (points d₀ d : List ℕ) (at i : ℕ) (h : Written (openi
   unfolding openingRows
   rows-written l = written-done (openingRow p t points) (t + 1) (length points) d₀ d at i l h
 
-pub ruleset writing = (needs, entry-below, take-below, none-written, room, row-fits, place-fits, length-first, row-sized, row-written, rows-written)
+pub ruleset writing = (needs, entry-below, allBelow-take, none-written, room, row-fits, place-fits, length-first, row-sized, row-written, rows-written)
 
 -- ---- a row of the table
 module _ (g : ℕ → List ℕ) (k : ℕ) (each : (j : ℕ) → length (g j) ≡ k) where
@@ -153,10 +141,6 @@ module _ (g : ℕ → List ℕ) (k : ℕ) (each : (j : ℕ) → length (g j) ≡
   row-at (suc n) i l = ⊎-elim (λ (e : i ≡ n). rw e (row-last n)) (λ (m : i < n). row-before n i m (row-at n i m)) (eq-or-lt-of-le {n = i} {m = n} (omega arith))
 
 -- ---- the loop over the parties
--- the share of party i is the one that the first t + 1 shares give
-abbrev pub agrees : ℕ → ℕ → List ℕ → List ℕ → ℕ → Bool
-agrees p t points shares i = eqb (getD shares i 0) (interpolate p (getD points i 0) (take (t + 1) points) shares)
-
 pub record Checked (p t : ℕ) (points shares : List ℕ) (at i : ℕ) : Type 0 where
   pub place : at ≡ (t + 1) * i
   pub seek : Seeking (agrees p t points shares) (length points) i

@@ -101,16 +101,19 @@ fn work(plan: &Plan, call: usize, shares: &mut [u16]) {
     }
 }
 
-/// The last call: each own out's value from its n shares, which must lie on one polynomial of degree t.
+/// The last call: each own out's value from its n shares, which must lie on one polynomial of degree t; else the place
+/// is the first seat that is not on the one through seats 1 to t + 1.
 fn results(plan: &Plan, seat: u16, mail: &[u16]) -> Result<Vec<u16>, Refusal> {
     let own = plan.outs_of(seat).count();
     let basis = plan.t + 1;
     let weights: Vec<Vec<u16>> = (0..=plan.n).map(|x| plan.field.weights(basis as u16, x)).collect();
     let mut results = Vec::with_capacity(own);
-    for place in 0..own {
-        let shares: Vec<u16> = mail.iter().copied().skip(place).step_by(own).collect();
+    for out in 0..own {
+        let shares: Vec<u16> = mail.iter().copied().skip(out).step_by(own).collect();
         let at = |x: usize| plan.field.dot(0, &weights[x], &shares[..basis]);
-        require((1..=usize::from(plan.n)).all(|x| at(x) == shares[x - 1]), 20, place)?;
+        if let Some(off) = (1..=usize::from(plan.n)).find(|&x| at(x) != shares[x - 1]) {
+            return Err(Refusal { number: 20, place: off });
+        }
         results.push(at(0));
     }
     Ok(results)

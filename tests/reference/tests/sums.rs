@@ -136,7 +136,7 @@ fn shares_off_the_polynomial() {
         let result = seat_call(&k(), 3, &[], &bytes(&[7]), &mut state, &bytes(&mail), &mut out);
         (result, state.clone(), out)
     };
-    assert_eq!(call([10, 7, 5]), (refused(20, 0), before.clone(), [9, 9]));
+    assert_eq!(call([10, 7, 5]), (refused(20, 3), before.clone(), [9, 9]));
     let mut after = before;
     after[0] = 4;
     assert_eq!(call([10, 7, 4]), (Ok(()), after.clone(), [2, 0]));

@@ -521,6 +521,34 @@ fn plans(random: &mut Random, tally: &mut Tally, world: &World) {
     tally.compare(&Case::Check { plan: filler(random, length) }, None);
 }
 
+/// Compares a last call in which a share of a seat above t + 1 is wrong, in one of the caller's outs, and perhaps
+/// others: of seats after that one, and any in later outs. The place must be that seat's number.
+fn off_line(random: &mut Random, tally: &mut Tally, case: &Case, plan: &Plan) {
+    let (seats, above) = (usize::from(plan.n), plan.t + 2);
+    let mut off = case.clone();
+    let Case::Call { mail, .. } = &mut off else { return };
+    let own = mail.len() / 2 / seats;
+    if own == 0 || above > seats {
+        return;
+    }
+    let (out, seat) = (random.below(own), random.range(above, seats));
+    for i in 0..own * seats {
+        let (j, x) = (i % own, i / own + 1);
+        let also = j == out && x > seat || j > out;
+        if j == out && x == seat || also && random.once_in(2) {
+            let change = random.range(1, usize::from(plan.field.p()) - 1) as u16;
+            let share = plan.field.add(number(mail, 2 * i), change);
+            put(mail, 2 * i, share);
+        }
+    }
+    tally.compare(&off, Some(20));
+    let place = off.make(&REFERENCE).0 >> 8;
+    if place != seat as u64 {
+        tally.differences += 1;
+        println!("DIFFERENCE: seat {seat} is off and {place} is told: {}", off.text());
+    }
+}
+
 /// Compares seat calls: as they come in a run, damaged, and from states and mail that no run gives.
 fn calls(random: &mut Random, tally: &mut Tally, world: &World, often: usize) {
     let (plan, p) = (&world.plan, world.plan.field.p());
@@ -546,6 +574,7 @@ fn calls(random: &mut Random, tally: &mut Tally, world: &World, often: usize) {
             if damage(random, &mut off, plan, 20) {
                 tally.compare(&off, Some(20));
             }
+            off_line(&mut Random(random.0), tally, &case, plan);
         }
     }
     for _ in 0..often {

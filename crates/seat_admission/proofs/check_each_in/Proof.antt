@@ -1,6 +1,6 @@
 use Rattle.seat_admission.proofs.CheckLaws.{rowing}
-use Rattle.seat_admission.proofs.first_off_in.Statement.{statement}
-use Rattle.seat_admission.proofs.first_off_in.Tie as tie
+use Rattle.seat_admission.proofs.check_each_in.Statement.{statement}
+use Rattle.seat_admission.proofs.check_each_in.Tie as tie
 
 add-used : tie.Need-add-used
 add-used c = search rowing
@@ -17,14 +17,14 @@ slice-aggregate-opening-rows c = search rowing
 opening-rows-requires : tie.Need-opening-rows-requires
 opening-rows-requires c κs = (search rowing, (search rowing, (search rowing, search rowing)))
 
-slice-reshare-prefix-first-off-out : tie.Need-slice-reshare-prefix-first-off-out
-slice-reshare-prefix-first-off-out c = search rowing
+slice-reshare-prefix-check-each : tie.Need-slice-reshare-prefix-check-each
+slice-reshare-prefix-check-each c = search rowing
 
-slice-aggregate-first-off-out : tie.Need-slice-aggregate-first-off-out
-slice-aggregate-first-off-out c = search rowing
+slice-aggregate-check-each : tie.Need-slice-aggregate-check-each
+slice-aggregate-check-each c = search rowing
 
-first-off-out-requires : tie.Need-first-off-out-requires
-first-off-out-requires c κs = (search rowing, (search rowing, (search rowing, search rowing)))
+check-each-requires : tie.Need-check-each-requires
+check-each-requires c κs = (search rowing, (search rowing, (search rowing, search rowing)))
 
 same-length : tie.Need-same-length
 same-length c = search rowing
@@ -32,8 +32,8 @@ same-length c = search rowing
 returns : tie.Need-returns
 returns c = search rowing
 
-pub first-off-in-spec : {M : Type 1} → statement M
-first-off-in-spec =
+pub check-each-in-spec : {M : Type 1} → statement M
+check-each-in-spec =
     tie.close
     (tie.spec
     add-used
@@ -41,8 +41,8 @@ first-off-in-spec =
     slice-relend-prefix-opening-rows
     slice-aggregate-opening-rows
     opening-rows-requires
-    slice-reshare-prefix-first-off-out
-    slice-aggregate-first-off-out
-    first-off-out-requires
+    slice-reshare-prefix-check-each
+    slice-aggregate-check-each
+    check-each-requires
     same-length
     returns)
