@@ -39,9 +39,13 @@ $(LIBRARY): crates.txt $(shell find crates -name '*.rt' -o -name '*.antt')
 host: target/host/seat
 	@:
 
-target/host/seat: host/seat.c command/lists.c command/lists.h include/pool.h include/pool_refusals.h $(LIBRARY)
+# of the pool command it has the lists and what a plan says
+HOST = $(wildcard host/*.c) $(addprefix command/,lists.c plan.c input.c output.c)
+
+target/host/seat: Makefile $(HOST) $(wildcard host/*.h command/*.h) include/pool.h include/pool_refusals.h $(LIBRARY)
+	@tools/openssl
 	@mkdir -p target/host
-	@$(COMPILE) -pthread -o $@ host/seat.c command/lists.c $(LIBRARY)
+	@$(COMPILE) $$(pkg-config --cflags openssl) -pthread -o $@ $(HOST) $(LIBRARY) $$(pkg-config --libs openssl)
 
 # the pool command
 pool: target/pool

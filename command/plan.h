@@ -1,4 +1,5 @@
-/* A plan as it is shown to people. The library has checked it; what is read here is only printed, and says to whom a figure belongs. */
+/* A plan as it is shown to people. The library has checked it; what is read here is printed, and says to whom a figure belongs. The host takes
+ * a plan's seats, prime, calls and sizes from here. */
 #ifndef PLAN_H
 #define PLAN_H
 

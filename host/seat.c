@@ -1,459 +1,430 @@
-/* One seat of a plan as a process: it makes its calls from 0 to its last and carries mail over Unix domain sockets.
+/* One seat of a run as a process: it makes its calls from the first to the last, asks the other seats for mail, and answers them.
  *
- *     seat PLAN SEAT FIGURES COINS HOME MAIL
- *
- * PLAN     the plan file, the same for every seat
- * SEAT     this seat's number, 1 to n
- * FIGURES  this seat's own figures, decimal numbers in a text file
- * COINS    this seat's own coins, likewise; where there is no such file, fresh coins are drawn from the operating system's random source
- *          and kept there
- * HOME     a folder of this seat alone: its record (state, outgoing mail) and, at the end, its results
- * MAIL     a folder that all seats share: each listens there
- *
- * A seat that was killed goes on where it was when it is started again with the same arguments. Its record is replaced as a whole after
- * each call, before anybody can fetch the mail of that call. Other seats are at most one round ahead, so the record keeps the outgoing mail
- * of the last two calls. A seat ends when every other seat has finished and knows that this one has; it leaves the file `finished-SEAT` in
- * the mail folder, for a seat that was killed while it waited for the others. Each run takes a mail folder of its own. */
+ * A seat that was killed goes on where it was when it is started again. Its record is on the disk before anybody can fetch the mail of its
+ * last call, so that at most a call is repeated that nobody saw. It makes a call as soon as all mail for it is there; a seat that sends it
+ * nothing in a round is not asked. It keeps what it sent until all seats have their results: only then is nobody behind who may ask. */
 #include <errno.h>
-#include <fcntl.h>
+#include <openssl/rand.h>
 #include <poll.h>
 #include <pthread.h>
+#include <signal.h>
 #include <stdarg.h>
-#include <stdbool.h>
-#include <stdint.h>
 #include <stdio.h>
 #include <stdlib.h>
 #include <string.h>
-#include <sys/socket.h>
+#include <sys/resource.h>
 #include <sys/stat.h>
-#include <sys/time.h>
-#include <sys/un.h>
+#include <time.h>
 #include <unistd.h>
 
-#include "lists.h"
+#include "command.h"
+#include "mail.h"
+#include "plan.h"
 #include "pool.h"
+#include "record.h"
 
-enum { MAX_SEATS = 15, RETRY_MS = 20, TIMEOUT_S = 5, OFF_POLYNOMIAL = 20 };
+enum { DAY = 24 * 60 * 60, KEY_DAYS = 730, LEAVE_MS = 3000, SAY_MS = 2000, OFF_POLYNOMIAL = 20 };
 
-static struct bytes plan, figures, coins;
-static unsigned seat, seats;
-static uint64_t calls; /* M + 3 */
-static const char *home, *mail_folder;
+static const char help[] =
+    "seat DESCRIPTION KEY HOME [--listen ADDRESS PORT]\n"
+    "        takes part in a run: goes on where it was, and ends when every seat has finished\n"
+    "seat --make-key KEY\n"
+    "        makes a key and a certificate in the folder KEY, and prints the fingerprint\n"
+    "seat --fingerprint KEY\n"
+    "        prints the fingerprint again\n"
+    "\n"
+    "DESCRIPTION  the run's description, the same for every seat:\n"
+    "               run   NAME\n"
+    "               plan  FILE SHA-256\n"
+    "               seat  NUMBER ADDRESS PORT FINGERPRINT    a line for each seat\n"
+    "KEY          the folder of this plant's key.pem and certificate.pem; which seat it is, the\n"
+    "             certificate's fingerprint says\n"
+    "HOME         a folder for this seat and this run alone. Put its figures there, decimal, in the\n"
+    "             file `figures`; its results will stand in the file `results`\n"
+    "--listen     where to take calls, if not at this seat's address and port in the description\n"
+    "\n"
+    "Exit status: 0 done; 1 refused; 2 the words, the description or a list are not understood;\n"
+    "3 a file, an address or memory that the system does not give.\n";
 
-/* The record: what a killed seat needs to go on. The server thread reads it, so it changes under the lock. */
+static struct description run;
+static struct plan plan;
+static struct record record; /* changes under the lock */
+static unsigned sure;        /* likewise; bit i - 1: seat i knows that this seat knows that all have their results */
 static pthread_mutex_t lock = PTHREAD_MUTEX_INITIALIZER;
-static struct bytes state;
-static struct bytes outgoing[2]; /* of call `next` - 1, and of the one before */
-static uint16_t done;            /* bit i - 1: seat i has finished and this seat knows it */
+static pthread_cond_t changed; /* the record, or sure */
 
-_Noreturn void fail(enum fault fault, const char *format, ...)
+/* ---- words for a person */
+
+static void say_with(const char *format, va_list args)
 {
-    (void)fault;
-    va_list args;
-    va_start(args, format);
-    fprintf(stderr, "seat %u: ", seat);
-    vfprintf(stderr, format, args);
-    fputc('\n', stderr);
-    va_end(args);
-    exit(1);
+    char words[1024], who[16] = "";
+    vsnprintf(words, sizeof words, format, args);
+    if (record.seat)
+        snprintf(who, sizeof who, " %u", record.seat);
+    fprintf(stderr, "seat%s: %s\n", who, words);
 }
 
-/* Ends the program with a refusal in words; with 20 they say at which seat to look. */
+void say(const char *format, ...)
+{
+    va_list args;
+    va_start(args, format);
+    say_with(format, args);
+    va_end(args);
+}
+
+/* The program ends at once: other threads may be at work, and a record that is being replaced is whole in any case. */
+_Noreturn void fail(enum fault fault, const char *format, ...)
+{
+    va_list args;
+    va_start(args, format);
+    say_with(format, args);
+    _exit(fault == NOT_UNDERSTOOD ? USAGE : SYSTEM);
+}
+
+_Noreturn void refuse(const char *format, ...)
+{
+    va_list args;
+    va_start(args, format);
+    say_with(format, args);
+    _exit(REFUSED);
+}
+
+_Noreturn void bad_usage(const char *format, ...)
+{
+    va_list args;
+    va_start(args, format);
+    say_with(format, args);
+    fprintf(stderr, "usage: seat DESCRIPTION KEY HOME [--listen ADDRESS PORT]\n       seat --make-key KEY\n'seat --help' says more.\n");
+    _exit(USAGE);
+}
+
+/* Ends the program with the library's refusal in words; with 20 they say at which seat to look. */
 _Noreturn static void refused(uint64_t answer)
 {
     unsigned number = POOL_REFUSAL(answer), place = POOL_PLACE(answer);
     if (number == OFF_POLYNOMIAL)
-        fail(NOT_POSSIBLE, "refused %u: the share that seat %u sent does not fit those of seats 1 to %u. Look at seat %u first, then at seats 1 to %u. %s",
-             number, place, place - 1, place, plan.at[6] + 1u, pool_refusal_sentence(number));
-    fail(NOT_POSSIBLE, "refused %u at place %u: %s", number, place, pool_refusal_sentence(number));
+        refuse("refused %u: the share that seat %u sent does not fit those of seats 1 to %u. Look at seat %u first, then at seats 1 to %u. %s",
+               number, place, place - 1, place, plan.threshold + 1, pool_refusal_sentence(number));
+    refuse("refused %u at place %u: %s", number, place, pool_refusal_sentence(number));
 }
 
-/* The value of an answer; a refusal ends the program. */
-static uint64_t value(uint64_t answer)
+/* The value of an answer of the library; a refusal ends the program. */
+uint64_t value(uint64_t answer)
 {
     if (POOL_REFUSAL(answer))
         refused(answer);
     return POOL_VALUE(answer);
 }
 
-static uint64_t size(unsigned of, uint64_t call, unsigned what)
+/* ---- what the seat answers the others */
+
+static unsigned bit(unsigned seat)
 {
-    return value(pool_seat_size(plan.at, plan.len, (uint16_t)of, (uint16_t)call, (uint16_t)what));
+    return 1u << (seat - 1);
 }
 
-/* A number of two bytes, as records and requests have it. */
-static unsigned short_at(const uint8_t *at)
+static unsigned all_seats(void)
 {
-    return at[0] + 256u * at[1];
+    return (1u << run.seats) - 1;
 }
 
-static void put_short(uint8_t *at, unsigned x)
+/* Waits for a change, under the lock; false where the time is over first. */
+static bool wait_change(int64_t until)
 {
-    at[0] = x % 256;
-    at[1] = x / 256 % 256;
+    struct timespec when = {until / 1000, until % 1000 * 1000000};
+    return pthread_cond_timedwait(&changed, &lock, &when) != ETIMEDOUT;
 }
 
-/* ---- files */
-
-static void path_of(char *path, size_t room, const char *folder, const char *name, unsigned of)
+bool find_mail(unsigned to, unsigned round, int wait_ms, struct bytes *mail)
 {
-    if ((size_t)snprintf(path, room, "%s/%s-%u", folder, name, of) >= room)
-        fail(NOT_POSSIBLE, "a path is too long: %s/%s-%u", folder, name, of);
-}
-
-/* Whether a file is there, and its bytes. One that is there and cannot be read ends the program. */
-static bool read_if_there(const char *path, struct bytes *all)
-{
-    if (read_file(path, all))
-        return true;
-    if (errno != ENOENT)
-        fail(NOT_POSSIBLE, "cannot read %s: %s", path, strerror(errno));
-    return false;
-}
-
-/* Replaces a file as a whole: after a crash the old contents or the new ones stand there. */
-static void replace_file(const char *path, struct bytes all)
-{
-    char other[4096];
-    if ((size_t)snprintf(other, sizeof other, "%s.new", path) >= sizeof other)
-        fail(NOT_POSSIBLE, "a path is too long: %s", path);
-    int fd = open(other, O_WRONLY | O_CREAT | O_TRUNC, 0600);
-    if (fd < 0 || !write_all(fd, all))
-        fail(NOT_POSSIBLE, "cannot write %s: %s", other, strerror(errno));
-    if (fsync(fd) || close(fd) || rename(other, path))
-        fail(NOT_POSSIBLE, "cannot replace %s: %s", path, strerror(errno));
-    int folder = open(home, O_RDONLY | O_DIRECTORY);
-    if (folder >= 0) {
-        fsync(folder);
-        close(folder);
-    }
-}
-
-static void write_numbers(const char *path, struct bytes list)
-{
-    struct bytes text = text_of(list);
-    replace_file(path, text);
-    free(text.at);
-}
-
-static struct bytes draw_coins(void)
-{
-    return draw_numbers(numbers_in(size(seat, 0, POOL_SEAT_COINS)), short_at(plan.at + 8));
-}
-
-/* ---- the record */
-
-static void put_part(struct bytes *to, struct bytes part)
-{
-    for (int i = 0; i < 4; i++)
-        to->at[to->len++] = (uint8_t)(part.len >> (8 * i));
-    memcpy(to->at + to->len, part.at, part.len);
-    to->len += part.len;
-}
-
-static struct bytes take_part(const char *path, struct bytes from, size_t *at)
-{
-    if (from.len - *at < 4)
-        fail(NOT_POSSIBLE, "%s is damaged", path);
-    size_t len = from.at[*at] + 256u * from.at[*at + 1] + 65536u * from.at[*at + 2] + 16777216u * from.at[*at + 3];
-    *at += 4;
-    if (from.len - *at < len)
-        fail(NOT_POSSIBLE, "%s is damaged", path);
-    struct bytes part = fresh_bytes(len);
-    memcpy(part.at, from.at + *at, len);
-    *at += len;
-    return part;
-}
-
-static void keep_record(void)
-{
-    char path[4096];
-    path_of(path, sizeof path, home, "record", seat);
-    struct bytes all = fresh_bytes(2 + 12 + state.len + outgoing[0].len + outgoing[1].len);
-    all.len = 2;
-    put_short(all.at, done);
-    put_part(&all, state);
-    put_part(&all, outgoing[0]);
-    put_part(&all, outgoing[1]);
-    replace_file(path, all);
-    free(all.at);
-}
-
-static void open_record(void)
-{
-    char path[4096];
-    struct bytes all;
-    path_of(path, sizeof path, home, "record", seat);
-    if (!read_if_there(path, &all)) {
-        state = fresh_bytes(size(seat, 0, POOL_SEAT_STATE));
-        outgoing[0] = fresh_bytes(0);
-        outgoing[1] = fresh_bytes(0);
-        return;
-    }
-    if (all.len < 2)
-        fail(NOT_POSSIBLE, "%s is damaged", path);
-    size_t at = 2;
-    done = (uint16_t)short_at(all.at);
-    state = take_part(path, all, &at);
-    outgoing[0] = take_part(path, all, &at);
-    outgoing[1] = take_part(path, all, &at);
-    free(all.at);
-    if (state.len != size(seat, 0, POOL_SEAT_STATE))
-        fail(NOT_POSSIBLE, "%s belongs to another plan", path);
-}
-
-static uint64_t next_call(void)
-{
-    return get_number(state, 0);
-}
-
-/* Of what seat `from` sends in a round, the part for seat `to`. */
-static struct part part_of(unsigned from, unsigned to, uint64_t round)
-{
-    size_t mail[MAX_SEATS];
-    bool outs = round + 2 == calls;
-    for (unsigned i = 1; outs && i <= seats; i++)
-        mail[i - 1] = size(i, round + 1, POOL_SEAT_MAIL);
-    return part_for(to, seats, size(from, round, POOL_SEAT_OUT), outs ? mail : NULL);
-}
-
-/* ---- messages between seats: a request is a letter, the asking seat and a round */
-
-static void socket_path(struct sockaddr_un *address, unsigned of)
-{
-    memset(address, 0, sizeof *address);
-    address->sun_family = AF_UNIX;
-    if ((size_t)snprintf(address->sun_path, sizeof address->sun_path, "%s/seat-%u", mail_folder, of) >= sizeof address->sun_path)
-        fail(NOT_POSSIBLE, "the mail folder's path is too long: %s", mail_folder);
-}
-
-static int move_all(int fd, uint8_t *at, size_t len, int out)
-{
-    while (len) {
-        ssize_t moved = out ? send(fd, at, len, MSG_NOSIGNAL) : recv(fd, at, len, 0);
-        if (moved < 0 && errno == EINTR)
-            continue;
-        if (moved <= 0)
-            return 0;
-        at += moved;
-        len -= (size_t)moved;
-    }
-    return 1;
-}
-
-static void set_timeouts(int fd)
-{
-    struct timeval limit = {TIMEOUT_S, 0};
-    setsockopt(fd, SOL_SOCKET, SO_RCVTIMEO, &limit, sizeof limit);
-    setsockopt(fd, SOL_SOCKET, SO_SNDTIMEO, &limit, sizeof limit);
-}
-
-/* Answers one request: 'M', the mail of a round for the asking seat (a byte 0 where there is none yet, else 1 and the mail), or 'D', the
- * asking seat has finished (a byte 1 once that is kept). */
-static void answer(int fd)
-{
-    uint8_t request[5];
-    set_timeouts(fd);
-    if (!move_all(fd, request, sizeof request, 0))
-        return;
-    unsigned from = short_at(request + 1);
-    uint64_t round = short_at(request + 3);
-    if (from < 1 || from > seats)
-        return;
+    int64_t until = now_ms() + wait_ms;
+    bool found = false;
     pthread_mutex_lock(&lock);
-    uint64_t next = next_call();
-    if (request[0] == 'D') {
-        if (!(done >> (from - 1) & 1)) {
-            done |= (uint16_t)(1u << (from - 1));
-            keep_record();
+    while (record.next <= round && wait_change(until))
+        ;
+    if (round < record.next && round + 1 < record.calls) {
+        struct part p = part_of(&plan, record.seat, to, round);
+        found = p.at + p.len <= record.sent[round].len;
+        if (found) {
+            *mail = fresh_bytes(p.len);
+            memcpy(mail->at, record.sent[round].at + p.at, p.len);
         }
-        uint8_t yes = 1;
-        move_all(fd, &yes, 1, 1);
-    } else if (request[0] == 'M' && round < next && next - round <= 2) {
-        struct part p = part_of(seat, from, round);
-        uint8_t *whole = malloc(1 + p.len);
-        if (whole) {
-            whole[0] = 1;
-            memcpy(whole + 1, outgoing[next - 1 - round].at + p.at, p.len);
-            move_all(fd, whole, 1 + p.len, 1);
-            free(whole);
-        }
-    } else {
-        uint8_t no = 0;
-        move_all(fd, &no, 1, 1);
     }
+    pthread_mutex_unlock(&lock);
+    return found;
+}
+
+/* A token is on the disk with the first call that takes mail from its seat. */
+bool know_token(unsigned of, const uint8_t *token)
+{
+    static const uint8_t none[TOKEN];
+    pthread_mutex_lock(&lock);
+    if (!memcmp(record.tokens[of], none, TOKEN))
+        memcpy(record.tokens[of], token, TOKEN);
+    bool same = !memcmp(record.tokens[of], token, TOKEN);
+    pthread_mutex_unlock(&lock);
+    return same;
+}
+
+/* Takes up what is known of the end, and keeps it. Once all seats have their results nobody wants mail any more: the secrets go. */
+static void keep_end(unsigned finished, unsigned told)
+{
+    if (!(finished & ~record.finished) && !(told & ~record.told))
+        return;
+    record.finished |= (uint16_t)finished;
+    record.told |= (uint16_t)told;
+    if (record.finished == all_seats())
+        forget_secrets(&record);
+    keep_record(&record);
+    pthread_cond_broadcast(&changed);
+}
+
+unsigned learn_finished(unsigned from, unsigned seats)
+{
+    pthread_mutex_lock(&lock);
+    unsigned finished = record.finished | (seats & all_seats() & ~bit(record.seat));
+    keep_end(finished, finished == all_seats() && seats == finished ? bit(from) : 0);
+    unsigned known = record.finished;
+    pthread_mutex_unlock(&lock);
+    return known;
+}
+
+void note_leave(unsigned from)
+{
+    pthread_mutex_lock(&lock);
+    sure |= bit(from);
+    pthread_cond_broadcast(&changed);
     pthread_mutex_unlock(&lock);
 }
 
-static void *serve(void *listener)
-{
-    for (;;) {
-        int fd = accept(*(int *)listener, NULL, NULL);
-        if (fd < 0)
-            continue;
-        answer(fd);
-        close(fd);
-    }
-    return NULL;
-}
-
-static int listen_here(void)
-{
-    struct sockaddr_un address;
-    socket_path(&address, seat);
-    int fd = socket(AF_UNIX, SOCK_STREAM, 0);
-    unlink(address.sun_path);
-    if (fd < 0 || bind(fd, (struct sockaddr *)&address, sizeof address) || listen(fd, 64))
-        fail(NOT_POSSIBLE, "cannot listen at %s: %s", address.sun_path, strerror(errno));
-    return fd;
-}
-
-/* Asks a seat, which may not be there: 1 and the answer's bytes, or 0. */
-static int ask(unsigned of, char letter, uint64_t round, uint8_t *to, size_t len)
-{
-    struct sockaddr_un address;
-    uint8_t request[5] = {(uint8_t)letter};
-    uint8_t yes = 0;
-    socket_path(&address, of);
-    put_short(request + 1, seat);
-    put_short(request + 3, (unsigned)round);
-    int fd = socket(AF_UNIX, SOCK_STREAM, 0);
-    if (fd < 0)
-        return 0;
-    set_timeouts(fd);
-    int ok = !connect(fd, (struct sockaddr *)&address, sizeof address) && move_all(fd, request, sizeof request, 1) && move_all(fd, &yes, 1, 0)
-             && yes == 1 && move_all(fd, to, len, 0);
-    close(fd);
-    return ok;
-}
-
-static void wait_a_little(void)
-{
-    poll(NULL, 0, RETRY_MS);
-}
-
-/* ---- the run */
+/* ---- the calls */
 
 /* The mail of a round, the senders ascending; waits until all of it is there. */
-static struct bytes gather(uint64_t round)
+static struct bytes gather(unsigned round)
 {
-    struct bytes mail = fresh_bytes(size(seat, round + 1, POOL_SEAT_MAIL));
-    size_t to = 0;
-    for (unsigned from = 1; from <= seats; from++) {
-        struct part p = part_of(from, seat, round);
-        if (from == seat)
-            memcpy(mail.at + to, outgoing[0].at + p.at, p.len);
-        else
-            while (!ask(from, 'M', round, mail.at + to, p.len))
-                wait_a_little();
-        to += p.len;
+    struct bytes mail = fresh_bytes(mail_size(&plan, record.seat, round + 1));
+    uint8_t *to[MOST_SEATS + 1], *next = mail.at;
+    unsigned missing = 0;
+    for (unsigned from = 1; from <= run.seats; from++) {
+        struct part p = part_of(&plan, from, record.seat, round);
+        to[from] = next;
+        next += p.len;
+        if (from == record.seat)
+            memcpy(to[from], record.sent[round].at + p.at, p.len);
+        else if (p.len)
+            missing |= bit(from);
+    }
+    while (missing) {
+        unsigned asked = 0;
+        for (unsigned from = 1; from <= run.seats; from++)
+            if (missing & bit(from) && ask(from, 'M', round))
+                asked |= bit(from);
+        for (unsigned from = 1; from <= run.seats; from++)
+            if (asked & bit(from) && hear(from, to[from], part_of(&plan, from, record.seat, round).len) == THERE)
+                missing &= ~bit(from);
+        if (missing)
+            poll(NULL, 0, next_try());
     }
     return mail;
 }
 
+static void keep_results(struct bytes results)
+{
+    struct bytes text = text_of(results);
+    replace_file("results", text);
+    wipe_bytes(text);
+}
+
 static void make_call(void)
 {
-    uint64_t call = next_call();
+    unsigned call = record.next;
     struct bytes mail = call ? gather(call - 1) : fresh_bytes(0);
-    struct bytes out = fresh_bytes(size(seat, call, POOL_SEAT_OUT));
-    struct bytes after = fresh_bytes(state.len);
-    memcpy(after.at, state.at, state.len);
-    value(pool_seat_call(plan.at, plan.len, (uint16_t)seat, figures.at, figures.len, coins.at, coins.len, after.at, after.len, mail.at, mail.len,
-                         out.at, out.len));
-    if (call + 1 == calls) {
-        char path[4096];
-        path_of(path, sizeof path, home, "results", seat);
-        write_numbers(path, out);
-    }
+    struct bytes out = fresh_bytes(written_size(&plan, record.seat, call));
+    struct bytes state = fresh_bytes(record.state.len);
+    memcpy(state.at, record.state.at, state.len);
+    value(pool_seat_call(plan.file.at, plan.file.len, (uint16_t)record.seat, record.figures.at, record.figures.len, record.coins.at,
+                         record.coins.len, state.at, state.len, mail.at, mail.len, out.at, out.len));
+    bool last = call + 1 == record.calls;
+    if (last)
+        keep_results(out);
     pthread_mutex_lock(&lock);
-    free(outgoing[1].at);
-    free(state.at);
-    outgoing[1] = outgoing[0];
-    outgoing[0] = out;
-    state = after;
-    keep_record();
+    struct bytes before = record.state;
+    record.state = state;
+    record.next = call + 1;
+    if (last)
+        keep_end(bit(record.seat), 0);
+    else {
+        record.sent[call] = out;
+        keep_record(&record);
+        pthread_cond_broadcast(&changed);
+    }
     pthread_mutex_unlock(&lock);
-    free(mail.at);
+    if (last)
+        wipe_bytes(out);
+    wipe_bytes(before);
+    wipe_bytes(mail);
 }
 
-static int has_left(unsigned of)
+/* ---- the end */
+
+/* Which seats have not finished yet; or which have not heard that all have. Said once, where that lasts. */
+static void say_waiting(void)
 {
-    char path[4096];
-    path_of(path, sizeof path, mail_folder, "finished", of);
-    return !access(path, F_OK);
+    static bool all_before;
+    static int64_t since = -1;
+    char list[128] = "";
+    bool all = record.finished == all_seats();
+    if (since < 0 || all != all_before)
+        since = now_ms();
+    all_before = all;
+    if (!since || now_ms() - since < SAY_MS)
+        return;
+    since = 0;
+    for (unsigned seat = 1; seat <= run.seats; seat++)
+        if (!((all ? record.told : record.finished) & bit(seat)))
+            sprintf(list + strlen(list), "%s%u", *list ? ", " : "", seat);
+    if (*list)
+        say("this seat's results are in %s; waiting for these to %s: %s", in_home("results"), all ? "hear that all have finished" : "finish", list);
 }
 
-static void leave(void)
+/* Tells the seats which have finished, those that do not know it from this one; answers who took it up, and adds what they know to *finished. */
+static unsigned tell(unsigned *finished, unsigned told[MOST_SEATS + 1], unsigned knowing)
 {
-    char path[4096];
-    struct sockaddr_un address;
-    path_of(path, sizeof path, mail_folder, "finished", seat);
-    int fd = open(path, O_WRONLY | O_CREAT, 0644);
-    if (fd < 0)
-        fail(NOT_POSSIBLE, "cannot write %s: %s", path, strerror(errno));
-    close(fd);
-    socket_path(&address, seat);
-    unlink(address.sun_path);
+    unsigned asked = 0, answered = 0, learnt = 0;
+    for (unsigned seat = 1; seat <= run.seats; seat++)
+        if (!(knowing & bit(seat)) && told[seat] != *finished && ask(seat, 'F', *finished))
+            asked |= bit(seat);
+    for (unsigned seat = 1; seat <= run.seats; seat++) {
+        uint8_t set[2];
+        if (!(asked & bit(seat)) || hear(seat, set, sizeof set) != THERE)
+            continue;
+        told[seat] = *finished;
+        answered |= bit(seat);
+        learnt |= set[0] + 256u * set[1];
+    }
+    *finished |= learnt & all_seats();
+    return answered;
 }
 
-/* Tells every seat that this one has finished, and waits until all have. */
+/* Tells every seat that this one has finished, and then that all have. It ends when each of them took that up or took leave; or a while after
+ * it is known that each of them knows: those that took leave may be gone. docs/DECISIONS.md says why no seat is left behind. */
 static void finish(void)
 {
-    uint16_t all = (uint16_t)((1u << seats) - 1), told = (uint16_t)(1u << (seat - 1));
-    for (;;) {
-        pthread_mutex_lock(&lock);
-        uint16_t known = (uint16_t)(done | 1u << (seat - 1));
+    unsigned told[MOST_SEATS + 1] = {0};
+    int64_t until = INT64_MAX;
+    pthread_mutex_lock(&lock);
+    sure |= bit(record.seat);
+    keep_end(0, bit(record.seat));
+    while (sure != all_seats() && now_ms() < until) {
+        unsigned finished = record.finished, before = finished, knowing = sure;
         pthread_mutex_unlock(&lock);
-        for (unsigned i = 1; i <= seats; i++) {
-            int left = has_left(i);
-            if (left)
-                known |= (uint16_t)(1u << (i - 1));
-            if (!(told >> (i - 1) & 1) && (left || ask(i, 'D', 0, NULL, 0)))
-                told |= (uint16_t)(1u << (i - 1));
-        }
-        if (known == all && told == all)
-            return;
-        wait_a_little();
+        unsigned answered = tell(&finished, told, knowing);
+        pthread_mutex_lock(&lock);
+        bool all = before == all_seats();
+        keep_end(finished, all ? answered : 0);
+        for (unsigned seat = 1; all && seat <= run.seats; seat++)
+            if (answered & bit(seat))
+                take_leave(seat);
+        sure |= all ? answered : 0;
+        if (until == INT64_MAX && record.told == all_seats())
+            until = now_ms() + LEAVE_MS;
+        if (record.finished == before && sure != all_seats())
+            wait_change(now_ms() + next_try());
+        say_waiting();
     }
+    pthread_mutex_unlock(&lock);
+}
+
+/* ---- the start */
+
+/* The numbers in a file of HOME, none where there is no such file. */
+static struct bytes list_in(const char *name)
+{
+    struct bytes text, list;
+    if (!read_file(in_home(name), &text)) {
+        if (errno != ENOENT)
+            fail(NOT_POSSIBLE, "cannot read %s: %s", in_home(name), strerror(errno));
+        return fresh_bytes(0);
+    }
+    list = numbers_of(in_home(name), text);
+    wipe_bytes(text);
+    return list;
+}
+
+/* A run begins: its coins are drawn, or taken from the file `coins`, and are this run's from the first record on. That is call 0's, which
+ * takes no mail; before it nobody has seen anything. */
+static void begin(void)
+{
+    record.figures = list_in("figures");
+    record.coins = list_in("coins");
+    if (!record.coins.len)
+        record.coins = draw_numbers(numbers_in(seat_size(&plan, record.seat, POOL_SEAT_COINS)), plan.prime);
+    record.state = fresh_bytes(seat_size(&plan, record.seat, POOL_SEAT_STATE));
+    if (RAND_bytes(record.tokens[record.seat], TOKEN) != 1)
+        fail(NOT_POSSIBLE, "no random numbers");
+    if (!record.figures.len && seat_size(&plan, record.seat, POOL_SEAT_FIGURES))
+        fail(NOT_POSSIBLE, "there are no figures in %s: put this seat's there, decimal, parted by blanks, commas or lines", in_home("figures"));
+    make_call();
+}
+
+/* A run goes on, or has ended and has others to tell. */
+static void go_on(void)
+{
+    if (record.finished == all_seats())
+        return;
+    struct bytes figures = list_in("figures");
+    if (figures.len != record.figures.len || memcmp(figures.at, record.figures.at, figures.len))
+        refuse("%s is not what it was when the run began: put those figures back, or agree on a run with a new name", in_home("figures"));
+    wipe_bytes(figures);
+}
+
+static void take_part(const char *description, const char *key, const char *home, const char *address, const char *port)
+{
+    pthread_condattr_t clock;
+    pthread_condattr_init(&clock);
+    pthread_condattr_setclock(&clock, CLOCK_MONOTONIC);
+    pthread_cond_init(&changed, &clock);
+    open_description(&run, description);
+    plan = plan_of(run.plan_path, run.plan);
+    if (plan.seats != run.seats)
+        refuse("the plan is for %u seats, and the description has %u", plan.seats, run.seats);
+    record.run = &run;
+    record.calls = plan.calls;
+    record.seat = open_tls(&run, key);
+    open_mail(&run, record.tokens[record.seat]);
+    take_home(home);
+    if (open_record(&record))
+        go_on();
+    else
+        begin();
+    wipe_file("coins");
+    answer_calls(listen_at(address ? address : run.places[record.seat].address, port ? port : run.places[record.seat].port));
+    while (record.next < record.calls)
+        make_call();
+    finish();
 }
 
 int main(int count, char **args)
 {
-    char *end;
-    static int listener;
-    pthread_t server;
-    struct bytes text;
-    if (count != 7) {
-        fprintf(stderr, "usage: seat PLAN SEAT FIGURES COINS HOME MAIL\n");
-        return 2;
-    }
-    seat = (unsigned)strtoul(args[2], &end, 10);
-    if (*end || end == args[2] || seat > 65535)
-        fail(NOT_POSSIBLE, "not a seat number: %s", args[2]);
-    home = args[5];
-    mail_folder = args[6];
-    if (!read_file(args[1], &plan))
-        fail(NOT_POSSIBLE, "cannot read the plan %s: %s", args[1], strerror(errno));
-    value(pool_plan_check(plan.at, plan.len));
-    size(seat, 0, POOL_SEAT_STATE);
-    seats = plan.at[5];
-    calls = value(pool_calls(plan.at, plan.len));
-    if (!read_file(args[3], &text))
-        fail(NOT_POSSIBLE, "cannot read the figures %s: %s", args[3], strerror(errno));
-    figures = numbers_of(args[3], text);
-    if (read_if_there(args[4], &text)) {
-        coins = numbers_of(args[4], text);
+    umask(077);
+    signal(SIGPIPE, SIG_IGN);
+    setrlimit(RLIMIT_CORE, &(struct rlimit){0, 0}); /* no secrets in a core file */
+    OPENSSL_init_ssl(OPENSSL_INIT_NO_LOAD_CONFIG, NULL);
+    bool listen = count == 7 && !strcmp(args[4], "--listen");
+    if (count == 2 && !strcmp(args[1], "--help")) {
+        fputs(help, stdout);
+    } else if (count == 3 && !strcmp(args[1], "--make-key")) {
+        if (mkdir(args[2], 0700) && errno != EEXIST)
+            fail(NOT_POSSIBLE, "cannot make the folder %s: %s", args[2], strerror(errno));
+        make_key(args[2], -DAY, (long)KEY_DAYS * DAY);
+        print_fingerprint(args[2]);
+    } else if (count == 3 && !strcmp(args[1], "--fingerprint")) {
+        print_fingerprint(args[2]);
+    } else if ((count == 4 || listen) && args[1][0] != '-') {
+        take_part(args[1], args[2], args[3], listen ? args[5] : NULL, listen ? args[6] : NULL);
     } else {
-        coins = draw_coins();
-        write_numbers(args[4], coins);
+        bad_usage("these words are not understood");
     }
-    open_record();
-    listener = listen_here();
-    if (pthread_create(&server, NULL, serve, &listener))
-        fail(NOT_POSSIBLE, "cannot start the server");
-    while (next_call() < calls)
-        make_call();
-    finish();
-    leave();
-    return 0;
+    fflush(stdout);
+    _exit(DONE);
 }

@@ -1,6 +1,8 @@
 //! Writes a random case for the host program: `case SEED FOLDER` fills FOLDER with `plan`, `figures-I` and `coins-I` for each seat I,
 //! `results-I` with what the plan's own arithmetic grants it, and `bench-I` with the bench program's input for the set of seat I alone.
-//! `case K FOLDER` writes plan K of document 01 with the numbers of P1.
+//! `case K FOLDER` writes plan K of document 01 with the numbers of P1, `case long FOLDER` a plan of 15 seats, all of them dealers, with 120
+//! multiplies in turn, `case wide FOLDER` one in which a seat's mail has many shares from one sender, and `case late FOLDER` one with a seat
+//! that deals nothing.
 
 use reference::plan::{bytes, plan_file, Gate, Out, Plan};
 use reference::random::{plan, Random};
@@ -11,16 +13,45 @@ fn lines(list: &[u16]) -> String {
     list.iter().map(|x| format!("{x}\n")).collect()
 }
 
+/// 15 seats, each with a figure and an out; every multiply waits for the one before it.
+fn long() -> Vec<u8> {
+    let mut gates: Vec<Gate> = (1..=15).map(Gate::Input).collect();
+    for k in 0..120 {
+        gates.push(Gate::Multiply(gates.len() - 1, k % 15));
+        gates.push(Gate::Add(gates.len() - 1, (7 * k) % 15));
+    }
+    let outs: Vec<Out> = (1..=15).map(|seat| Out { seat, wire: gates.len() - seat as usize }).collect();
+    plan_file(15, 7, 65521, &gates, &outs)
+}
+
+/// 3 seats; seats 1 and 2 have 12 figures each, and seat 3 gets 8 outs.
+fn wide() -> Vec<u8> {
+    let mut gates: Vec<Gate> = (0..24).map(|k| Gate::Input(1 + k / 12)).collect();
+    gates.extend((0..8).map(|k| Gate::Multiply(k, 12 + k)));
+    let outs: Vec<Out> = (0..8).map(|k| Out { seat: 3, wire: 24 + k }).collect();
+    plan_file(3, 1, 65521, &gates, &outs)
+}
+
+/// 4 seats, of which 3 deal; seat 4 has no figure, and an out.
+fn late() -> Vec<u8> {
+    let gates = [Gate::Input(1), Gate::Input(2), Gate::Multiply(0, 1), Gate::Multiply(2, 2), Gate::Multiply(3, 0), Gate::Add(4, 1)];
+    plan_file(4, 1, 65521, &gates, &[Out { seat: 1, wire: 5 }, Out { seat: 4, wire: 4 }])
+}
+
 fn main() {
     let args: Vec<String> = std::env::args().collect();
     let (seed, folder) = (&args[1], &args[2]);
     let mut random = Random(seed.parse().unwrap_or(0));
     let known = seed == "K";
-    let file = if known {
-        let gates = [Gate::Input(1), Gate::Input(2), Gate::Multiply(0, 1), Gate::Add(2, 0)];
-        plan_file(3, 1, 11, &gates, &[Out { seat: 3, wire: 3 }])
-    } else {
-        plan(&mut random, 24)
+    let file = match seed.as_str() {
+        "K" => {
+            let gates = [Gate::Input(1), Gate::Input(2), Gate::Multiply(0, 1), Gate::Add(2, 0)];
+            plan_file(3, 1, 11, &gates, &[Out { seat: 3, wire: 3 }])
+        }
+        "long" => long(),
+        "wide" => wide(),
+        "late" => late(),
+        _ => plan(&mut random, 24),
     };
     let plan = Plan::read(&file).expect("a plan that passes");
     let p = plan.field.p();
