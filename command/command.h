@@ -19,7 +19,7 @@ struct command {
     void (*run)(char **args);
 };
 
-extern const struct command check_command, show_command, run_command, match_command, import_command;
+extern const struct command check_command, show_command, run_command, match_command, import_command, charge_command;
 
 /* The subcommand that runs; null before it is known. */
 extern const struct command *current;

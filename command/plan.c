@@ -100,6 +100,14 @@ size_t written_size(const struct plan *plan, unsigned seat, unsigned call)
     return plan->writes[call * plan->seats + seat - 1];
 }
 
+size_t sent_by(const struct plan *plan, unsigned seat)
+{
+    size_t numbers = 0;
+    for (unsigned call = 0; call + 1 < plan->calls; call++)
+        numbers += numbers_in(written_size(plan, seat, call));
+    return numbers;
+}
+
 struct part part_of(const struct plan *plan, unsigned from, unsigned to, unsigned call)
 {
     bool outs = call + 2 == plan->calls;

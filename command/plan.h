@@ -53,6 +53,9 @@ size_t seat_size(const struct plan *plan, unsigned seat, unsigned what);
 size_t mail_size(const struct plan *plan, unsigned seat, unsigned call);
 size_t written_size(const struct plan *plan, unsigned seat, unsigned call);
 
+/* All that a seat sends, in numbers. What the last call writes is its results. */
+size_t sent_by(const struct plan *plan, unsigned seat);
+
 /* Of what a seat writes in a call, the part for seat `to`. */
 struct part part_of(const struct plan *plan, unsigned from, unsigned to, unsigned call);
 

@@ -14,6 +14,7 @@ static const struct command *const commands[] = {
     &run_command,
     &match_command,
     &import_command,
+    &charge_command,
 };
 
 enum { COMMANDS = sizeof commands / sizeof *commands };

@@ -60,20 +60,11 @@ static void show_draws(FILE *to, const struct plan *plan, unsigned seat)
     end(&w);
 }
 
-/* All that a seat sends, in numbers. What the last call writes is its results. */
-static size_t all_sent(const struct plan *plan, unsigned seat)
-{
-    size_t numbers = 0;
-    for (unsigned call = 0; call + 1 < plan->calls; call++)
-        numbers += numbers_in(written_size(plan, seat, call));
-    return numbers;
-}
-
 /* Calls in which a seat sends equally much stand together. */
 static void show_sends(FILE *to, const struct plan *plan, unsigned seat)
 {
     struct words w = begin(to, "sends");
-    size_t all = all_sent(plan, seat);
+    size_t all = sent_by(plan, seat);
     if (all)
         w.column += (size_t)fprintf(to, " %zu number%s:", all, plural(all));
     unsigned last = plan->calls - 1, next;

@@ -28,7 +28,8 @@
  *  - A buffer that is written does not overlap any other slice of the call.
  *
  * A number of a list takes two bytes, the low byte first, on every machine. An
- * odd byte at the end of a list makes its count wrong.
+ * odd byte at the end of a list makes its count wrong. The parts of
+ * pool_charge take four.
  *
  *
  * Answers
@@ -88,7 +89,7 @@ static inline const char *pool_refusal_sentence(unsigned number)
     }
 }
 
-/* The value in an answer that has one: a size, a count; only where nothing is refused. */
+/* The value in an answer that has one: a size, a count, a bill; only where nothing is refused. */
 #define POOL_VALUE(answer) ((uint64_t)(answer) >> 8)
 
 /*
@@ -262,6 +263,26 @@ uint64_t pool_match(const uint8_t *plan, size_t plan_len, uint16_t set,
     const uint8_t *second, size_t second_len,
     const uint8_t *coins, size_t coins_len,
     uint8_t *matched, size_t matched_len);
+
+/*
+ * The line charge: what each party pays of the carrier's bill for a run.
+ *
+ * plan, plan_len:   the plan file.
+ * price:            the price of 1,000 elements in cents, at most 1,000,000.
+ * parts, parts_len: written: each party's part in cents, the parties
+ *                   ascending, four bytes each, the low byte first: 4n bytes.
+ *
+ * The bill is the elements sent times the price, divided by 1,000 and rounded
+ * up. Each party pays in proportion to the elements that it sends, those to
+ * itself included, rounded down; the cents left over go to the greatest
+ * remainders, one each, lower parties first among equals. The parts add up to
+ * the bill.
+ *
+ * Answers the bill in cents as its value and has written parts, or answers the
+ * first of refusals 1 to 8, 31 and 19 and has written nothing.
+ */
+uint64_t pool_charge(const uint8_t *plan, size_t plan_len, uint32_t price,
+    uint8_t *parts, size_t parts_len);
 
 #ifdef __cplusplus
 }

@@ -11,6 +11,7 @@ POOL_REFUSAL_ROW(5, "The plan's modulus is not a prime above its number of seats
 POOL_REFUSAL_ROW(6, "The plan's layout is wrong: byte 7, an offset, a count or the length.")
 POOL_REFUSAL_ROW(7, "A gate of the plan breaks its kind's rule; the place is the gate.")
 POOL_REFUSAL_ROW(8, "An out of the plan names no seat or no wire; the place is the out.")
+POOL_REFUSAL_ROW(31, "The price of 1,000 elements is over 1,000,000 cents.")
 POOL_REFUSAL_ROW(9, "The seat is not one of the plan's, or the set names another or has over t members.")
 POOL_REFUSAL_ROW(10, "The count of figures is wrong.")
 POOL_REFUSAL_ROW(11, "A figure is not below the prime; the place is the figure.")

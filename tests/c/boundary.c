@@ -34,7 +34,7 @@ static struct slice lend(const uint8_t *from, size_t len)
 
 static void check(uint64_t answer)
 {
-    if (POOL_REFUSAL(answer) > 24)
+    if (POOL_REFUSAL(answer) && !pool_refusal_sentence(POOL_REFUSAL(answer)))
         failed++;
 }
 
@@ -62,6 +62,9 @@ int main(void)
         check(pool_seat_call(s[0].at, s[0].len, seat, s[1].at, s[1].len, s[2].at, s[2].len, s[3].at, s[3].len, s[4].at, s[4].len, s[5].at, s[5].len));
         check(pool_bench(s[0].at, s[0].len, seat, s[1].at, s[1].len, s[2].at, s[2].len, s[3].at, s[3].len));
         check(pool_match(s[0].at, s[0].len, seat, s[1].at, s[1].len, s[2].at, s[2].len, s[4].at, s[4].len, s[5].at, s[5].len));
+        struct slice parts = lend(NULL, below(3) ? 12 : below(20));
+        check(pool_charge(s[0].at, s[0].len, below(2) ? 1000000 - below(3) : 1000000 + below(3), parts.at, parts.len));
+        free(parts.block);
         cut = below(4) ? sizeof circuit - 1 : below(sizeof circuit);
         struct slice text = lend((const uint8_t *)circuit, cut), plan = lend(NULL, below(3) ? 99 : below(120));
         if (cut && !below(3))

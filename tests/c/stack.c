@@ -79,6 +79,8 @@ static uint64_t small(void)
     uint64_t refusals = POOL_REFUSAL(pool_plan_check(plan, plan_len)) + POOL_REFUSAL(pool_calls(plan, plan_len));
     for (uint16_t what = 0; what < 5; what++)
         refusals += POOL_REFUSAL(pool_seat_size(plan, plan_len, 1, 1, what)) + POOL_REFUSAL(pool_run_size(plan, plan_len, 0, what));
+    uint8_t parts[60];
+    refusals += POOL_REFUSAL(pool_charge(plan, plan_len, 999999, parts, 4u * plan[5]));
     return refusals;
 }
 
@@ -153,7 +155,7 @@ int main(void)
         on_stack("pool_match", match, POOL_STACK_MATCH);
         on_stack("pool_seat_call, the first calls", first_calls, POOL_STACK_SEAT);
         on_stack("pool_seat_call, the last call", last_call, POOL_STACK_SEAT);
-        on_stack("plan check and sizes", small, POOL_STACK_SEAT);
+        on_stack("plan check, sizes and charge", small, POOL_STACK_SEAT);
     }
     on_stack("pool_import", import, POOL_STACK_IMPORT);
     printf("%d passed, %d failed\n", passed, failed);

@@ -1,6 +1,6 @@
 -- How many of everything a plan that passes has.
 -- Assumes nothing.
-use Prim.Native.Nat.{ℕ, zero, suc, _+_, _*_, _≤_}
+use Prim.Native.Nat.{ℕ, zero, suc, _+_, _*_, _≤_, _<_}
 use mathlib.Core.Path.{_≡_}
 use mathlib.Core.Bool.{Bool, true, false, cond}
 use mathlib.Core.List.{List}
@@ -19,6 +19,8 @@ use Rattle.plan.proofs.Planned.{passing, between-true, Laid, laid, length-gates
 use Rattle.plan.proofs.Wires.{out-wires-few}
 use Rattle.plan_counts.proofs.Counts.{length-dealings, dealings-le}
 use Rattle.match_agreement.proofs.AgreeLaws.{coins-fit}
+use Rattle.charge_laws.specs.Charges.{billOf}
+use Rattle.charge_laws.proofs.Parts.{bill-fits}
 
 module _ (bs : List ℕ) (passes : planCheck bs ≡ Passed) where
   pub laid-out : Laid bs
@@ -79,9 +81,24 @@ module _ (bs : List ℕ) (passes : planCheck bs ≡ Passed) where
       either-few (ltb k (multiplies (planOf bs))) (dealerCount (planOf bs)) (partyCount (planOf bs) * ownOutCount (planOf bs) i) (omega (arith, dealers-few))
       (coins-fit (headerOf bs) (partyCount (planOf bs)) (ownOutCount (planOf bs) i) parties-few (omega (arith, own-outs-few i)))
 
-  pub sent-few : sentCount (planOf bs) ≤ 4294967295
+  pub sent-most : sentCount (planOf bs) ≤ 231360
   unfolding sentCount
-  sent-few =
+  sent-most =
       let d : inputCount (planOf bs) + multiplies (planOf bs) * dealerCount (planOf bs) ≤ 15360 = omega (arith, dealings-few, length-dealings (planOf bs)) in
       let l : inputCount (planOf bs) + multiplies (planOf bs) * dealerCount (planOf bs) + length (planOf bs .outs) ≤ 15424 = omega (arith, d, outs-few) in
       omega (arith, mul-le-mul {n₁ = partyCount (planOf bs)} {m₁ = inputCount (planOf bs) + multiplies (planOf bs) * dealerCount (planOf bs) + length (planOf bs .outs)} {n₂ = 15} {m₂ = 15424} parties-few l)
+
+  pub sent-few : sentCount (planOf bs) ≤ 4294967295
+  sent-few = omega (arith, sent-most)
+
+  pub bill-few : (price : ℕ) → price ≤ 1000000 → billOf (planOf bs) price < 4294967296
+  unfolding billOf
+  bill-few price l = bill-fits (sentCount (planOf bs)) price sent-most l
+
+  pub sent-some : 1 ≤ sentCount (planOf bs)
+  unfolding sentCount partyCount planOf
+  sent-some =
+      let n : 1 ≤ partyCount (planOf bs) = omega (arith, length-tab suc (nAt bs), between-true 1 15 (nAt bs) (passing bs passes .parties) .0) in
+      let k : ℕ = inputCount (planOf bs) + multiplies (planOf bs) * dealerCount (planOf bs) + length (planOf bs .outs) in
+      let l : 1 ≤ k = omega (arith, length-outs bs, between-true 1 64 (outCountAt bs) (laid-out .outs) .0) in
+      omega (arith, mul-le-mul {n₁ = 1} {m₁ = 1} {n₂ = partyCount (planOf bs)} {m₂ = k} n l)

@@ -34,10 +34,12 @@ use Rattle.seat_messages.specs.Calls.{onPolynomial, outsCheck, openingCheck, pa
 use Rattle.run_bench.specs.BenchCalls.{runChecks, benchAnswer, benchedOf, viewAfter}
 use Rattle.match_agreement.specs.MatchCalls.{inputsAgree, outsAgree, pairChecks, matchAnswer, matchedAfter}
 use Rattle.import_call.specs.Importing.{importFile, textChecks, importChecks, importAnswer, importAfter}
-use Rattle.pool_answers.specs.Sizes.{answerOf}
+use Rattle.charge_laws.specs.Charges.{billOf}
+use Rattle.charge_call.specs.ChargeCalls.{priceChecks, chargeAnswer, chargedOf, chargeAfter}
+use Rattle.pool_answers.specs.Sizes.{answerOf, billedOf}
 use Rattle.demands.specs.Order.{checkingOrder, rankIn, rankOf}
 use Rattle.demands.specs.Demands.{Answers, Demand1}
-use Rattle.demands.proofs.Bounds.{outs-few, parties-few, inputs-few, own-few, own-coins-few, coins-few, mail-few, sent-few}
+use Rattle.demands.proofs.Bounds.{outs-few, parties-few, inputs-few, own-few, own-coins-few, coins-few, mail-few, sent-few, bill-few}
 
 infixr 5 _▹_
 infixr 5 _▸_
@@ -133,7 +135,7 @@ each-number : (n : ℕ) (check : ℕ → Checked) (m : ℕ) → ((k : ℕ) → N
 each-number n check m h = record { is = λ q e. let o = first-refused check m q e in h (o .at) .is q (o .refuses) }
 
 -- ---- a check's place
-number-range : (r : Refusal) → (1 ≤ numberOf r) × (numberOf r ≤ 24)
+number-range : (r : Refusal) → (1 ≤ numberOf r) × (numberOf r ≤ 31)
 unfolding numberOf
 number-range refusal.CircuitText = (omega arith, omega arith)
 number-range refusal.TooLarge = (omega arith, omega arith)
@@ -145,6 +147,7 @@ number-range refusal.Modulus = (omega arith, omega arith)
 number-range refusal.Layout = (omega arith, omega arith)
 number-range (refusal.GateRule g) = (omega arith, omega arith)
 number-range (refusal.OutputRule o) = (omega arith, omega arith)
+number-range refusal.Price = (omega arith, omega arith)
 number-range refusal.Coalition = (omega arith, omega arith)
 number-range refusal.InputCount = (omega arith, omega arith)
 number-range (refusal.InputValue i) = (omega arith, omega arith)
@@ -339,6 +342,10 @@ room-number : (ok : Bool) → Numbers (19 ∷ []) (need refusal.BufferLength ok 
 unfolding numberOf
 room-number ok = need-number refusal.BufferLength ok ▹ none
 
+price-numbers : (bs : List ℕ) (price room : ℕ) → Numbers (31 ∷ 19 ∷ []) (priceChecks bs price room)
+unfolding priceChecks numberOf
+price-numbers bs price room = need-number refusal.Price _ ▹ need-number refusal.BufferLength _ ▹ none
+
 plan-bounded : (bs : List ℕ) → Bounded (planChecks bs)
 unfolding planChecks placeOf
 plan-bounded bs =
@@ -368,6 +375,10 @@ text-bounded n t p text =
 room-bounded : (ok : Bool) → Bounded (need refusal.BufferLength ok ∷ [])
 unfolding placeOf
 room-bounded ok = need-small refusal.BufferLength ok refl ▸ λ e. Bounded.none
+
+price-bounded : (bs : List ℕ) (price room : ℕ) → Bounded (priceChecks bs price room)
+unfolding priceChecks placeOf
+price-bounded bs price room = need-small refusal.Price _ refl ▸ λ e0. need-small refusal.BufferLength _ refl ▸ λ e1. Bounded.none
 
 module _ (bs : List ℕ) (passes : planCheck bs ≡ Passed) where
   opening-small : (i k : ℕ) (mail : List ℕ) → Small (openingCheck (planOf bs) i k mail)
@@ -449,8 +460,24 @@ plan-passed : (bs : List ℕ) (rest : List Checked) → firstOf (planChecks bs +
 unfolding planCheck
 plan-passed bs rest e = passed-both _ _ (sym (firstOf-append (planChecks bs) rest) ∙ e) .0
 
+-- a charge that passes is of a plan that passes, at a price within its limit
+pub charge-passed : (bs : List ℕ) (price room : ℕ) → chargeAnswer bs price room ≡ Passed → (planCheck bs ≡ Passed) × (price ≤ 1000000)
+unfolding chargeAnswer planCheck priceChecks firstOf
+charge-passed bs price room e =
+    let a = passed-both _ _ (sym (firstOf-append (planChecks bs) (priceChecks bs price room)) ∙ e) in
+    (a .0, leb-true price 1000000 (passed-need refusal.Price _ (passed-both _ _ (a .1) .0)))
+
+bill-whole : (bs : List ℕ) (price : ℕ) (a : Checked) → planCheck bs ≡ Passed → price ≤ 1000000 → a ≡ Passed
+    → billedOf (chargedOf a (billOf (planOf bs) price)) ≡ 256 * billOf (planOf bs) price
+unfolding billedOf chargedOf
+bill-whole bs price a p l e = let b : billOf (planOf bs) price < 4294967296 = bill-few bs p price l in rw e (omega (arith, b))
+
+bill-none : (b : ℕ) (a : Checked) (r : Refusal) → a ≡ Refused r → billedOf (chargedOf a b) ≡ codeOf (Refused r)
+unfolding billedOf chargedOf
+bill-none b a r e = rw e refl
+
 pub demand1 : Demand1
-unfolding planCheck callChecks callAnswer benchAnswer matchAnswer importChecks importAnswer stateAfter outAfter viewAfter matchedAfter importAfter ordered before rankIn checkingOrder
+unfolding planCheck callChecks callAnswer benchAnswer matchAnswer importChecks importAnswer chargeAnswer stateAfter outAfter viewAfter matchedAfter importAfter chargeAfter ordered before rankIn checkingOrder
 demand1 = record {
   plan = λ bs. answers Unit (plan-numbers bs) refl (plan-bounded bs) (λ r e. tt);
   call = λ bs i inputs coins state mail out.
@@ -465,6 +492,11 @@ demand1 = record {
       (bounded-joined (plan-bounded bs) (λ e. pair-bounded bs e set xs ys coins (length out))) (λ r e. kept _ r _ out e);
   import = λ n t p text out.
       answers _ (joined (text-numbers n t p text) (room-number _)) refl (bounded-joined (text-bounded n t p text) (λ e. room-bounded _)) (λ r e. kept _ r _ out e);
+  charge = λ bs price out.
+      answers _ (joined (plan-numbers bs) (price-numbers bs price (length out))) refl
+      (bounded-joined (plan-bounded bs) (λ e. price-bounded bs price (length out))) (λ r e. kept _ r _ out e);
   counted = λ bs set xs coins room e. sent-whole bs _ (plan-passed bs _ e) e;
   uncounted = λ bs set xs coins room r e. sent-none _ _ r e;
+  billed = λ bs price room e. bill-whole bs price _ (charge-passed bs price room e .0) (charge-passed bs price room e .1) e;
+  unbilled = λ bs price room r e. bill-none _ _ r e;
 }

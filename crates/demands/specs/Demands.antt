@@ -19,7 +19,9 @@ use Rattle.run_bench.specs.BenchCalls.{runChecks, benchAnswer, benchedOf, viewA
 use Rattle.match_privacy.specs.Matching.{matchedCoins}
 use Rattle.match_agreement.specs.MatchCalls.{pairChecks, matchAnswer, matchedAfter}
 use Rattle.import_call.specs.Importing.{importChecks, importAnswer, importAfter}
-use Rattle.pool_answers.specs.Sizes.{answerOf}
+use Rattle.charge_laws.specs.Charges.{billOf}
+use Rattle.charge_call.specs.ChargeCalls.{priceChecks, chargeAnswer, chargedOf, chargeAfter}
+use Rattle.pool_answers.specs.Sizes.{answerOf, billedOf}
 use Rattle.demands.specs.Order.{rankOf}
 use Rattle.demands.specs.Apart as apart
 
@@ -62,6 +64,9 @@ pub record Demand1 : Type 0 where
   pub import :
       (n t p : ℕ) (text out : List ℕ)
       → Answers (importChecks n t p text (length out)) (importAnswer n t p text (length out)) (importAfter n t p text out ≡ out)
+  pub charge :
+      (bs : List ℕ) (price : ℕ) (out : List ℕ)
+      → Answers (planChecks bs ++ priceChecks bs price (length out)) (chargeAnswer bs price (length out)) (chargeAfter bs price out ≡ out)
   -- the bench's answer is the refusal's, which counts no elements, or has the elements sent above its low byte, whole
   pub counted :
       (bs : List ℕ) (set : ℕ) (xs coins : List ℕ) (room : ℕ) → benchAnswer bs set xs coins room ≡ Passed
@@ -69,6 +74,13 @@ pub record Demand1 : Type 0 where
   pub uncounted :
       (bs : List ℕ) (set : ℕ) (xs coins : List ℕ) (room : ℕ) (r : Refusal) → benchAnswer bs set xs coins room ≡ Refused r
       → answerOf (benchedOf (benchAnswer bs set xs coins room) (sentCount (planOf bs))) ≡ codeOf (Refused r)
+  -- and so with the charge's answer and the bill
+  pub billed :
+      (bs : List ℕ) (price room : ℕ) → chargeAnswer bs price room ≡ Passed
+      → billedOf (chargedOf (chargeAnswer bs price room) (billOf (planOf bs) price)) ≡ 256 * billOf (planOf bs) price
+  pub unbilled :
+      (bs : List ℕ) (price room : ℕ) (r : Refusal) → chargeAnswer bs price room ≡ Refused r
+      → billedOf (chargedOf (chargeAnswer bs price room) (billOf (planOf bs) price)) ≡ codeOf (Refused r)
 
 -- ---- demand 2: parties run apart, whatever the buffers held that their calls are lent
 pub record Given (bytes xs coins : List ℕ) : Type 0 where

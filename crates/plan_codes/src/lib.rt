@@ -7,7 +7,7 @@ ghost use Rattle.plan.specs.Refusals.{numberOf, placeOf, codeOf};
 
 // A refusal's number in documents 01 and 02.
 pub fn number(r: Refusal) -> u64
-    ensures { λ k. ⌜ record { eq : k ≡ numberOf r; le : k ≤ 24 } ⌝ }
+    ensures { λ k. ⌜ record { eq : k ≡ numberOf r; le : k ≤ 31 } ⌝ }
 {
     match r {
         Refusal::CircuitText => 23,
@@ -20,6 +20,7 @@ pub fn number(r: Refusal) -> u64
         Refusal::Layout => 6,
         Refusal::GateRule(_) => 7,
         Refusal::OutputRule(_) => 8,
+        Refusal::Price => 31,
         Refusal::Coalition => 9,
         Refusal::InputCount => 10,
         Refusal::InputValue(_) => 11,
@@ -52,6 +53,7 @@ pub fn place(r: Refusal) -> u64
         Refusal::Layout => 0,
         Refusal::GateRule(i) => i as u64,
         Refusal::OutputRule(i) => i as u64,
+        Refusal::Price => 0,
         Refusal::Coalition => 0,
         Refusal::InputCount => 0,
         Refusal::InputValue(i) => i as u64,

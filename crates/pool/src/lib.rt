@@ -13,7 +13,9 @@ ghost use Rattle.seat_messages.specs.Calls.{callAnswer, stateAfter, outAfter};
 ghost use Rattle.run_bench.specs.BenchCalls.{benchAnswer, benchedOf, viewAfter};
 ghost use Rattle.match_agreement.specs.MatchCalls.{matchAnswer, matchedAfter};
 ghost use Rattle.import_call.specs.Importing.{importAnswer, importAfter};
-ghost use Rattle.pool_answers.specs.Sizes.{seatSize, callCount, runSize, importSize, answerOf};
+ghost use Rattle.charge_laws.specs.Charges.{billOf};
+ghost use Rattle.charge_call.specs.ChargeCalls.{chargeAnswer, chargedOf, chargeAfter};
+ghost use Rattle.pool_answers.specs.Sizes.{seatSize, callCount, runSize, importSize, answerOf, billedOf};
 
 // Checks a plan: refusals 1 to 8.
 #[no_mangle]
@@ -137,4 +139,13 @@ pub extern "C" fn pool_import(text: &[u8], n: u32, t: u32, p: u32, plan: &mut [u
     ensures plan { λ _. ⌜ now (plan .exit) ≡ importAfter n t p (now (text .entry)) (now (plan .entry)) ⌝ }
 {
     plan_codes::code(import_call::import_plan(text, n, t, p, plan))
+}
+
+// The line charge, by party: refusals 1 to 8, 31 and 19.
+#[no_mangle]
+pub extern "C" fn pool_charge(plan: &[u8], price: u32, parts: &mut [u8]) -> u64
+    ensures answer { λ r. ⌜ r ≡ billedOf (chargedOf (chargeAnswer (now (plan .entry)) price (length (now (parts .entry)))) (billOf (planOf (now (plan .entry))) price)) ⌝ }
+    ensures parts { λ _. ⌜ now (parts .exit) ≡ chargeAfter (now (plan .entry)) price (now (parts .entry)) ⌝ }
+{
+    pool_answers::billed(charge_call::charge(plan, price, parts))
 }

@@ -34,10 +34,12 @@ use Rattle.import_call.specs.declared.Measured.the-variants as measured
 use Rattle.import_call.specs.Importing.{importFile, textChecks, refusalOf}
 use Rattle.import_call.specs.Measures.{MeasuredAs}
 use Rattle.import_call.proofs.Calls.{told, refused, passed, gates-small, outs-small, file-size}
+use Rattle.charge_call.specs.declared.Charged.{Charged}
+use Rattle.charge_call.specs.declared.Charged.the-variants as charged
 use Rattle.run_bench.specs.declared.Benched.{Benched}
 use Rattle.run_bench.specs.declared.Benched.the-variants as benched
 use Rattle.run_views.specs.ViewCounts.{viewCount}
-use Rattle.pool_answers.specs.Sizes.{valueOf, mailOfCall, writtenByCall, seatCount, seatSize, callCount, runCount, runSize, importSize, answerOf}
+use Rattle.pool_answers.specs.Sizes.{valueOf, mailOfCall, writtenByCall, seatCount, seatSize, callCount, runCount, runSize, importSize, answerOf, billedOf}
 
 pub code-answered : (a c : Checked) (r : ℕ) → c ≡ a → r ≡ codeOf c → r ≡ codeOf a
 code-answered a c r e f = f ∙ ap codeOf e
@@ -243,10 +245,22 @@ small-rest n = mod-lt n (omega arith)
 pub bench-answered : (b w : Benched) (r : ℕ) → b ≡ w → r ≡ answerOf b → r ≡ answerOf w
 bench-answered b w r e f = f ∙ ap answerOf e
 
+-- ---- the line charge
+pub billed-value : (c : Charged) (cents k : ℕ) → c ≡ charged.Bill cents → k ≡ 256 * (cents % 4294967296) → k ≡ billedOf c
+unfolding billedOf
+billed-value c cents k e f = f ∙ sym (rw e refl)
+
+pub billed-refused : (c : Charged) (r : Refusal) (k : ℕ) → c ≡ charged.Refused r → k ≡ codeOf (Refused r) → k ≡ billedOf c
+unfolding billedOf
+billed-refused c r k e f = f ∙ sym (rw e refl)
+
+pub charge-answered : (c w : Charged) (r : ℕ) → c ≡ w → r ≡ billedOf c → r ≡ billedOf w
+charge-answered c w r e f = f ∙ ap billedOf e
+
 pub count-other : (plan : Plan) (i call what : ℕ) → (what ≡ 0 → ⊥) → (what ≡ 1 → ⊥) → (what ≡ 2 → ⊥) → (what ≡ 3 → ⊥) → (what ≡ 4 → ⊥) → 0 ≡ seatCount plan i call what
 unfolding seatCount
 count-other plan i call what a b c d e = rw (ne-eqb what 0 a, ne-eqb what 1 b, ne-eqb what 2 c, ne-eqb what 3 d, ne-eqb what 4 e) refl
 
-pub ruleset answering = (needs, code-answered, seat-plan-refused, calls-refused, read-planned, seat-below, seat-above, seat-sized, calls-counted, run-plan-refused, set-refused, run-sized, import-size-refused, import-sized, gates-small, outs-small, sent-value, sent-refused, small-rest, bench-answered)
+pub ruleset answering = (needs, code-answered, seat-plan-refused, calls-refused, read-planned, seat-below, seat-above, seat-sized, calls-counted, run-plan-refused, set-refused, run-sized, import-size-refused, import-sized, gates-small, outs-small, sent-value, sent-refused, small-rest, bench-answered, billed-value, billed-refused, charge-answered)
 
 pub ruleset counting = (needs, mail-there, mail-none, written-there, written-none, own-coins-fit, own-coins-le, own-coins-eq, state-count, count-0, count-1, count-3, count-4, count-other, coins-fit, coins-le, coins-eq, all-0, all-1, all-2, all-other)

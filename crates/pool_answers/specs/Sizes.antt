@@ -13,6 +13,8 @@ use Rattle.plan.specs.File.{between, planChecks, planCheck, planOf}
 use Rattle.plan_coalition.specs.Coalitions.{members, setOk}
 use Rattle.run_views.specs.ViewCounts.{viewCount}
 use Rattle.import_call.specs.Importing.{importFile, textChecks}
+use Rattle.charge_call.specs.declared.Charged.{Charged}
+use Rattle.charge_call.specs.declared.Charged.the-variants as charged
 use Rattle.run_bench.specs.declared.Benched.{Benched}
 use Rattle.run_bench.specs.declared.Benched.the-variants as benched
 
@@ -65,3 +67,8 @@ importSize n t p text = valueOf (firstOf (textChecks n t p text)) (length (impor
 unfoldable pub answerOf : Benched → ℕ
 answerOf (benched.Sent n) = 256 * (n % 4294967296)
 answerOf (benched.Refused r) = codeOf (Refused r)
+
+-- what the line charge answers: the bill as its value, in bits 8 to 39 (it is at most 231,360,000), or the refusal's code
+unfoldable pub billedOf : Charged → ℕ
+billedOf (charged.Bill cents) = 256 * (cents % 4294967296)
+billedOf (charged.Refused r) = codeOf (Refused r)

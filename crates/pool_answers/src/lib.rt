@@ -1,4 +1,5 @@
 // What the C interface answers: values above the low byte, and the sizes of lists.
+use charge_call::Charged;
 use plan::Checked;
 use plan::Header;
 use run_bench::Benched;
@@ -7,7 +8,7 @@ ghost use Prim.Native.Nat.{_*_, _<_, _≤_};
 ghost use Rattle.plan.specs.File.{planOf};
 ghost use Rattle.plan.specs.Planned.{Planned};
 ghost use Rattle.plan.specs.Plans.{ownCoinCount, coinCount};
-ghost use Rattle.pool_answers.specs.Sizes.{mailOfCall, writtenByCall, seatCount, runCount, answerOf};
+ghost use Rattle.pool_answers.specs.Sizes.{mailOfCall, writtenByCall, seatCount, runCount, answerOf, billedOf};
 
 // An answer with a value, which stands above the low byte.
 pub fn value(v: usize) -> u64
@@ -86,5 +87,15 @@ pub fn sent(b: Benched) -> u64
     match b {
         Benched::Sent(n) => value(n % 4294967296),
         Benched::Refused(r) => plan_codes::code(Checked::Refused(r)),
+    }
+}
+
+// The line charge's answer: the bill as its value, or the refusal.
+pub fn billed(c: Charged) -> u64
+    ensures { λ r. ⌜ r ≡ billedOf c ⌝ }
+{
+    match c {
+        Charged::Bill(cents) => value((cents % 4294967296) as usize),
+        Charged::Refused(r) => plan_codes::code(Checked::Refused(r)),
     }
 }

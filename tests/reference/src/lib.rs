@@ -3,6 +3,7 @@
 //! A plan names `n` seats, a threshold `t` and a prime `p`, and a circuit of gates. Each seat works the gates on
 //! Shamir shares; a product is dealt anew by seats 1 to 2t+1 to bring its degree back to `t`.
 
+pub mod charge;
 pub mod field;
 pub mod import;
 pub mod library;

@@ -1,5 +1,6 @@
 //! The C interface: the product's library, and the reference in the same form.
 
+use crate::charge::charge;
 use crate::import::{import, import_file};
 use crate::matching::matching;
 use crate::plan::{plan_check, refuse, Plan, Refusal};
@@ -7,7 +8,7 @@ use crate::run::bench;
 use crate::seat::seat_call;
 
 /// The functions of the C interface over slices. An answer holds the refusal's number in bits 0 to 7, and above it
-/// the place, the elements sent or a size in bytes.
+/// the place, the elements sent, the bill or a size in bytes.
 #[allow(clippy::type_complexity)]
 pub struct Interface {
     pub plan_check: fn(&[u8]) -> u64,
@@ -18,6 +19,7 @@ pub struct Interface {
     pub run_size: fn(&[u8], u16, u16) -> u64,
     pub import: fn(&[u8], u32, u32, u32, &mut [u8]) -> u64,
     pub import_size: fn(&[u8], u32, u32, u32) -> u64,
+    pub charge: fn(&[u8], u32, &mut [u8]) -> u64,
 }
 
 /// An answer's 64 bits.
@@ -69,6 +71,7 @@ pub const REFERENCE: Interface = Interface {
     run_size: |plan, set, what| answer(run_size(plan, set, what)),
     import: |text, n, t, p, plan| answer(import(text, n, t, p, plan).map(|_| 0)),
     import_size: |text, n, t, p| answer(import_file(text, n, t, p).map(|file| file.len())),
+    charge: |plan, price, parts| answer(charge(plan, price, parts)),
 };
 
 /// The product's static library.
@@ -129,6 +132,7 @@ pub const LIBRARY: Interface = {
                 plan_len: usize,
             ) -> u64;
             pub fn pool_import_size(text: Bytes, text_len: usize, n: u32, t: u32, p: u32) -> u64;
+            pub fn pool_charge(plan: Bytes, plan_len: usize, price: u32, parts: *mut u8, parts_len: usize) -> u64;
         }
     }
     Interface {
@@ -184,6 +188,9 @@ pub const LIBRARY: Interface = {
             c::pool_import(text.as_ptr(), text.len(), n, t, p, plan.as_mut_ptr(), plan.len())
         },
         import_size: |text, n, t, p| unsafe { c::pool_import_size(text.as_ptr(), text.len(), n, t, p) },
+        charge: |plan, price, parts| unsafe {
+            c::pool_charge(plan.as_ptr(), plan.len(), price, parts.as_mut_ptr(), parts.len())
+        },
     }
 };
 

@@ -75,6 +75,9 @@ enum-told-23 c = search coding
 enum-told-24 : tie.Need-enum-told-24
 enum-told-24 c = search coding
 
+enum-told-25 : tie.Need-enum-told-25
+enum-told-25 c = search coding
+
 returns : tie.Need-returns
 unfolding numberOf
 returns c = search coding
@@ -171,6 +174,10 @@ returns-24 : tie.Need-returns-24
 unfolding numberOf
 returns-24 c = search coding
 
+returns-25 : tie.Need-returns-25
+unfolding numberOf
+returns-25 c = search coding
+
 pub number-spec : {M : Type 1} → statement M
 number-spec =
     tie.close
@@ -199,6 +206,7 @@ number-spec =
     enum-told-22
     enum-told-23
     enum-told-24
+    enum-told-25
     returns
     returns-2
     returns-3
@@ -222,4 +230,5 @@ number-spec =
     returns-21
     returns-22
     returns-23
-    returns-24)
+    returns-24
+    returns-25)

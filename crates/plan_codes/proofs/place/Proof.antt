@@ -39,17 +39,17 @@ enum-told-9 c = search coding
 enum-told-10 : tie.Need-enum-told-10
 enum-told-10 c = search coding
 
-enum-known-r-3 : tie.Need-enum-known-r-3
-enum-known-r-3 c = search coding
-
 enum-told-11 : tie.Need-enum-told-11
 enum-told-11 c = search coding
 
-enum-known-r-4 : tie.Need-enum-known-r-4
-enum-known-r-4 c = search coding
+enum-known-r-3 : tie.Need-enum-known-r-3
+enum-known-r-3 c = search coding
 
 enum-told-12 : tie.Need-enum-told-12
 enum-told-12 c = search coding
+
+enum-known-r-4 : tie.Need-enum-known-r-4
+enum-known-r-4 c = search coding
 
 enum-told-13 : tie.Need-enum-told-13
 enum-told-13 c = search coding
@@ -60,11 +60,14 @@ enum-told-14 c = search coding
 enum-told-15 : tie.Need-enum-told-15
 enum-told-15 c = search coding
 
+enum-told-16 : tie.Need-enum-told-16
+enum-told-16 c = search coding
+
 enum-known-r-5 : tie.Need-enum-known-r-5
 enum-known-r-5 c = search coding
 
-enum-told-16 : tie.Need-enum-told-16
-enum-told-16 c = search coding
+enum-told-17 : tie.Need-enum-told-17
+enum-told-17 c = search coding
 
 enum-known-r-6 : tie.Need-enum-known-r-6
 enum-known-r-6 c = search coding
@@ -171,6 +174,10 @@ returns-24 : tie.Need-returns-24
 unfolding placeOf
 returns-24 c = search coding
 
+returns-25 : tie.Need-returns-25
+unfolding placeOf
+returns-25 c = search coding
+
 pub place-spec : {M : Type 1} → statement M
 place-spec =
     tie.close
@@ -187,15 +194,16 @@ place-spec =
     enum-known-r-2
     enum-told-9
     enum-told-10
-    enum-known-r-3
     enum-told-11
-    enum-known-r-4
+    enum-known-r-3
     enum-told-12
+    enum-known-r-4
     enum-told-13
     enum-told-14
     enum-told-15
-    enum-known-r-5
     enum-told-16
+    enum-known-r-5
+    enum-told-17
     enum-known-r-6
     enum-known-r-7
     enum-known-r-8
@@ -222,4 +230,5 @@ place-spec =
     returns-21
     returns-22
     returns-23
-    returns-24)
+    returns-24
+    returns-25)

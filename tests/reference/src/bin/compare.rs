@@ -27,15 +27,17 @@ enum Case {
     RunSize { plan: Vec<u8>, set: u16, what: u16 },
     Import { text: Vec<u8>, sizes: [u32; 3], plan: Vec<u8> },
     ImportSize { text: Vec<u8>, sizes: [u32; 3] },
+    Charge { plan: Vec<u8>, price: u32, parts: Vec<u8> },
 }
 
-/// Kinds of calls; the refusals and none; how often an import must meet 23, and 24.
-const KINDS: usize = 8;
-const NUMBERS: usize = 25;
+/// Kinds of calls; the refusals and none; how often an import must meet 23, and 24, and a charge 31.
+const KINDS: usize = 9;
+const NUMBERS: usize = 32;
 const TEXTS_MET: usize = 500;
+const PRICES_MET: usize = 200;
 
 const NAMES: [&str; KINDS] =
-    ["plan check", "seat call", "bench", "matching", "seat size", "run size", "import", "import size"];
+    ["plan check", "seat call", "bench", "matching", "seat size", "run size", "import", "import size", "charge"];
 
 /// A lent buffer between two odd stretches of guard bytes.
 struct Lent(Vec<u8>);
@@ -64,6 +66,7 @@ impl Case {
             Case::RunSize { .. } => 5,
             Case::Import { .. } => 6,
             Case::ImportSize { .. } => 7,
+            Case::Charge { .. } => 8,
         }
     }
 
@@ -71,6 +74,7 @@ impl Case {
         match self {
             Case::Check { plan } | Case::Call { plan, .. } | Case::Bench { plan, .. } => plan,
             Case::Match { plan, .. } | Case::SeatSize { plan, .. } | Case::RunSize { plan, .. } => plan,
+            Case::Charge { plan, .. } => plan,
             Case::Import { .. } | Case::ImportSize { .. } => unreachable!("a text is no plan"),
         }
     }
@@ -99,6 +103,10 @@ impl Case {
                 ((with.import)(text, *n, *t, *p, plan.slice()), vec![plan.0])
             }
             Case::ImportSize { text, sizes: [n, t, p] } => ((with.import_size)(text, *n, *t, *p), vec![]),
+            Case::Charge { plan, price, parts } => {
+                let mut parts = Lent::new(parts);
+                ((with.charge)(plan, *price, parts.slice()), vec![parts.0])
+            }
         }
     }
 
@@ -141,6 +149,10 @@ impl Case {
             Case::ImportSize { text, sizes } => {
                 write!(numbers, "\n  n, t, p {sizes:?}").unwrap();
                 list("text", text);
+            }
+            Case::Charge { plan, price, parts } => {
+                write!(numbers, "\n  price {price} room {}", parts.len()).unwrap();
+                list("plan", plan);
             }
         }
         text + &numbers
@@ -838,6 +850,39 @@ fn random_values(round: usize) -> usize {
     [1, 2, 3, 15][round % 4]
 }
 
+/// Charges of a world's plan: prices within the limit and above it, buffers of other lengths, damaged plans.
+fn charges(random: &mut Random, tally: &mut Tally, world: &World) {
+    let room = 4 * usize::from(world.plan.n);
+    let within = |random: &mut Random| {
+        let small = random.below(3000) as u32;
+        let any = random.below(1_000_001) as u32;
+        random.pick(&[0, 1, 999, 1000, 1001, 999_999, 1_000_000, small, small, small, any, any])
+    };
+    let above = |random: &mut Random| {
+        let any = random.range(1_000_001, u32::MAX as usize) as u32;
+        random.pick(&[1_000_001, 1_000_002, 0x8000_0000, u32::MAX, any])
+    };
+    let case =
+        |random: &mut Random, price| Case::Charge { plan: world.file.clone(), price, parts: filler(random, room) };
+    for _ in 0..6 {
+        let price = within(random);
+        let case = case(random, price);
+        tally.compare(&case, Some(0));
+    }
+    let dear = above(random);
+    let dear = case(random, dear);
+    tally.compare(&dear, Some(31));
+    for mut case in [case(random, 1_000_000), dear] {
+        let Case::Charge { parts, price, .. } = &mut case else { unreachable!("a charge") };
+        let expected = if *price > 1_000_000 { 31 } else { 19 };
+        wrong_length(random, parts);
+        tally.compare(&case, Some(expected));
+        let refusal = random.range(1, 8) as u8;
+        damage_plan(random, case.plan(), &world.plan, refusal);
+        tally.compare(&case, Some(refusal));
+    }
+}
+
 fn main() -> ExitCode {
     let start = Instant::now();
     let mut random = Random(20_260_101);
@@ -857,6 +902,17 @@ fn main() -> ExitCode {
         runs(&mut random, &mut tally, &world, 2);
     }
     circuits(&mut random, &mut tally);
+    let mut other = Random(20_260_214);
+    let files = extremes(&mut other);
+    for most in [[2, 5, 12, 30].as_slice(); 200].concat() {
+        let file = random::plan(&mut other, most);
+        let world = World::new(&mut other, file);
+        charges(&mut other, &mut tally, &world);
+    }
+    for file in files {
+        let world = World::new(&mut other, file);
+        charges(&mut other, &mut tally, &world);
+    }
 
     println!("library: {}", if LINKED { "libpool.a" } else { "none linked, the reference stands in" });
     println!("refusal  {}    all", NAMES.map(|name| format!("{name:>10}")).join(" "));
@@ -865,13 +921,21 @@ fn main() -> ExitCode {
         let row: Vec<usize> = tally.met.iter().map(|kind| kind[refusal]).collect();
         let all: usize = row.iter().sum();
         let row: Vec<String> = row.iter().map(|count| format!("{count:>10}")).collect();
-        let few = if refusal > 22 { tally.met[6][refusal] < TEXTS_MET } else { refusal > 0 && all < 50 };
+        let few = match refusal {
+            0 => false,
+            1..=22 => all < 50,
+            23 | 24 => tally.met[6][refusal] < TEXTS_MET,
+            31 => all < PRICES_MET,
+            _ => continue, // the refusals of calls that are not there yet
+        };
         scarce += usize::from(few);
         println!("{refusal:>7}  {} {all:>6}{}", row.join(" "), if few { "  TOO FEW" } else { "" });
     }
     println!("{} of the matchings changed a coin", tally.moved);
     let texts: usize = tally.met[6].iter().sum();
     println!("{texts} texts imported or refused");
+    let bills: usize = tally.met[8].iter().sum();
+    println!("{bills} charges");
     let mut cases: usize = tally.met.iter().flatten().sum();
     let path = std::env::var("POOL_PROGRAM").expect("POOL_PROGRAM: the path of the bench program");
     let (count, differences) = programs(&mut random, &path);
@@ -880,7 +944,7 @@ fn main() -> ExitCode {
     tally.passed += count - differences;
     tally.differences += differences;
     println!("{cases} cases, {} passed, {} differ, {:.1?}", tally.passed, tally.differences, start.elapsed());
-    if LINKED && tally.differences == 0 && scarce == 0 && cases >= 20_000 && texts >= 20_000 {
+    if LINKED && tally.differences == 0 && scarce == 0 && cases >= 20_000 && texts >= 20_000 && bills >= 5_000 {
         ExitCode::SUCCESS
     } else {
         ExitCode::FAILURE
