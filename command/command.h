@@ -19,7 +19,7 @@ struct command {
     void (*run)(char **args);
 };
 
-extern const struct command check_command, show_command, run_command, match_command, import_command, charge_command;
+extern const struct command check_command, show_command, run_command, match_command, import_command, sheet_command, charge_command;
 
 /* The subcommand that runs; null before it is known. */
 extern const struct command *current;
@@ -47,10 +47,36 @@ uint32_t number_word(const char *option, const char *word);
 /* The set that a word as 1,3 names: bit i - 1 stands for seat i. */
 uint16_t set_of(const char *word);
 
+/* What a command that makes a plan is given beside its text: the plan's numbers, and the file. */
+struct plan_words {
+    const char *seats, *threshold, *prime, *output;
+};
+
+struct plan_numbers {
+    uint32_t n, t, p;
+};
+
+/* Rows of a table of options, all needed, and their lines of a help page, with those of others between them. */
+#define PLAN_OPTIONS(words) \
+    {.name = "seats", .letter = 'n', .value = &(words).seats, .needed = true}, \
+    {.name = "threshold", .letter = 't', .value = &(words).threshold, .needed = true}, \
+    {.name = "prime", .letter = 'p', .value = &(words).prime, .needed = true}, \
+    {.name = "output", .letter = 'o', .value = &(words).output, .needed = true}
+#define PLAN_OPTIONS_HELP(others) \
+    "  -n, --seats N        how many seats the plan has\n" \
+    "  -t, --threshold T    the most seats that may put their views together\n" \
+    "  -p, --prime P        the prime\n" others \
+    "  -o, --output PLAN    the plan file that is written\n"
+
+struct plan_numbers plan_numbers_of(const struct plan_words *words);
+
 /* ---- input (input.c) */
 
 /* The bytes of a file; `-` is standard input. */
 struct bytes input(const char *path);
+
+/* The formula of a word: the formula itself, or a file that has it, which a word with a dot or a slash names. A file's last line feed is left out. */
+struct bytes formula_of(const char *word);
 
 /* The list of an option's word: the numbers themselves, or a file that has them. */
 struct bytes list_of(const char *option, const char *word);

@@ -8,20 +8,15 @@
 
 static void import(char **args)
 {
-    const char *path = NULL, *seats = NULL, *threshold = NULL, *prime = NULL, *output = NULL;
-    const struct option options[] = {
-        {.name = "seats", .letter = 'n', .value = &seats, .needed = true},
-        {.name = "threshold", .letter = 't', .value = &threshold, .needed = true},
-        {.name = "prime", .letter = 'p', .value = &prime, .needed = true},
-        {.name = "output", .letter = 'o', .value = &output, .needed = true},
-        {0},
-    };
+    const char *path = NULL;
+    struct plan_words words = {0};
+    const struct option options[] = {PLAN_OPTIONS(words), {0}};
     read_words(args, "circuit", &path, options);
-    uint32_t n = number_word("--seats", seats), t = number_word("--threshold", threshold), p = number_word("--prime", prime);
+    struct plan_numbers k = plan_numbers_of(&words);
     struct bytes text = input(path);
-    struct bytes file = fresh_bytes(value(pool_import_size(text.at, text.len, n, t, p)));
-    value(pool_import(text.at, text.len, n, t, p, file.at, file.len));
-    write_plan(output, file);
+    struct bytes file = fresh_bytes(value(pool_import_size(text.at, text.len, k.n, k.t, k.p)));
+    value(pool_import(text.at, text.len, k.n, k.t, k.p, file.at, file.len));
+    write_plan(words.output, file);
     free(text.at);
     free(file.at);
 }
@@ -33,10 +28,6 @@ const struct command import_command = {
     .help = "Reads a circuit in Bristol Fashion text and writes a plan that computes it. Input value k\n"
             "belongs to seat k: its figures are the value's bits, 0 or 1, in wire order. Seat 1 gets the\n"
             "output bits. Prints a line with the plan's counts.\n"
-            "\n"
-            "  -n, --seats N        how many seats the plan has\n"
-            "  -t, --threshold T    the most seats that may put their views together\n"
-            "  -p, --prime P        the prime\n"
-            "  -o, --output PLAN    the plan file that is written\n",
+            "\n" PLAN_OPTIONS_HELP(""),
     .run = import,
 };

@@ -34,6 +34,20 @@ struct bytes input(const char *path)
     return all;
 }
 
+struct bytes formula_of(const char *word)
+{
+    if (!is_standard(word) && !strpbrk(word, "./"))
+        return copy_of((struct bytes){(uint8_t *)(uintptr_t)word, strlen(word)});
+    struct bytes text;
+    if (is_standard(word))
+        text = standard_input();
+    else if (!read_file(word, &text))
+        fail(NOT_POSSIBLE, "cannot read %s: %s (a formula has no dot and no slash)", word, strerror(errno));
+    if (text.len && text.at[text.len - 1] == '\n')
+        text.len--;
+    return text;
+}
+
 /* Whether a word is a list itself: it has nothing but digits, commas and blanks. */
 static bool is_list(const char *word)
 {

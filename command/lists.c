@@ -22,6 +22,13 @@ struct bytes fresh_bytes(size_t len)
     return b;
 }
 
+struct bytes copy_of(struct bytes b)
+{
+    struct bytes copy = fresh_bytes(b.len);
+    memcpy(copy.at, b.at, b.len);
+    return copy;
+}
+
 /* ---- numbers in bytes */
 
 size_t numbers_in(size_t bytes)

@@ -26,8 +26,9 @@ enum fault {
 /* Ends the program with a message on standard error. Each program has its own. */
 _Noreturn void fail(enum fault fault, const char *format, ...) __attribute__((format(printf, 2, 3)));
 
-/* So many bytes of 0. */
+/* So many bytes of 0; and the same bytes again. */
 struct bytes fresh_bytes(size_t len);
+struct bytes copy_of(struct bytes b);
 
 /* How many numbers so many bytes have. */
 size_t numbers_in(size_t bytes);

@@ -157,9 +157,7 @@ void print_counts(FILE *to, const struct plan *plan)
 
 void write_plan(const char *path, struct bytes file)
 {
-    struct bytes copy = fresh_bytes(file.len);
-    memcpy(copy.at, file.at, file.len);
-    struct plan plan = plan_of(path, copy);
+    struct plan plan = plan_of(path, copy_of(file));
     struct report r;
     open_report(&r);
     fprintf(r.to, "%zu bytes: ", file.len);

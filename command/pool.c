@@ -14,6 +14,7 @@ static const struct command *const commands[] = {
     &run_command,
     &match_command,
     &import_command,
+    &sheet_command,
     &charge_command,
 };
 

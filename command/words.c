@@ -79,6 +79,15 @@ uint32_t number_word(const char *option, const char *word)
     return (uint32_t)x;
 }
 
+struct plan_numbers plan_numbers_of(const struct plan_words *words)
+{
+    struct plan_numbers numbers;
+    numbers.n = number_word("--seats", words->seats);
+    numbers.t = number_word("--threshold", words->threshold);
+    numbers.p = number_word("--prime", words->prime);
+    return numbers;
+}
+
 uint16_t set_of(const char *word)
 {
     struct bytes text = {(uint8_t *)(uintptr_t)word, strlen(word)};

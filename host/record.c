@@ -108,13 +108,6 @@ static struct bytes next_part(struct bytes all, size_t *at)
     return (struct bytes){all.at + *at - len, len};
 }
 
-static struct bytes copy_of(struct bytes part)
-{
-    struct bytes copy = fresh_bytes(part.len);
-    memcpy(copy.at, part.at, part.len);
-    return copy;
-}
-
 /* The calls that send mail: all but the last. */
 static unsigned sent_calls(const struct record *r)
 {

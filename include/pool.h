@@ -52,8 +52,9 @@
  *
  * A call takes at most so many bytes of its thread's stack: pool_bench
  * POOL_STACK_BENCH, pool_match POOL_STACK_MATCH, pool_import and
- * pool_import_size POOL_STACK_IMPORT, every other function POOL_STACK_SEAT. A
- * thread's own start takes some more (PTHREAD_STACK_MIN).
+ * pool_import_size POOL_STACK_IMPORT, pool_sheet and pool_sheet_size
+ * POOL_STACK_SHEET, every other function POOL_STACK_SEAT. A thread's own start
+ * takes some more (PTHREAD_STACK_MIN).
  */
 #ifndef POOL_H
 #define POOL_H
@@ -70,6 +71,7 @@ extern "C" {
 #define POOL_STACK_BENCH 131072
 #define POOL_STACK_MATCH 262144
 #define POOL_STACK_IMPORT 81920
+#define POOL_STACK_SHEET 16384
 
 /* The refusal's number in an answer, 0 where there is none; and its place. */
 #define POOL_REFUSAL(answer) ((unsigned)((answer) & 0xff))
@@ -139,6 +141,44 @@ uint64_t pool_import_size(const uint8_t *text, size_t text_len, uint32_t n,
  */
 uint64_t pool_import(const uint8_t *text, size_t text_len, uint32_t n,
     uint32_t t, uint32_t p, uint8_t *plan, size_t plan_len);
+
+/*
+ * The size in bytes of the plan that a formula sheet makes.
+ *
+ * text, text_len: a formula, any bytes, as 2*a1 + a1*(b2 - 3). A name is a
+ *                 lower-case letter and a party's number, 1 to n; numbers are
+ *                 decimal and below p; no number has a leading zero, a name's
+ *                 neither. * binds before + and -, equal ones group to the
+ *                 left, a minus needs a left side, and brackets may be nested
+ *                 to a depth of 16. Blanks are spaces, skipped everywhere but
+ *                 inside a name or number; a line feed is no blank. There has
+ *                 to be a name.
+ * n, t, p:        the plan's parties, threshold and prime, as they are: 257 is
+ *                 not 1.
+ * seat:           the party that gets the result, as it is.
+ *
+ * Answers the size as its value; or the first of refusals 27 and 24 and those
+ * of the plan: 3 to 5, and 8 where the result's party is not 1 to n. The time
+ * is linear in the text's length.
+ */
+uint64_t pool_sheet_size(const uint8_t *text, size_t text_len, uint32_t n,
+    uint32_t t, uint32_t p, uint32_t seat);
+
+/*
+ * Compiles a formula sheet: writes a plan that computes it.
+ *
+ * text, text_len, n, t, p, seat: as above.
+ * plan, plan_len:                written: the plan file, of exactly its size.
+ *
+ * Each name is an input of the party that it names, and the figures stand in
+ * the order in which the names are first used. The result is the formula's
+ * value modulo p.
+ *
+ * Answers 0 and has written plan, or answers the first of refusals 27 and 24,
+ * those of the plan, 3 to 5 and 8, and 19, and has written nothing.
+ */
+uint64_t pool_sheet(const uint8_t *text, size_t text_len, uint32_t n,
+    uint32_t t, uint32_t p, uint32_t seat, uint8_t *plan, size_t plan_len);
 
 /*
  * How many calls each party makes: M + 3, numbered 0 to M + 2, with M the

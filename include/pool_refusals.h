@@ -2,7 +2,8 @@
  *
  * The one table of these words. Define POOL_REFUSAL_ROW(number, sentence) and include this file to get a row for each. */
 POOL_REFUSAL_ROW(23, "The circuit's text breaks the format, has more input values than seats, or a wire is not set once before it is read.")
-POOL_REFUSAL_ROW(24, "The circuit would make a plan of over 1,024 gates or over 64 outs.")
+POOL_REFUSAL_ROW(27, "The formula sheet breaks a rule of names, numbers, operators or brackets, has no name, or names a seat that is not 1 to n.")
+POOL_REFUSAL_ROW(24, "The circuit or sheet would make a plan of over 1,024 gates or over 64 outs.")
 POOL_REFUSAL_ROW(1, "The plan has under 18 bytes or does not begin with POOL.")
 POOL_REFUSAL_ROW(2, "The plan's version is not 1.")
 POOL_REFUSAL_ROW(3, "The plan's number of seats is not 1 to 15.")

@@ -6,16 +6,6 @@
 
 enum { CASES = 3000 };
 
-static uint64_t state = 88172645463325252u;
-
-static unsigned below(unsigned bound)
-{
-    state ^= state << 13;
-    state ^= state >> 7;
-    state ^= state << 17;
-    return (unsigned)(state % bound);
-}
-
 struct slice {
     uint8_t *block, *at;
     size_t len;
@@ -38,18 +28,26 @@ static void check(uint64_t answer)
         failed++;
 }
 
+/* A text, whole or cut short, now and then with another byte in it. */
+static struct slice lend_text(const char *text, size_t len)
+{
+    size_t cut = below(4) ? len : below((unsigned)len + 1);
+    struct slice s = lend((const uint8_t *)text, cut);
+    if (cut && !below(3))
+        s.at[below((unsigned)cut)] = (uint8_t)below(256);
+    return s;
+}
+
 int main(void)
 {
     static const char circuit[] = "3 7\n2 2 2\n1 1\n\n2 1 0 2 4 XOR\n2 1 1 3 5 AND\n2 1 4 5 6 XOR\n";
+    static const char sheet[] = "2*a1 + a1*(b2 - 3)";
     uint8_t k[64];
     size_t k_len = plan_k(k);
     for (unsigned i = 0; i < CASES; i++) {
         static const size_t sizes[] = {0, 2, 4, 6, 10, 20, 40};
         struct slice s[6];
-        size_t cut = below(4) ? k_len : below((unsigned)k_len + 1);
-        s[0] = lend(k, cut);
-        if (cut && !below(3))
-            s[0].at[below((unsigned)cut)] = (uint8_t)below(256);
+        s[0] = lend_text((const char *)k, k_len);
         for (unsigned j = 1; j < 6; j++)
             s[j] = lend(NULL, below(3) ? sizes[below(7)] : below(50));
         if (!below(3))
@@ -65,15 +63,17 @@ int main(void)
         struct slice parts = lend(NULL, below(3) ? 12 : below(20));
         check(pool_charge(s[0].at, s[0].len, below(2) ? 1000000 - below(3) : 1000000 + below(3), parts.at, parts.len));
         free(parts.block);
-        cut = below(4) ? sizeof circuit - 1 : below(sizeof circuit);
-        struct slice text = lend((const uint8_t *)circuit, cut), plan = lend(NULL, below(3) ? 99 : below(120));
-        if (cut && !below(3))
-            text.at[below((unsigned)cut)] = (uint8_t)below(256);
-        check(pool_import_size(text.at, text.len, 3, 1, 11));
-        check(pool_import(text.at, text.len, 3, 1, 11, plan.at, plan.len));
-        free(text.block);
-        free(plan.block);
         for (unsigned j = 0; j < 6; j++)
+            free(s[j].block);
+        s[0] = lend_text(circuit, sizeof circuit - 1);
+        s[1] = lend(NULL, below(3) ? 99 : below(120));
+        check(pool_import_size(s[0].at, s[0].len, 3, 1, 11));
+        check(pool_import(s[0].at, s[0].len, 3, 1, 11, s[1].at, s[1].len));
+        s[2] = lend_text(sheet, sizeof sheet - 1);
+        s[3] = lend(NULL, below(3) ? 87 : below(120));
+        check(pool_sheet_size(s[2].at, s[2].len, 3, 1, 11, seat));
+        check(pool_sheet(s[2].at, s[2].len, 3, 1, 11, seat, s[3].at, s[3].len));
+        for (unsigned j = 0; j < 4; j++)
             free(s[j].block);
     }
     passed = failed == 0;

@@ -9,16 +9,6 @@ enum { SEATS = 15, GATES = 1024, OUTS = 64, ROOM = 4 * SEATS + 4 };
 static uint8_t plan[18 + 6 * GATES + 3 * OUTS], parts[ROOM];
 static size_t plan_len;
 
-static uint64_t state = 88172645463325252u;
-
-static unsigned below(unsigned bound)
-{
-    state ^= state << 13;
-    state ^= state >> 7;
-    state ^= state << 17;
-    return (unsigned)((state >> 11) % bound);
-}
-
 static void expect_number(const char *what, uint64_t got, uint64_t want)
 {
     if (got == want) {

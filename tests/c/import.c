@@ -1,38 +1,20 @@
 /* Circuits in Bristol Fashion imported into plans: the worked example, each way to break the format, the limits, and comparators run on the bench. */
 #include <stdlib.h>
 
-#include "plans.h"
+#include "made.h"
 
-enum { MOST_PLAN = 18 + 6 * 1024 + 3 * 64, MOST_TEXT = 1 << 21 };
+enum { MOST_TEXT = 1 << 21 };
 
 static const char example[] = "3 7\n2 2 2\n1 1\n\n2 1 0 2 4 XOR\n2 1 1 3 5 AND\n2 1 4 5 6 XOR\n";
 
-static uint8_t plan[MOST_PLAN + 1], text[MOST_TEXT];
+static uint8_t text[MOST_TEXT];
 static size_t text_len;
-
-static uint64_t state = 88172645463325252u;
-
-static unsigned below(unsigned bound)
-{
-    state ^= state << 13;
-    state ^= state >> 7;
-    state ^= state << 17;
-    return (unsigned)((state >> 11) % bound);
-}
 
 /* Imports a text of such a size; the buffer keeps its bytes where it is refused. */
 static uint64_t import(const char *from, size_t len, unsigned n, unsigned t, unsigned p, size_t room)
 {
-    uint8_t before[sizeof plan];
-    for (size_t i = 0; i < sizeof plan; i++)
-        plan[i] = (uint8_t)below(256);
-    memcpy(before, plan, sizeof plan);
-    uint64_t answer = pool_import((const uint8_t *)from, len, n, t, p, plan, room);
-    if (POOL_REFUSAL(answer))
-        expect_bytes("a refused import writes nothing", plan, before, sizeof plan);
-    else
-        expect_bytes("an import writes no byte more", plan + room, before + room, sizeof plan - room);
-    return answer;
+    fill_plan();
+    return kept_plan(pool_import((const uint8_t *)from, len, n, t, p, plan, room), room);
 }
 
 /* A text that is refused, by pool_import_size as well. */
@@ -50,9 +32,7 @@ static void broken(const char *what, const char *from)
 /* A text that imports: the plan passes, and has this size. */
 static void imports(const char *what, const char *from, size_t len, unsigned n, unsigned t, unsigned p, size_t size)
 {
-    uint64_t answer = pool_import_size((const uint8_t *)from, len, n, t, p);
-    expect(what, POOL_REFUSAL(answer), 0, 0);
-    expect(what, POOL_VALUE(answer) == size ? 0 : 1, 0, 0);
+    expect_size(what, pool_import_size((const uint8_t *)from, len, n, t, p), size);
     expect(what, import(from, len, n, t, p, size), 0, 0);
     expect(what, pool_plan_check(plan, size), 0, 0);
 }
@@ -198,34 +178,28 @@ static void comparator(unsigned bits, unsigned values)
     text_len = (size_t)(len + sprintf(to + len, "\n1 1\n\n%s", body));
 }
 
-/* Runs the imported plan on the bench: party 1's result. */
-static unsigned compared(size_t plan_len, unsigned p, unsigned bits, unsigned a, unsigned b)
+/* The bits of two numbers as figures. */
+static void put_bits(uint8_t *figures, unsigned bits, unsigned a, unsigned b)
 {
-    static uint8_t figures[64], coins[65536], view[65536];
-    size_t figures_len = (size_t)POOL_VALUE(pool_run_size(plan, plan_len, 0, POOL_RUN_FIGURES));
-    size_t coins_len = (size_t)POOL_VALUE(pool_run_size(plan, plan_len, 0, POOL_RUN_COINS));
-    unsigned set = plan[6] > 0;
-    size_t view_len = (size_t)POOL_VALUE(pool_run_size(plan, plan_len, (uint16_t)set, POOL_RUN_VIEW));
     for (unsigned i = 0; i < bits; i++) {
         put(figures + 2 * i, a >> i & 1);
         put(figures + 2 * (bits + i), b >> i & 1);
     }
-    for (size_t i = 0; i < coins_len / 2; i++)
-        put(coins + 2 * i, below(p));
-    uint64_t answer = pool_bench(plan, plan_len, (uint16_t)set, figures, figures_len, coins, coins_len, view, view_len);
-    if (POOL_REFUSAL(answer) || figures_len != 4 * bits)
-        return 99;
-    return set ? view[view_len - 2] + 256u * view[view_len - 1] : 98;
+}
+
+/* Runs the imported plan on the bench: party 1's result. */
+static unsigned compared(size_t plan_len, unsigned bits, unsigned a, unsigned b)
+{
+    uint8_t figures[64];
+    put_bits(figures, bits, a, b);
+    return result_on_bench(plan_len, 1, figures, 4 * bits);
 }
 
 /* One party alone has no coalition: its own call gives its result. */
 static unsigned alone(size_t plan_len, unsigned bits, unsigned a, unsigned b)
 {
     static uint8_t figures[64], seat[8192], mail[8192], sent[8192];
-    for (unsigned i = 0; i < bits; i++) {
-        put(figures + 2 * i, a >> i & 1);
-        put(figures + 2 * (bits + i), b >> i & 1);
-    }
+    put_bits(figures, bits, a, b);
     size_t seat_len = (size_t)POOL_VALUE(pool_seat_size(plan, plan_len, 1, 0, POOL_SEAT_STATE)), mail_len = 0;
     unsigned calls = (unsigned)POOL_VALUE(pool_calls(plan, plan_len));
     memset(seat, 0, seat_len);
@@ -235,7 +209,7 @@ static unsigned alone(size_t plan_len, unsigned bits, unsigned a, unsigned b)
             return 99;
         memcpy(mail, sent, mail_len = sent_len);
     }
-    return mail[0] + 256u * mail[1];
+    return get(mail);
 }
 
 static void comparators(void)
@@ -250,7 +224,7 @@ static void comparators(void)
         unsigned wrong = 0;
         for (unsigned k = 0; k < 500; k++) {
             unsigned a = below(65536), b = k % 4 ? below(65536) : a ^ (k % 8 ? 1u << below(16) : 0);
-            wrong += compared(size, primes[i], 16, a, b) != (a > b);
+            wrong += compared(size, 16, a, b) != (a > b);
         }
         expect("the comparator on the bench is the comparison", wrong, 0, 0);
     }

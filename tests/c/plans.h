@@ -1,4 +1,4 @@
-/* Plans for the C tests, and a count of what held. */
+/* Plans for the C tests, numbers at random, and a count of what held. */
 #ifndef PLANS_H
 #define PLANS_H
 
@@ -34,6 +34,21 @@ static inline void put(uint8_t *at, unsigned v)
 {
     at[0] = v & 0xff;
     at[1] = v >> 8;
+}
+
+static inline unsigned get(const uint8_t *at)
+{
+    return at[0] + 256u * at[1];
+}
+
+/* A number below bound, the next of a fixed row. */
+static inline unsigned below(unsigned bound)
+{
+    static uint64_t row = 88172645463325252u;
+    row ^= row << 13;
+    row ^= row >> 7;
+    row ^= row << 17;
+    return (unsigned)((row >> 11) % bound);
 }
 
 /* The contents of a plan with G gates and O outs. */

@@ -100,6 +100,22 @@ static uint64_t import(void)
     return pool_import((uint8_t *)text, len, 3, 1, 11, buffer, size);
 }
 
+/* As many names as there are, the last within brackets as deep as they go; and a long sheet of which only the end is wrong. */
+static uint64_t sheet(void)
+{
+    static char text[1000000];
+    size_t len = 0;
+    for (unsigned i = 0; i < 389; i++)
+        len += (size_t)sprintf(text + len, "%c%u*", (int)('a' + i % 26), i / 26 + 1);
+    len += (size_t)sprintf(text + len, "((((((((((((((((z15 - 2*z15))))))))))))))))");
+    size_t size = POOL_VALUE(pool_sheet_size((uint8_t *)text, len, 15, 7, 17, 1));
+    uint64_t answer = pool_sheet((uint8_t *)text, len, 15, 7, 17, 1, buffer, size);
+    while (len < sizeof text - 100)
+        len += (size_t)sprintf(text + len, "+((((((((((((((((a1))))))))))))))))");
+    len += (size_t)sprintf(text + len, "+(((((((((((((((((a1)))))))))))))))))");
+    return answer ? answer : POOL_REFUSAL(pool_sheet_size((uint8_t *)text, len, 15, 7, 17, 1)) - 27;
+}
+
 struct job {
     uint64_t (*call)(void);
     uint8_t *floor;
@@ -158,6 +174,7 @@ int main(void)
         on_stack("plan check, sizes and charge", small, POOL_STACK_SEAT);
     }
     on_stack("pool_import", import, POOL_STACK_IMPORT);
+    on_stack("pool_sheet", sheet, POOL_STACK_SHEET);
     printf("%d passed, %d failed\n", passed, failed);
     return failed != 0;
 }

@@ -34,6 +34,7 @@ use Rattle.seat_messages.specs.Calls.{onPolynomial, outsCheck, openingCheck, pa
 use Rattle.run_bench.specs.BenchCalls.{runChecks, benchAnswer, benchedOf, viewAfter}
 use Rattle.match_agreement.specs.MatchCalls.{inputsAgree, outsAgree, pairChecks, matchAnswer, matchedAfter}
 use Rattle.import_call.specs.Importing.{importFile, textChecks, importChecks, importAnswer, importAfter}
+use Rattle.sheet_call.specs.Compiling as sheet
 use Rattle.charge_laws.specs.Charges.{billOf}
 use Rattle.charge_call.specs.ChargeCalls.{priceChecks, chargeAnswer, chargedOf, chargeAfter}
 use Rattle.pool_answers.specs.Sizes.{answerOf, billedOf}
@@ -138,6 +139,7 @@ each-number n check m h = record { is = λ q e. let o = first-refused check m q 
 number-range : (r : Refusal) → (1 ≤ numberOf r) × (numberOf r ≤ 31)
 unfolding numberOf
 number-range refusal.CircuitText = (omega arith, omega arith)
+number-range refusal.SheetText = (omega arith, omega arith)
 number-range refusal.TooLarge = (omega arith, omega arith)
 number-range refusal.Magic = (omega arith, omega arith)
 number-range refusal.Version = (omega arith, omega arith)
@@ -338,6 +340,10 @@ text-numbers : (n t p : ℕ) (text : List ℕ) → Numbers (23 ∷ 24 ∷ planNu
 unfolding textChecks numberOf
 text-numbers n t p text = need-number refusal.CircuitText _ ▹ need-number refusal.TooLarge _ ▹ plan-numbers (importFile n t p text)
 
+sheet-numbers : (n t p i : ℕ) (text : List ℕ) → Numbers (27 ∷ 24 ∷ planNumbers) (sheet.textChecks n t p i text)
+unfolding sheet.textChecks numberOf
+sheet-numbers n t p i text = need-number refusal.SheetText _ ▹ need-number refusal.TooLarge _ ▹ plan-numbers (sheet.sheetFile n t p i text)
+
 room-number : (ok : Bool) → Numbers (19 ∷ []) (need refusal.BufferLength ok ∷ [])
 unfolding numberOf
 room-number ok = need-number refusal.BufferLength ok ▹ none
@@ -371,6 +377,13 @@ text-bounded n t p text =
     need-small refusal.CircuitText _ refl
     ▸ λ e1. need-small refusal.TooLarge _ refl
     ▸ λ e2. plan-bounded (importFile n t p text)
+
+sheet-bounded : (n t p i : ℕ) (text : List ℕ) → Bounded (sheet.textChecks n t p i text)
+unfolding sheet.textChecks placeOf
+sheet-bounded n t p i text =
+    need-small refusal.SheetText _ refl
+    ▸ λ e1. need-small refusal.TooLarge _ refl
+    ▸ λ e2. plan-bounded (sheet.sheetFile n t p i text)
 
 room-bounded : (ok : Bool) → Bounded (need refusal.BufferLength ok ∷ [])
 unfolding placeOf
@@ -477,7 +490,7 @@ unfolding billedOf chargedOf
 bill-none b a r e = rw e refl
 
 pub demand1 : Demand1
-unfolding planCheck callChecks callAnswer benchAnswer matchAnswer importChecks importAnswer chargeAnswer stateAfter outAfter viewAfter matchedAfter importAfter chargeAfter ordered before rankIn checkingOrder
+unfolding planCheck callChecks callAnswer benchAnswer matchAnswer importChecks importAnswer sheet.sheetChecks sheet.sheetAnswer chargeAnswer stateAfter outAfter viewAfter matchedAfter importAfter sheet.sheetAfter chargeAfter ordered before rankIn checkingOrder
 demand1 = record {
   plan = λ bs. answers Unit (plan-numbers bs) refl (plan-bounded bs) (λ r e. tt);
   call = λ bs i inputs coins state mail out.
@@ -492,6 +505,8 @@ demand1 = record {
       (bounded-joined (plan-bounded bs) (λ e. pair-bounded bs e set xs ys coins (length out))) (λ r e. kept _ r _ out e);
   import = λ n t p text out.
       answers _ (joined (text-numbers n t p text) (room-number _)) refl (bounded-joined (text-bounded n t p text) (λ e. room-bounded _)) (λ r e. kept _ r _ out e);
+  sheet = λ n t p i text out.
+      answers _ (joined (sheet-numbers n t p i text) (room-number _)) refl (bounded-joined (sheet-bounded n t p i text) (λ e. room-bounded _)) (λ r e. kept _ r _ out e);
   charge = λ bs price out.
       answers _ (joined (plan-numbers bs) (price-numbers bs price (length out))) refl
       (bounded-joined (plan-bounded bs) (λ e. price-bounded bs price (length out))) (λ r e. kept _ r _ out e);

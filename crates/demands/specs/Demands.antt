@@ -19,6 +19,7 @@ use Rattle.run_bench.specs.BenchCalls.{runChecks, benchAnswer, benchedOf, viewA
 use Rattle.match_privacy.specs.Matching.{matchedCoins}
 use Rattle.match_agreement.specs.MatchCalls.{pairChecks, matchAnswer, matchedAfter}
 use Rattle.import_call.specs.Importing.{importChecks, importAnswer, importAfter}
+use Rattle.sheet_call.specs.Compiling.{sheetChecks, sheetAnswer, sheetAfter}
 use Rattle.charge_laws.specs.Charges.{billOf}
 use Rattle.charge_call.specs.ChargeCalls.{priceChecks, chargeAnswer, chargedOf, chargeAfter}
 use Rattle.pool_answers.specs.Sizes.{answerOf, billedOf}
@@ -64,6 +65,9 @@ pub record Demand1 : Type 0 where
   pub import :
       (n t p : ℕ) (text out : List ℕ)
       → Answers (importChecks n t p text (length out)) (importAnswer n t p text (length out)) (importAfter n t p text out ≡ out)
+  pub sheet :
+      (n t p i : ℕ) (text out : List ℕ)
+      → Answers (sheetChecks n t p i text (length out)) (sheetAnswer n t p i text (length out)) (sheetAfter n t p i text out ≡ out)
   pub charge :
       (bs : List ℕ) (price : ℕ) (out : List ℕ)
       → Answers (planChecks bs ++ priceChecks bs price (length out)) (chargeAnswer bs price (length out)) (chargeAfter bs price out ≡ out)

@@ -4,7 +4,7 @@
 -- Assumes nothing.
 use Prim.Native.Nat.{ℕ, suc, _+_, _-_, _*_, _<_, _≤_}
 use mathlib.Core.Path.{_≡_, refl, sym, ap, _∙_}
-use mathlib.Core.List.{List, [], _∷_, _++_, flatMap, append-nil}
+use mathlib.Core.List.{List, [], _∷_, _++_, flatMap}
 use native.Mathlib.Omega.{arith}
 use borrow.Author.Needs.{needs}
 use lib.ListN.{length, getD, set, replicate, length-set, length-replicate, List·getD-eq-default}
@@ -14,15 +14,15 @@ use mir.Val.{Fits}
 use Rattle.numbers.specs.Tables.{tab}
 use Rattle.numbers.proofs.Tables.{tab-cons, tab-ext}
 use Rattle.numbers.proofs.Fills.{fill-none, fill-next, filled}
-use Rattle.numbers.proofs.Rows.{flat-append, flat-length}
 use Rattle.text_decimals.specs.declared.Numeral.{Numeral}
 use Rattle.text_decimals.specs.declared.Numeral.the-variants as numeral
 use Rattle.plan.specs.declared.Gate.{Gate}
 use Rattle.plan.specs.declared.Gate.the-variants.{Input, Add, Scale, Offset, Multiply}
 use Rattle.plan.specs.declared.Output.{Output}
-use Rattle.plan_file.specs.Bodies.{written, gateBytes, outBytes}
-use Rattle.plan_file.proofs.Files.{gate-long, out-long}
+use Rattle.plan_file.specs.Bodies.{written, gateBytes, gatesBytes, outBytes}
+use Rattle.plan_file.proofs.Files.{out-long}
 use Rattle.plan_file.proofs.Writing.{written-then, length-written}
+use Rattle.plan_file.proofs.Rows.{gates-then, one-put, written-none, none-bytes}
 use Rattle.import_lines.specs.Places.{lineStart, numberAt, withNumber, NumberRead}
 use Rattle.import_lines.proofs.Reading.{number-below}
 use Rattle.import_text.specs.declared.LogicGate.{LogicGate}
@@ -33,7 +33,7 @@ use Rattle.import_text.specs.Scanning.{gateAt, withGate}
 use Rattle.import_circuit.specs.Wires.{setBy}
 use Rattle.import_circuit.specs.Making.{inputGates, gateSize, xorGates, madeBy, heldBy, gatesFrom, heldAfter, outsOf}
 use Rattle.import_circuit.proofs.Wires.{length-madeBy}
-use Rattle.import_write.specs.Second.{numbersIn, gatesIn, gatesBytes}
+use Rattle.import_write.specs.Second.{numbersIn, gatesIn}
 
 -- ---- holders
 pub held-past : (held : List ℕ) (w : ℕ) → length held ≤ w → 0 ≡ getD held w 0
@@ -43,23 +43,6 @@ pub hold-past : (held : List ℕ) (w v : ℕ) → length held ≤ w → held ≡
 hold-past held w v l = sym (set-out held w v l)
 
 -- ---- gates in a row
-pub gates-long : (xs : List Gate) → length (gatesBytes xs) ≡ 6 * length xs
-unfolding gatesBytes
-gates-long xs = flat-length gateBytes 6 gate-long xs
-
-pub gates-then : (s s1 s2 : List ℕ) (g h : ℕ) (xs ys : List Gate) → s1 ≡ written s (18 + 6 * g) (gatesBytes xs) → s2 ≡ written s1 (18 + 6 * h) (gatesBytes ys) → h ≡ g + length xs
-    → s2 ≡ written s (18 + 6 * g) (gatesBytes (xs ++ ys))
-gates-then s s1 s2 g h xs ys e f l =
-    written-then s s1 s2 (gatesBytes xs) (gatesBytes ys) (18 + 6 * g) (18 + 6 * h) e f (omega (arith, gates-long xs))
-    ∙ ap (written s (18 + 6 * g)) (unfold gatesBytes in sym (flat-append gateBytes xs ys))
-
-one-gate : (x : Gate) → gatesBytes (x ∷ []) ≡ gateBytes x
-unfolding gatesBytes flatMap
-one-gate x = append-nil (gateBytes x)
-
-pub one-put : (s new : List ℕ) (g : ℕ) (x : Gate) → new ≡ written s (18 + 6 * g) (gateBytes x) → new ≡ written s (18 + 6 * g) (gatesBytes (x ∷ []))
-one-put s new g x e = rw (one-gate x) e
-
 pub pair-put : (s s1 s2 : List ℕ) (g : ℕ) (x y : Gate) → s1 ≡ written s (18 + 6 * g) (gateBytes x) → s2 ≡ written s1 (18 + 6 * (g + 1)) (gateBytes y) → s2 ≡ written s (18 + 6 * g) (gatesBytes (x ∷ y ∷ []))
 pair-put s s1 s2 g x y e f = gates-then s s1 s2 g (g + 1) (x ∷ []) (y ∷ []) (one-put s s1 g x e) (one-put s1 s2 (g + 1) y f) refl
 
@@ -94,14 +77,6 @@ pub record Gating (s : List ℕ) (at gates p start : ℕ) (held₀ out₀ : List
   pub long-out : length out ≡ length out₀
   pub rest-held : heldAfter g held (gatesIn (gates - k) s e) ≡ heldAfter start held₀ (gatesIn gates s at)
   pub rest-out : written out (18 + 6 * g) (gatesBytes (gatesFrom p g held (gatesIn (gates - k) s e))) ≡ written out₀ (18 + 6 * start) (gatesBytes (gatesFrom p start held₀ (gatesIn gates s at)))
-
-written-none : (s : List ℕ) (at : ℕ) → written s at [] ≡ s
-unfolding written
-written-none s at = refl
-
-none-bytes : gatesBytes [] ≡ []
-unfolding gatesBytes flatMap
-none-bytes = refl
 
 module _ (s : List ℕ) (at gates p start : ℕ) (held₀ out₀ : List ℕ) where
   pub gates-begin : Gating s at gates p start held₀ out₀ at start 0 held₀ out₀

@@ -16,7 +16,7 @@ use Rattle.numbers.specs.Tables.{tab}
 use Rattle.text_decimals.specs.declared.Numeral.{Numeral}
 use Rattle.text_decimals.specs.declared.Numeral.the-variants as numeral
 use Rattle.plan.specs.declared.Gate.{Gate}
-use Rattle.plan_file.specs.Bodies.{written, gateBytes, outBytes, contents, fileSize, planFile}
+use Rattle.plan_file.specs.Bodies.{written, gateBytes, gatesBytes, outBytes, contents, fileSize, planFile}
 use Rattle.plan_file.proofs.Files.{contents-long, file-long}
 use Rattle.plan_file.proofs.Writing.{written-then, written-whole}
 use Rattle.import_lines.specs.Lines.{linesOf}
@@ -35,8 +35,8 @@ use Rattle.import_circuit.specs.Wires.{inputWires, outputWires}
 use Rattle.import_circuit.specs.Making.{inputGates, firstHolders, gatesFrom, heldAfter, circuitGates, outsOf, circuitOuts, circuitBodies}
 use Rattle.import_circuit.proofs.Wires.{length-inputGates, Kept, kept, few-wires}
 use Rattle.import_circuit.proofs.Sound.{outs-long}
-use Rattle.import_write.specs.Second.{numbersIn, gatesIn, gatesBytes, allGates, Putting, Importable, Filing}
-use Rattle.import_write.proofs.Bytes.{gates-long, gates-then}
+use Rattle.import_write.specs.Second.{numbersIn, gatesIn, allGates, Putting, Importable, Filing}
+use Rattle.plan_file.proofs.Rows.{gates-long, gates-then}
 
 -- ---- what is read
 numbers-in : (k : ℕ) (s : List ℕ) (at : ℕ) (vs : List ℕ) (e : ℕ) → numbersAt k s at ≡ NumbersRead.Read vs e → numbersIn k s at ≡ vs

@@ -3,11 +3,10 @@
 use Prim.Native.Nat.{ℕ, zero, suc, _+_, _<_, _≤_}
 use mathlib.Core.Path.{_≡_}
 use mathlib.Core.Bool.{true}
-use mathlib.Core.List.{List, [], _∷_, _++_, flatMap}
+use mathlib.Core.List.{List, [], _∷_, _++_}
 use lib.ListN.{length}
 use Rattle.numbers.specs.Tables.{tab}
 use Rattle.plan.specs.declared.Gate.{Gate}
-use Rattle.plan_file.specs.Bodies.{gateBytes}
 use Rattle.import_lines.specs.Lines.{linesOf}
 use Rattle.import_lines.specs.Places.{lineStart, numberAt, withNumber, sumOf}
 use Rattle.import_text.specs.declared.LogicGate.{LogicGate}
@@ -25,9 +24,6 @@ numbersIn (suc k) s at = withNumber [] (λ v e. v ∷ numbersIn k s e) (numberAt
 unfoldable pub gatesIn : ℕ → List ℕ → ℕ → List LogicGate
 gatesIn zero s at = []
 gatesIn (suc k) s at = withGate [] (λ x e. x ∷ gatesIn k s e) (gateAt s (lineStart s at))
-
-unfoldable pub gatesBytes : List Gate → List ℕ
-gatesBytes gates = flatMap gateBytes gates
 
 -- all gates, by what the lines before the gates say
 unfoldable pub allGates : List ℕ → Head → ℕ → ℕ → List Gate

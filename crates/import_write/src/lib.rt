@@ -12,11 +12,11 @@ ghost use Prim.Native.Nat.{_+_, _*_, _<_, _≤_};
 ghost use lib.ListN.{length, getD, set, replicate};
 ghost use Rattle.numbers.specs.Tables.{tab};
 ghost use Rattle.plan.specs.declared.Gate.the-variants.{Input};
-ghost use Rattle.plan_file.specs.Bodies.{written, gateBytes, outBytes, fileSize, planFile};
+ghost use Rattle.plan_file.specs.Bodies.{written, gateBytes, gatesBytes, outBytes, fileSize, planFile};
 ghost use Rattle.import_text.specs.Circuits.{circuitOf};
 ghost use Rattle.import_circuit.specs.Wires.{outputWires};
 ghost use Rattle.import_circuit.specs.Making.{inputGates, xorGates, madeBy, gatesFrom, heldAfter, outsOf, circuitBodies};
-ghost use Rattle.import_write.specs.Second.{numbersIn, gatesIn, gatesBytes, allGates, Putting, Filing, Importable};
+ghost use Rattle.import_write.specs.Second.{numbersIn, gatesIn, allGates, Putting, Filing, Importable};
 
 // ---- the plan's wire that holds each wire
 

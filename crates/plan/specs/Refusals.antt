@@ -12,6 +12,7 @@ use Rattle.plan.specs.declared.Checked.the-variants.{Passed, Refused}
 -- a refusal's number
 unfoldable pub numberOf : Refusal → ℕ
 numberOf refusal.CircuitText = 23
+numberOf refusal.SheetText = 27
 numberOf refusal.TooLarge = 24
 numberOf refusal.Magic = 1
 numberOf refusal.Version = 2
@@ -40,6 +41,7 @@ numberOf (refusal.OutputsDiffer o) = 22
 -- a refusal's place, 0 unless named
 unfoldable pub placeOf : Refusal → ℕ
 placeOf refusal.CircuitText = 0
+placeOf refusal.SheetText = 0
 placeOf refusal.TooLarge = 0
 placeOf refusal.Magic = 0
 placeOf refusal.Version = 0

@@ -11,6 +11,7 @@ pub fn number(r: Refusal) -> u64
 {
     match r {
         Refusal::CircuitText => 23,
+        Refusal::SheetText => 27,
         Refusal::TooLarge => 24,
         Refusal::Magic => 1,
         Refusal::Version => 2,
@@ -44,6 +45,7 @@ pub fn place(r: Refusal) -> u64
 {
     match r {
         Refusal::CircuitText => 0,
+        Refusal::SheetText => 0,
         Refusal::TooLarge => 0,
         Refusal::Magic => 0,
         Refusal::Version => 0,

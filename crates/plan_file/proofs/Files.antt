@@ -1,9 +1,9 @@
 -- A file that is written reads back as what was made, and is refused for its contents alone.
 --     gate-back, out-back, plan-back      reading back
---     file-check                          the checks of a plan, on a file whose gates and outs keep their rules
+--     file-check-outs, file-check         the checks of a plan, on a file whose gates keep their rules; and its outs too
 --     file-bytes                          a file that passes is a list of bytes
 -- Assumes nothing.
-use Prim.Native.Nat.{ℕ, suc, _+_, _*_, _/_, _%_, _<_, _≤_}
+use Prim.Native.Nat.{ℕ, zero, suc, _+_, _*_, _/_, _%_, _<_, _≤_}
 use mathlib.Core.Path.{_≡_, refl, sym, ap, ap₂, _∙_}
 use mathlib.Core.Bool.{Bool, true, false, _&&_}
 use mathlib.Core.List.{List, [], _∷_, _++_, flatMap}
@@ -12,7 +12,7 @@ use borrow.Author.Tests.{ltb-true, eq-eqb, le-leb, lt-ltb}
 use lib.Dec.{leb, ltb}
 use lib.ListN.{length, take, drop, getD, length-append, List·getD-append}
 use lib.Seq.{getD-append-add, getD-take, getD-drop}
-use Rattle.numbers.specs.Tables.{tab, firstFailing}
+use Rattle.numbers.specs.Tables.{tab, firstFrom, firstFailing}
 use Rattle.numbers.specs.Bytes.{wordAt, bytesOf, allBelow}
 use Rattle.numbers.proofs.Tables.{is-tab}
 use Rattle.numbers.specs.declared.Found.the-variants.{Nothing}
@@ -24,11 +24,12 @@ use Rattle.plan.specs.declared.Gate.{Gate}
 use Rattle.plan.specs.declared.Gate.the-variants.{Input, Add, Scale, Offset, Multiply}
 use Rattle.plan.specs.declared.Output.{Output}
 use Rattle.plan.specs.declared.Checked.{Checked}
+use Rattle.plan.specs.declared.Checked.the-variants.{Passed, Refused}
 use Rattle.plan.specs.declared.Refusal.the-variants as refusal
 use Rattle.plan.specs.Refusals.{andThen, firstOf, need, unlessFound}
 use Rattle.plan.specs.File.{magic, sameBytes, between, gateOf, gateAt, outAt, gateOk, outOk, gateKept, outKept, gateCountAt, outCountAt, nAt, tAt, pAt, partiesOk, thresholdOk, modulusOk, layoutOk, planChecks, planCheck, planOf}
 use Rattle.plan.proofs.Planned.{between-true, modulus-small}
-use Rattle.plan_file.specs.Bodies.{Bodies, planWith, kindOf, aOf, bOf, gateBytes, outBytes, started, counted, contents, fileSize, planFile, contentChecks}
+use Rattle.plan_file.specs.Bodies.{Bodies, planWith, kindOf, aOf, bOf, gateBytes, outBytes, started, counted, contents, fileSize, planFile, contentChecks, outMade}
 
 -- ---- rows of k bytes within the file
 module _ {A : Type 0} (F : A → List ℕ) (k : ℕ) (each : (a : A) → length (F a) ≡ k) where
@@ -222,32 +223,53 @@ out-parts n gates o h =
     let c = both-true (between 1 n (o .party)) (ltb (o .wire) gates) h in
     (between-true 1 n (o .party) (c .0) .1, ltb-true (o .wire) gates (c .1))
 
-module _ (n p : ℕ) (b : Bodies) (n-small : n ≤ 15) (p-small : p ≤ 65536) (few-gates : length (b .gates) ≤ 1024) (sound : Sound n p b) where
-  pub sound-room : Roomy b
-  sound-room = record {
-    a-small = λ g l. a-room n p g n-small p-small (omega arith) (getD (b .gates) g (Input 0)) (sound .gates g l);
-    b-small = λ g l. b-room n p g n-small p-small (omega arith) (getD (b .gates) g (Input 0)) (sound .gates g l);
-    wire-small = λ o l. omega (arith, few-gates, out-parts n (length (b .gates)) (getD (b .outs) o noOut) (sound .outs o l) .1);
+-- tests that agree find the same
+from-ext : (ok ok′ : ℕ → Bool) (n m i : ℕ) → ((k : ℕ) → k < n → ok k ≡ ok′ k) → i + m ≤ n → firstFrom ok m i ≡ firstFrom ok′ m i
+unfolding firstFrom
+from-ext ok ok′ n zero i h l = refl
+from-ext ok ok′ n (suc m) i h l = rw (h i (omega arith), from-ext ok ok′ n m (suc i) h (omega arith))
+
+firstFailing-ext : (ok ok′ : ℕ → Bool) (n : ℕ) → ((k : ℕ) → k < n → ok k ≡ ok′ k) → firstFailing ok n ≡ firstFailing ok′ n
+unfolding firstFailing
+firstFailing-ext ok ok′ n h = from-ext ok ok′ n n 0 h (omega arith)
+
+-- gates that keep their rules, and outs of wires that there are
+pub record Wired (n p : ℕ) (b : Bodies) : Type 0 where
+  pub gates : (g : ℕ) → g < length (b .gates) → gateOk n p g (getD (b .gates) g (Input 0)) ≡ true
+  pub wires : (o : ℕ) → o < length (b .outs) → getD (b .outs) o noOut .wire < length (b .gates)
+
+pub sound-wired : (n p : ℕ) (b : Bodies) → Sound n p b → Wired n p b
+sound-wired n p b sound = record { gates = sound .gates; wires = λ o l. out-parts n (length (b .gates)) (getD (b .outs) o noOut) (sound .outs o l) .1 }
+
+module _ (n p : ℕ) (b : Bodies) (n-small : n ≤ 15) (p-small : p ≤ 65536) (few-gates : length (b .gates) ≤ 1024) where
+  wired-room : Wired n p b → Roomy b
+  wired-room wired = record {
+    a-small = λ g l. a-room n p g n-small p-small (omega arith) (getD (b .gates) g (Input 0)) (wired .gates g l);
+    b-small = λ g l. b-room n p g n-small p-small (omega arith) (getD (b .gates) g (Input 0)) (wired .gates g l);
+    wire-small = λ o l. omega (arith, few-gates, wired .wires o l);
   }
 
-  module _ (t : ℕ) (few-outs : length (b .outs) ≤ 64) where
-    -- 7 and 8 fall on no gate and no out
+  pub sound-room : Sound n p b → Roomy b
+  sound-room sound = wired-room (sound-wired n p b sound)
+
+  module _ (wired : Wired n p b) (t : ℕ) (few-outs : length (b .outs) ≤ 64) where
+    -- 7 falls on no gate
     gates-pass : firstFailing (gateKept (planFile n t p b)) (gateCountAt (planFile n t p b)) ≡ Nothing
     unfolding gateKept
     gates-pass =
         passes-nothing (gateKept (planFile n t p b)) (gateCountAt (planFile n t p b))
         (λ g l. let k : g < length (b .gates) = rw (gates-back n t p b few-gates few-outs) at l in
-        rw (n-back n t p b, p-back n t p b, gate-back n t p b few-gates few-outs sound-room g k) (sound .gates g k))
+        rw (n-back n t p b, p-back n t p b, gate-back n t p b few-gates few-outs (wired-room wired) g k) (wired .gates g k))
 
-    outs-pass : firstFailing (outKept (planFile n t p b)) (outCountAt (planFile n t p b)) ≡ Nothing
-    unfolding outKept
-    outs-pass =
-        passes-nothing (outKept (planFile n t p b)) (outCountAt (planFile n t p b))
-        (λ o l. let k : o < length (b .outs) = rw (outs-back n t p b few-gates few-outs) at l in
-        rw (n-back n t p b, gates-back n t p b few-gates few-outs, out-back n t p b few-gates few-outs sound-room o k) (sound .outs o k))
+    -- and 8 on the outs that were made
+    outs-same : firstFailing (outKept (planFile n t p b)) (outCountAt (planFile n t p b)) ≡ firstFailing (outMade n b) (length (b .outs))
+    unfolding outKept outMade
+    outs-same =
+        rw (outs-back n t p b few-gates few-outs)
+        (firstFailing-ext (outKept (planFile n t p b)) (outMade n b) (length (b .outs))
+        (λ o l. unfold outKept in unfold outMade in rw (n-back n t p b, gates-back n t p b few-gates few-outs, out-back n t p b few-gates few-outs (wired-room wired) o l)))
 
-module _ (n t p : ℕ) (b : Bodies) (few-gates : length (b .gates) ≤ 1024) (few-outs : length (b .outs) ≤ 64)
-    (sound : partiesOk n ≡ true → modulusOk n p ≡ true → Sound n p b) where
+module _ (n t p : ℕ) (b : Bodies) (few-gates : length (b .gates) ≤ 1024) (few-outs : length (b .outs) ≤ 64) where
   begun : (leb 18 (length (planFile n t p b)) && sameBytes (take 4 (planFile n t p b)) magic) ≡ true
   unfolding fileSize
   begun = rw (file-long n t p b, le-leb 18 (18 + 6 * length (b .gates) + 3 * length (b .outs)) (omega arith)) letters
@@ -259,10 +281,11 @@ module _ (n t p : ℕ) (b : Bodies) (few-gates : length (b .gates) ≤ 1024) (fe
   unfolding planFile contents started magic
   first-version = refl
 
-  -- a file that was made is refused for its contents alone
-  pub file-check : planCheck (planFile n t p b) ≡ firstOf (contentChecks n t p (length (b .gates)) (length (b .outs)))
-  unfolding planCheck planChecks firstOf andThen need unlessFound contentChecks
-  file-check =
+  -- a file that was made is refused for its contents and for the parties of its outs alone
+  pub file-check-outs : (partiesOk n ≡ true → modulusOk n p ≡ true → Wired n p b)
+      → planCheck (planFile n t p b) ≡ andThen (firstOf (contentChecks n t p (length (b .gates)) (length (b .outs)))) (unlessFound refusal.OutputRule (firstFailing (outMade n b) (length (b .outs))))
+  unfolding planCheck planChecks firstOf andThen need contentChecks
+  file-check-outs wired =
       rw (begun, first-version, n-back n t p b, t-back n t p b, p-back n t p b, layout-back n t p b few-gates few-outs)
       (by (partiesOk n) (thresholdOk n t) (modulusOk n p) (between 1 1024 (length (b .gates)) && between 1 64 (length (b .outs))) refl refl)
     where
@@ -271,9 +294,16 @@ module _ (n t p : ℕ) (b : Bodies) (few-gates : length (b .gates) ≤ 1024) (fe
           unlessFound refusal.GateRule (firstFailing (gateKept (planFile n t p b)) (gateCountAt (planFile n t p b)))
           ∷ unlessFound refusal.OutputRule (firstFailing (outKept (planFile n t p b)) (outCountAt (planFile n t p b))) ∷ []
 
+      made : Checked
+      made = unlessFound refusal.OutputRule (firstFailing (outMade n b) (length (b .outs)))
+
+      only : (c : Checked) → andThen c Passed ≡ c
+      only Passed = refl
+      only (Refused r) = refl
+
       by : (x y z w : Bool) → partiesOk n ≡ x → modulusOk n p ≡ z
           → firstOf (need refusal.Parties x ∷ need refusal.Threshold y ∷ need refusal.Modulus z ∷ need refusal.Layout w ∷ rest)
-          ≡ firstOf (need refusal.Parties x ∷ need refusal.Threshold y ∷ need refusal.Modulus z ∷ need refusal.Layout w ∷ [])
+          ≡ andThen (firstOf (need refusal.Parties x ∷ need refusal.Threshold y ∷ need refusal.Modulus z ∷ need refusal.Layout w ∷ [])) made
       by false y z w e f = refl
       by true false z w e f = refl
       by true true false w e f = refl
@@ -281,7 +311,35 @@ module _ (n t p : ℕ) (b : Bodies) (few-gates : length (b .gates) ≤ 1024) (fe
       by true true true true e f =
           let n-small : n ≤ 15 = between-true 1 15 n e .1 in
           let p-small : p < 65536 = modulus-small n p f in
-          rw (gates-pass n p b n-small (omega arith) few-gates (sound e f) t few-outs, outs-pass n p b n-small (omega arith) few-gates (sound e f) t few-outs)
+          rw (gates-pass n p b n-small (omega arith) few-gates (wired e f) t few-outs, outs-same n p b n-small (omega arith) few-gates (wired e f) t few-outs)
+          (unfold unlessFound in only made)
+
+  -- where the outs keep their rules too, for its contents alone
+  pub file-check : (partiesOk n ≡ true → modulusOk n p ≡ true → Sound n p b) → planCheck (planFile n t p b) ≡ firstOf (contentChecks n t p (length (b .gates)) (length (b .outs)))
+  file-check sound =
+      file-check-outs (λ e f. sound-wired n p b (sound e f))
+      ∙ by (partiesOk n) (modulusOk n p) refl refl
+    where
+      rest : Checked
+      rest = unlessFound refusal.OutputRule (firstFailing (outMade n b) (length (b .outs)))
+
+      whole : List Checked
+      whole = contentChecks n t p (length (b .gates)) (length (b .outs))
+
+      only : (c : Checked) → andThen c Passed ≡ c
+      only Passed = unfold andThen in refl
+      only (Refused r) = unfold andThen in refl
+
+      by : (x z : Bool) → partiesOk n ≡ x → modulusOk n p ≡ z → andThen (firstOf whole) rest ≡ firstOf whole
+      by true true e f =
+          let none : firstFailing (outMade n b) (length (b .outs)) ≡ Nothing = passes-nothing (outMade n b) (length (b .outs)) (λ o l. unfold outMade in sound e f .outs o l) in
+          rw none (unfold unlessFound in only (firstOf whole))
+      by false z e f = unfold contentChecks in unfold firstOf in unfold need in unfold andThen in rw e
+      by true false e f = unfold contentChecks in unfold firstOf in unfold need in unfold andThen in rw (e, f) (late (thresholdOk n t))
+        where
+          late : (y : Bool) → andThen (andThen (need refusal.Threshold y) (Refused refusal.Modulus)) rest ≡ andThen (need refusal.Threshold y) (Refused refusal.Modulus)
+          late true = unfold need in unfold andThen in refl
+          late false = unfold need in unfold andThen in refl
 
 -- ---- the bytes
 flat-below : {A : Type 0} (F : A → List ℕ) (m : ℕ) (l : List A) (d : A) → ((i : ℕ) → i < length l → allBelow m (F (getD l i d)) ≡ true) → allBelow m (flatMap F l) ≡ true

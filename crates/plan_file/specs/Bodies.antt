@@ -1,8 +1,8 @@
 -- A plan that is written: n, t, p and the two bodies that were made, gates and outs, as the bytes of a version 1 file (document 01, "The plan file").
 use Prim.Native.Nat.{ℕ, suc, _+_, _*_, _/_, _%_}
-use mathlib.Core.Bool.{_&&_}
+use mathlib.Core.Bool.{Bool, _&&_}
 use mathlib.Core.List.{List, [], _∷_, _++_, flatMap}
-use lib.ListN.{length}
+use lib.ListN.{length, getD}
 use lib.Seq.{sets}
 use Rattle.numbers.specs.Tables.{tab}
 use Rattle.numbers.specs.Bytes.{bytesOf}
@@ -13,7 +13,7 @@ use Rattle.plan.specs.declared.Checked.{Checked}
 use Rattle.plan.specs.declared.Refusal.the-variants as refusal
 use Rattle.plan.specs.Refusals.{need}
 use Rattle.plan.specs.Plans.{Plan}
-use Rattle.plan.specs.File.{magic, between, partiesOk, thresholdOk, modulusOk}
+use Rattle.plan.specs.File.{magic, between, outOk, partiesOk, thresholdOk, modulusOk}
 
 -- gates and outs, before they are a file
 pub record Bodies : Type 0 where
@@ -57,6 +57,9 @@ gateBytes g = kindOf g ∷ 0 ∷ bytesOf (aOf g ∷ bOf g ∷ [])
 unfoldable pub outBytes : Output → List ℕ
 outBytes o = o .party ∷ bytesOf (o .wire ∷ [])
 
+unfoldable pub gatesBytes : List Gate → List ℕ
+gatesBytes gates = flatMap gateBytes gates
+
 -- bytes 0 to 7
 unfoldable pub started : ℕ → ℕ → List ℕ
 started n t = magic ++ (1 ∷ n ∷ t ∷ 0 ∷ [])
@@ -85,3 +88,7 @@ contentChecks n t p gates outs =
     ∷ need refusal.Modulus (modulusOk n p)
     ∷ need refusal.Layout (between 1 1024 gates && between 1 64 outs)
     ∷ []
+
+-- 8: an out's party, and a wire that there is
+unfoldable pub outMade : ℕ → Bodies → ℕ → Bool
+outMade n b o = outOk n (length (b .gates)) (getD (b .outs) o (record { party = 0; wire = 0 }))

@@ -3,6 +3,7 @@ use import_call::Measured;
 use plan::Checked;
 use plan::Reading;
 use plan::Refusal;
+use sheet_call::Sheet;
 ghost use mathlib.Core.Path.{_≡_};
 ghost use Prim.Native.Nat.{_*_, _<_};
 ghost use lib.ListN.{length};
@@ -13,9 +14,10 @@ ghost use Rattle.seat_messages.specs.Calls.{callAnswer, stateAfter, outAfter};
 ghost use Rattle.run_bench.specs.BenchCalls.{benchAnswer, benchedOf, viewAfter};
 ghost use Rattle.match_agreement.specs.MatchCalls.{matchAnswer, matchedAfter};
 ghost use Rattle.import_call.specs.Importing.{importAnswer, importAfter};
+ghost use Rattle.sheet_call.specs.Compiling.{sheetAnswer, sheetAfter};
 ghost use Rattle.charge_laws.specs.Charges.{billOf};
 ghost use Rattle.charge_call.specs.ChargeCalls.{chargeAnswer, chargedOf, chargeAfter};
-ghost use Rattle.pool_answers.specs.Sizes.{seatSize, callCount, runSize, importSize, answerOf, billedOf};
+ghost use Rattle.pool_answers.specs.Sizes.{seatSize, callCount, runSize, importSize, sheetSize, answerOf, billedOf};
 
 // Checks a plan: refusals 1 to 8.
 #[no_mangle]
@@ -139,6 +141,27 @@ pub extern "C" fn pool_import(text: &[u8], n: u32, t: u32, p: u32, plan: &mut [u
     ensures plan { λ _. ⌜ now (plan .exit) ≡ importAfter n t p (now (text .entry)) (now (plan .entry)) ⌝ }
 {
     plan_codes::code(import_call::import_plan(text, n, t, p, plan))
+}
+
+// The bytes of the plan that a formula sheet makes, whose result goes to `seat`.
+#[no_mangle]
+pub extern "C" fn pool_sheet_size(text: &[u8], n: u32, t: u32, p: u32, seat: u32) -> u64
+    ensures { λ r. ⌜ r ≡ sheetSize n t p seat (now (text .entry)) ⌝ }
+{
+    let m = sheet_call::measure_sheet(text, n, t, p, seat);
+    let Sheet::Counts(_, gates) = m else {
+        return plan_codes::code(sheet_call::refusal(m));
+    };
+    pool_answers::value(plan_file::file_size(gates, 1))
+}
+
+// A formula sheet compiled to a plan, whose result goes to `seat`: refusals 27, 24, 3 to 8 and 19.
+#[no_mangle]
+pub extern "C" fn pool_sheet(text: &[u8], n: u32, t: u32, p: u32, seat: u32, plan: &mut [u8]) -> u64
+    ensures answer { λ r. ⌜ r ≡ codeOf (sheetAnswer n t p seat (now (text .entry)) (length (now (plan .entry)))) ⌝ }
+    ensures plan { λ _. ⌜ now (plan .exit) ≡ sheetAfter n t p seat (now (text .entry)) (now (plan .entry)) ⌝ }
+{
+    plan_codes::code(sheet_call::compile(text, n, t, p, seat, plan))
 }
 
 // The line charge, by party: refusals 1 to 8, 31 and 19.

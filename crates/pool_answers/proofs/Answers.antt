@@ -34,12 +34,16 @@ use Rattle.import_call.specs.declared.Measured.the-variants as measured
 use Rattle.import_call.specs.Importing.{importFile, textChecks, refusalOf}
 use Rattle.import_call.specs.Measures.{MeasuredAs}
 use Rattle.import_call.proofs.Calls.{told, refused, passed, gates-small, outs-small, file-size}
+use Rattle.sheet_call.specs.declared.Sheet.{Sheet}
+use Rattle.sheet_call.specs.declared.Sheet.the-variants as compiled
+use Rattle.sheet_call.specs.Compiling as sheet
+use Rattle.sheet_call.specs.Measures.{Sized, Measuring}
 use Rattle.charge_call.specs.declared.Charged.{Charged}
 use Rattle.charge_call.specs.declared.Charged.the-variants as charged
 use Rattle.run_bench.specs.declared.Benched.{Benched}
 use Rattle.run_bench.specs.declared.Benched.the-variants as benched
 use Rattle.run_views.specs.ViewCounts.{viewCount}
-use Rattle.pool_answers.specs.Sizes.{valueOf, mailOfCall, writtenByCall, seatCount, seatSize, callCount, runCount, runSize, importSize, answerOf, billedOf}
+use Rattle.pool_answers.specs.Sizes.{valueOf, mailOfCall, writtenByCall, seatCount, seatSize, callCount, runCount, runSize, importSize, sheetSize, answerOf, billedOf}
 
 pub code-answered : (a c : Checked) (r : ℕ) → c ≡ a → r ≡ codeOf c → r ≡ codeOf a
 code-answered a c r e f = f ∙ ap codeOf e
@@ -230,6 +234,26 @@ module _ (text : List ℕ) (n t p : ℕ) (m : Measured) (h : MeasuredAs text n t
       let first : firstOf (textChecks n t p text) ≡ Passed = sym (told text n t p m h) ∙ passed text n t p m h gates outs q in
       f ∙ ap (λ (s : ℕ). 256 * s) (e ∙ sym (file-size text n t p m h gates outs q)) ∙ sym (value-passed (firstOf (textChecks n t p text)) (length (importFile n t p text)) first)
 
+-- ---- the size of a sheet's plan
+module _ (text : List ℕ) (n t p i : ℕ) (m : Sheet) (h : Measuring text n t p i m) (k : ℕ) where
+  pub sheet-size-refused : (r : Refusal) (c : Checked) → m ≡ compiled.Refused r → c ≡ sheet.refusalOf m → k ≡ codeOf c → k ≡ sheetSize n t p i text
+  unfolding sheetSize sheet.refusalOf
+  sheet-size-refused r c q e f =
+      let first : firstOf (sheet.textChecks n t p i text) ≡ Refused r = sym (h .told) ∙ rw q in
+      f ∙ ap codeOf (e ∙ h .told) ∙ sym (value-refused (firstOf (sheet.textChecks n t p i text)) r (length (sheet.sheetFile n t p i text)) first)
+
+  module _ (inputs gates : ℕ) (q : m ≡ compiled.Counts inputs gates) where
+    pub sheet-few : gates ≤ 1024
+    unfolding Sized
+    sheet-few = (rw q at (h .sized)) .few
+
+    pub sheet-sized : (size : ℕ) → size ≡ fileSize gates 1 → k ≡ 256 * size → k ≡ sheetSize n t p i text
+    unfolding sheetSize sheet.refusalOf Sized
+    sheet-sized size e f =
+        let first : firstOf (sheet.textChecks n t p i text) ≡ Passed = sym (h .told) ∙ rw q in
+        let long : length (sheet.sheetFile n t p i text) ≡ fileSize gates 1 = (rw q at (h .sized)) .size in
+        f ∙ ap (λ (s : ℕ). 256 * s) (e ∙ sym long) ∙ sym (value-passed (firstOf (sheet.textChecks n t p i text)) (length (sheet.sheetFile n t p i text)) first)
+
 -- ---- the bench
 pub sent-value : (b : Benched) (n k : ℕ) → b ≡ benched.Sent n → k ≡ 256 * (n % 4294967296) → k ≡ answerOf b
 unfolding answerOf
@@ -261,6 +285,6 @@ pub count-other : (plan : Plan) (i call what : ℕ) → (what ≡ 0 → ⊥) →
 unfolding seatCount
 count-other plan i call what a b c d e = rw (ne-eqb what 0 a, ne-eqb what 1 b, ne-eqb what 2 c, ne-eqb what 3 d, ne-eqb what 4 e) refl
 
-pub ruleset answering = (needs, code-answered, seat-plan-refused, calls-refused, read-planned, seat-below, seat-above, seat-sized, calls-counted, run-plan-refused, set-refused, run-sized, import-size-refused, import-sized, gates-small, outs-small, sent-value, sent-refused, small-rest, bench-answered, billed-value, billed-refused, charge-answered)
+pub ruleset answering = (needs, code-answered, seat-plan-refused, calls-refused, read-planned, seat-below, seat-above, seat-sized, calls-counted, run-plan-refused, set-refused, run-sized, import-size-refused, import-sized, gates-small, outs-small, sheet-size-refused, sheet-few, sheet-sized, sent-value, sent-refused, small-rest, bench-answered, billed-value, billed-refused, charge-answered)
 
 pub ruleset counting = (needs, mail-there, mail-none, written-there, written-none, own-coins-fit, own-coins-le, own-coins-eq, state-count, count-0, count-1, count-3, count-4, count-other, coins-fit, coins-le, coins-eq, all-0, all-1, all-2, all-other)

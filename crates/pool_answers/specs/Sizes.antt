@@ -13,6 +13,7 @@ use Rattle.plan.specs.File.{between, planChecks, planCheck, planOf}
 use Rattle.plan_coalition.specs.Coalitions.{members, setOk}
 use Rattle.run_views.specs.ViewCounts.{viewCount}
 use Rattle.import_call.specs.Importing.{importFile, textChecks}
+use Rattle.sheet_call.specs.Compiling as sheet
 use Rattle.charge_call.specs.declared.Charged.{Charged}
 use Rattle.charge_call.specs.declared.Charged.the-variants as charged
 use Rattle.run_bench.specs.declared.Benched.{Benched}
@@ -62,6 +63,10 @@ callCount bs = valueOf (planCheck bs) (multiplies (planOf bs) + 3)
 -- the bytes of the plan that a circuit's text makes
 unfoldable pub importSize : ℕ → ℕ → ℕ → List ℕ → ℕ
 importSize n t p text = valueOf (firstOf (textChecks n t p text)) (length (importFile n t p text))
+
+-- and of the plan that a sheet makes, whose result goes to party i
+unfoldable pub sheetSize : ℕ → ℕ → ℕ → ℕ → List ℕ → ℕ
+sheetSize n t p i text = valueOf (firstOf (sheet.textChecks n t p i text)) (length (sheet.sheetFile n t p i text))
 
 -- what the bench answers: the elements sent as its value, in bits 8 to 39 (they are at most 231,360), or the refusal's code
 unfoldable pub answerOf : Benched → ℕ

@@ -160,16 +160,21 @@ impl Circuit {
     }
 }
 
+/// The refusals of a plan's n, t and p, 3 to 5, where these are given beside a text.
+pub fn plan_sizes(n: u32, t: u32, p: u32) -> Result<(), Refusal> {
+    require((1..=15).contains(&n), 3, 0)?;
+    require(2 * u64::from(t) < u64::from(n), 4, 0)?;
+    let prime = |p: u32| p >= 2 && (2..).take_while(|d| d * d <= p).all(|d| p % d != 0);
+    require(p <= 65_535 && prime(p) && p > n, 5, 0)
+}
+
 /// The plan's file, or the refusal: 23, 24, then those of any plan.
 pub fn import_file(text: &[u8], n: u32, t: u32, p: u32) -> Result<Vec<u8>, Refusal> {
     let Some(circuit) = Circuit::read(text).filter(|circuit| circuit.inputs.len() <= n as usize) else {
         return refuse(23);
     };
     require(circuit.size() <= 1024 && circuit.outputs.iter().sum::<usize>() <= 64, 24, 0)?;
-    require((1..=15).contains(&n), 3, 0)?;
-    require(2 * u64::from(t) < u64::from(n), 4, 0)?;
-    let prime = |p: u32| p >= 2 && (2..).take_while(|d| d * d <= p).all(|d| p % d != 0);
-    require(p <= 65_535 && prime(p) && p > n, 5, 0)?;
+    plan_sizes(n, t, p)?;
     let (gates, outs) = circuit.plan(p as u16);
     let file = plan_file(n as u8, t as u8, p as u16, &gates, &outs);
     plan_check(&file)?;

@@ -5,6 +5,7 @@
 
 pub mod charge;
 pub mod field;
+pub mod formulas;
 pub mod import;
 pub mod library;
 pub mod matching;
@@ -13,4 +14,5 @@ pub mod program;
 pub mod random;
 pub mod run;
 pub mod seat;
+pub mod sheet;
 pub mod texts;

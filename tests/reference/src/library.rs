@@ -6,6 +6,7 @@ use crate::matching::matching;
 use crate::plan::{plan_check, refuse, Plan, Refusal};
 use crate::run::bench;
 use crate::seat::seat_call;
+use crate::sheet::{sheet, sheet_file};
 
 /// The functions of the C interface over slices. An answer holds the refusal's number in bits 0 to 7, and above it
 /// the place, the elements sent, the bill or a size in bytes.
@@ -19,6 +20,8 @@ pub struct Interface {
     pub run_size: fn(&[u8], u16, u16) -> u64,
     pub import: fn(&[u8], u32, u32, u32, &mut [u8]) -> u64,
     pub import_size: fn(&[u8], u32, u32, u32) -> u64,
+    pub sheet: fn(&[u8], u32, u32, u32, u32, &mut [u8]) -> u64,
+    pub sheet_size: fn(&[u8], u32, u32, u32, u32) -> u64,
     pub charge: fn(&[u8], u32, &mut [u8]) -> u64,
 }
 
@@ -71,6 +74,8 @@ pub const REFERENCE: Interface = Interface {
     run_size: |plan, set, what| answer(run_size(plan, set, what)),
     import: |text, n, t, p, plan| answer(import(text, n, t, p, plan).map(|_| 0)),
     import_size: |text, n, t, p| answer(import_file(text, n, t, p).map(|file| file.len())),
+    sheet: |text, n, t, p, seat, plan| answer(sheet(text, n, t, p, seat, plan).map(|_| 0)),
+    sheet_size: |text, n, t, p, seat| answer(sheet_file(text, n, t, p, seat).map(|file| file.len())),
     charge: |plan, price, parts| answer(charge(plan, price, parts)),
 };
 
@@ -132,6 +137,17 @@ pub const LIBRARY: Interface = {
                 plan_len: usize,
             ) -> u64;
             pub fn pool_import_size(text: Bytes, text_len: usize, n: u32, t: u32, p: u32) -> u64;
+            pub fn pool_sheet(
+                text: Bytes,
+                text_len: usize,
+                n: u32,
+                t: u32,
+                p: u32,
+                seat: u32,
+                plan: *mut u8,
+                plan_len: usize,
+            ) -> u64;
+            pub fn pool_sheet_size(text: Bytes, text_len: usize, n: u32, t: u32, p: u32, seat: u32) -> u64;
             pub fn pool_charge(plan: Bytes, plan_len: usize, price: u32, parts: *mut u8, parts_len: usize) -> u64;
         }
     }
@@ -188,6 +204,10 @@ pub const LIBRARY: Interface = {
             c::pool_import(text.as_ptr(), text.len(), n, t, p, plan.as_mut_ptr(), plan.len())
         },
         import_size: |text, n, t, p| unsafe { c::pool_import_size(text.as_ptr(), text.len(), n, t, p) },
+        sheet: |text, n, t, p, seat, plan| unsafe {
+            c::pool_sheet(text.as_ptr(), text.len(), n, t, p, seat, plan.as_mut_ptr(), plan.len())
+        },
+        sheet_size: |text, n, t, p, seat| unsafe { c::pool_sheet_size(text.as_ptr(), text.len(), n, t, p, seat) },
         charge: |plan, price, parts| unsafe {
             c::pool_charge(plan.as_ptr(), plan.len(), price, parts.as_mut_ptr(), parts.len())
         },

@@ -78,6 +78,9 @@ enum-told-24 c = search coding
 enum-told-25 : tie.Need-enum-told-25
 enum-told-25 c = search coding
 
+enum-told-26 : tie.Need-enum-told-26
+enum-told-26 c = search coding
+
 returns : tie.Need-returns
 unfolding numberOf
 returns c = search coding
@@ -178,6 +181,10 @@ returns-25 : tie.Need-returns-25
 unfolding numberOf
 returns-25 c = search coding
 
+returns-26 : tie.Need-returns-26
+unfolding numberOf
+returns-26 c = search coding
+
 pub number-spec : {M : Type 1} → statement M
 number-spec =
     tie.close
@@ -207,6 +214,7 @@ number-spec =
     enum-told-23
     enum-told-24
     enum-told-25
+    enum-told-26
     returns
     returns-2
     returns-3
@@ -231,4 +239,5 @@ number-spec =
     returns-22
     returns-23
     returns-24
-    returns-25)
+    returns-25
+    returns-26)

@@ -27,14 +27,14 @@ enum-told-7 c = search coding
 enum-told-8 : tie.Need-enum-told-8
 enum-told-8 c = search coding
 
+enum-told-9 : tie.Need-enum-told-9
+enum-told-9 c = search coding
+
 enum-known-r : tie.Need-enum-known-r
 enum-known-r c = search coding
 
 enum-known-r-2 : tie.Need-enum-known-r-2
 enum-known-r-2 c = search coding
-
-enum-told-9 : tie.Need-enum-told-9
-enum-told-9 c = search coding
 
 enum-told-10 : tie.Need-enum-told-10
 enum-told-10 c = search coding
@@ -42,17 +42,17 @@ enum-told-10 c = search coding
 enum-told-11 : tie.Need-enum-told-11
 enum-told-11 c = search coding
 
-enum-known-r-3 : tie.Need-enum-known-r-3
-enum-known-r-3 c = search coding
-
 enum-told-12 : tie.Need-enum-told-12
 enum-told-12 c = search coding
 
-enum-known-r-4 : tie.Need-enum-known-r-4
-enum-known-r-4 c = search coding
+enum-known-r-3 : tie.Need-enum-known-r-3
+enum-known-r-3 c = search coding
 
 enum-told-13 : tie.Need-enum-told-13
 enum-told-13 c = search coding
+
+enum-known-r-4 : tie.Need-enum-known-r-4
+enum-known-r-4 c = search coding
 
 enum-told-14 : tie.Need-enum-told-14
 enum-told-14 c = search coding
@@ -63,11 +63,14 @@ enum-told-15 c = search coding
 enum-told-16 : tie.Need-enum-told-16
 enum-told-16 c = search coding
 
+enum-told-17 : tie.Need-enum-told-17
+enum-told-17 c = search coding
+
 enum-known-r-5 : tie.Need-enum-known-r-5
 enum-known-r-5 c = search coding
 
-enum-told-17 : tie.Need-enum-told-17
-enum-told-17 c = search coding
+enum-told-18 : tie.Need-enum-told-18
+enum-told-18 c = search coding
 
 enum-known-r-6 : tie.Need-enum-known-r-6
 enum-known-r-6 c = search coding
@@ -178,6 +181,10 @@ returns-25 : tie.Need-returns-25
 unfolding placeOf
 returns-25 c = search coding
 
+returns-26 : tie.Need-returns-26
+unfolding placeOf
+returns-26 c = search coding
+
 pub place-spec : {M : Type 1} → statement M
 place-spec =
     tie.close
@@ -190,20 +197,21 @@ place-spec =
     enum-told-6
     enum-told-7
     enum-told-8
+    enum-told-9
     enum-known-r
     enum-known-r-2
-    enum-told-9
     enum-told-10
     enum-told-11
-    enum-known-r-3
     enum-told-12
-    enum-known-r-4
+    enum-known-r-3
     enum-told-13
+    enum-known-r-4
     enum-told-14
     enum-told-15
     enum-told-16
-    enum-known-r-5
     enum-told-17
+    enum-known-r-5
+    enum-told-18
     enum-known-r-6
     enum-known-r-7
     enum-known-r-8
@@ -231,4 +239,5 @@ place-spec =
     returns-22
     returns-23
     returns-24
-    returns-25)
+    returns-25
+    returns-26)

@@ -34,7 +34,14 @@ fn wide() -> Vec<u8> {
 
 /// 4 seats, of which 3 deal; seat 4 has no figure, and an out.
 fn late() -> Vec<u8> {
-    let gates = [Gate::Input(1), Gate::Input(2), Gate::Multiply(0, 1), Gate::Multiply(2, 2), Gate::Multiply(3, 0), Gate::Add(4, 1)];
+    let gates = [
+        Gate::Input(1),
+        Gate::Input(2),
+        Gate::Multiply(0, 1),
+        Gate::Multiply(2, 2),
+        Gate::Multiply(3, 0),
+        Gate::Add(4, 1),
+    ];
     plan_file(4, 1, 65521, &gates, &[Out { seat: 1, wire: 5 }, Out { seat: 4, wire: 4 }])
 }
 
@@ -63,7 +70,9 @@ fn main() {
     put("plan", &file);
     for seat in 1..=plan.n {
         let granted: Vec<u16> = plan.outs_of(seat).map(|out| values[out.wire]).collect();
-        let input = [&bytes(&[file.len() as u16])[..], &file, &bytes(&[1 << (seat - 1)]), &bytes(&figures), &bytes(&coins)].concat();
+        let input =
+            [&bytes(&[file.len() as u16])[..], &file, &bytes(&[1 << (seat - 1)]), &bytes(&figures), &bytes(&coins)]
+                .concat();
         put(&format!("figures-{seat}"), lines(&own(&figures, plan.figure_seats(), seat)).as_bytes());
         put(&format!("coins-{seat}"), lines(&own(&coins, plan.coin_seats(), seat)).as_bytes());
         put(&format!("results-{seat}"), lines(&granted).as_bytes());

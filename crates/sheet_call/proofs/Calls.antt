@@ -1,0 +1,307 @@
+-- The sheet's checks, by what the code finds; and what it writes.
+--     sheet-wired, file-checks     after 27 and 24 only 3 to 6 and 8 can fall
+--     measuring, compiling         what closes the needs of the functions
+-- Assumes nothing.
+use Prim.Native.Nat.{ℕ, zero, suc, _+_, _*_, _<_, _≤_}
+use mathlib.Core.Path.{_≡_, refl, sym, ap, ap₂, subst, _∙_}
+use mathlib.Core.Bool.{Bool, true, false, cond, not, _&&_}
+use mathlib.Core.List.{List, [], _∷_}
+use native.Mathlib.Omega.{arith}
+use borrow.Author.Needs.{needs}
+use borrow.Author.Tests.{le-leb, lt-leb, lt-ltb, ltb-true, eq-eqb, ne-eqb, not-true, not-false}
+use lib.Dec.{T, eqb, leb, ltb}
+use lib.ListN.{length, getD}
+use Rattle.numbers.specs.declared.Found.the-variants.{At, Nothing}
+use Rattle.numbers.specs.Tables.{firstFrom, firstFailing}
+use Rattle.field.proofs.Primes.{prime-sound}
+use Rattle.plan.specs.declared.Checked.{Checked}
+use Rattle.plan.specs.declared.Checked.the-variants.{Passed, Refused}
+use Rattle.plan.specs.declared.Refusal.{Refusal}
+use Rattle.plan.specs.declared.Refusal.the-variants as refusal
+use Rattle.plan.specs.declared.Output.{Output}
+use Rattle.plan.specs.Refusals.{andThen, firstOf, need, unlessFound}
+use Rattle.plan.specs.File.{between, outOk, partiesOk, thresholdOk, modulusOk, planCheck}
+use Rattle.plan.proofs.Refusals.{firstOf-append, andThen-passed, andThen-refused, passed-both, passed-need}
+use Rattle.plan.proofs.Planned.{between-true, modulus-prime, modulus-small}
+use Rattle.plan_file.specs.Bodies.{Bodies, fileSize, planFile, contentChecks, outMade}
+use Rattle.plan_file.proofs.Files.{Wired, file-long, file-check-outs}
+use Rattle.seat_messages.specs.Calls.{unlessRefused}
+use Rattle.sheet_text.specs.Trees.{namesOf, gateCount}
+use Rattle.sheet_text.specs.Making.{sheetTree, sheetOk, treeMade, bodiesWith, treeBodies}
+use Rattle.sheet_text.proofs.Proper.{some-name, sheet-below}
+use Rattle.sheet_text.proofs.Sound.{made-long, made-gates, made-wire}
+use Rattle.sheet_write.specs.declared.Survey.{Survey}
+use Rattle.sheet_write.specs.declared.Survey.the-variants as survey
+use Rattle.sheet_write.specs.Passes.{tableOf, upTo, SurveyIs, Surveyed, Compilable}
+use Rattle.sheet_write.proofs.Passing.{up-is, up-le, up-few, fresh}
+use Rattle.sheet_call.specs.declared.Sheet.{Sheet}
+use Rattle.sheet_call.specs.declared.Sheet.the-variants as measured
+use Rattle.sheet_call.specs.Compiling.{sheetBodies, sheetFile, textChecks, sheetChecks, sheetAnswer, sheetAfter, measuredOf, refusalOf}
+use Rattle.sheet_call.specs.Measures.{Ready, MeasuredAs, Sized, Measuring}
+
+pub measured-passed : (c : Checked) (inputs gates : ℕ) → c ≡ Passed → measured.Counts inputs gates ≡ measuredOf c inputs gates
+unfolding measuredOf
+measured-passed c inputs gates e = rw e
+
+pub measured-refused : (c : Checked) (inputs gates : ℕ) (r : Refusal) → c ≡ Refused r → measured.Refused r ≡ measuredOf c inputs gates
+unfolding measuredOf
+measured-refused c inputs gates r e = rw e
+
+pub refusal-counts : (m : Sheet) (inputs gates : ℕ) → m ≡ measured.Counts inputs gates → Passed ≡ refusalOf m
+unfolding refusalOf
+refusal-counts m inputs gates e = rw e
+
+pub refusal-refused : (m : Sheet) (r : Refusal) → m ≡ measured.Refused r → Refused r ≡ refusalOf m
+unfolding refusalOf
+refusal-refused m r e = rw e
+
+-- ---- refusal 8 of the one out
+module _ (c : Checked) (n seat : ℕ) where
+  pub result-refused : (r : Refusal) → c ≡ Refused r → c ≡ andThen c (need (refusal.OutputRule 0) (between 1 n seat))
+  unfolding andThen
+  result-refused r e = rw e
+
+  module _ (passed : c ≡ Passed) (x : Bool) (ex : x ≡ between 1 n seat) where
+    pub result-no : x ≡ false → Refused (refusal.OutputRule 0) ≡ andThen c (need (refusal.OutputRule 0) (between 1 n seat))
+    unfolding andThen need
+    result-no e = rw (passed, ← ex, e)
+
+    pub result-yes : x ≡ true → Passed ≡ andThen c (need (refusal.OutputRule 0) (between 1 n seat))
+    unfolding andThen need
+    result-yes e = rw (passed, ← ex, e)
+
+-- ---- after 27 and 24
+prime-above : (n p : ℕ) → modulusOk n p ≡ true → 2 ≤ p
+prime-above n p m = prime-sound p (subst T (sym (modulus-prime n p m)) tt) .above
+
+module _ (n t p i : ℕ) (text : List ℕ) (ok : sheetOk n p text ≡ true) where
+  pub names-some : 1 ≤ length (namesOf (sheetTree n p text))
+  unfolding sheetOk
+  names-some = some-name (length (namesOf (sheetTree n p text))) ok
+
+  gates-count : length (sheetBodies n p i text .gates) ≡ length (namesOf (sheetTree n p text)) + gateCount (sheetTree n p text)
+  unfolding sheetBodies treeBodies bodiesWith
+  gates-count = made-long p (sheetTree n p text)
+
+  outs-count : length (sheetBodies n p i text .outs) ≡ 1
+  unfolding sheetBodies treeBodies bodiesWith
+  outs-count = refl
+
+  -- 7 cannot fall
+  pub sheet-wired : 2 ≤ p → Wired n p (sheetBodies n p i text)
+  unfolding sheetBodies treeBodies bodiesWith
+  sheet-wired two =
+      let below = sheet-below n p text (omega arith) in
+      record {
+        gates = made-gates n p (sheetTree n p text) (omega arith) below names-some;
+        wires = λ o l. one o l (made-wire n p (sheetTree n p text) (omega arith) below names-some);
+      }
+    where
+      one : (o : ℕ) → o < 1 → treeMade p (sheetTree n p text) .wire < length (treeMade p (sheetTree n p text) .gates)
+          → getD {A = Output} (record { party = i; wire = treeMade p (sheetTree n p text) .wire } ∷ []) o (record { party = 0; wire = 0 }) .wire < length (treeMade p (sheetTree n p text) .gates)
+      one zero l h = h
+      one (suc o) l h = absurd (omega arith)
+
+  -- 8 falls where the result's party is none of 1 to n
+  outs-are : (w : treeMade p (sheetTree n p text) .wire < length (treeMade p (sheetTree n p text) .gates))
+      → unlessFound refusal.OutputRule (firstFailing (outMade n (sheetBodies n p i text)) (length (sheetBodies n p i text .outs))) ≡ need (refusal.OutputRule 0) (between 1 n i)
+  unfolding sheetBodies treeBodies bodiesWith firstFailing firstFrom outMade outOk
+  outs-are w = rw (lt-ltb (treeMade p (sheetTree n p text) .wire) (length (treeMade p (sheetTree n p text) .gates)) w) (by (between 1 n i))
+    where
+      by : (x : Bool) → unlessFound refusal.OutputRule (cond (x && true) Nothing (At 0)) ≡ need (refusal.OutputRule 0) x
+      by true = unfold unlessFound in unfold need in refl
+      by false = unfold unlessFound in unfold need in refl
+
+  module _ (few : length (sheetBodies n p i text .gates) ≤ 1024) where
+    file-checks : planCheck (sheetFile n t p i text) ≡ andThen (firstOf (contentChecks n t p (length (sheetBodies n p i text .gates)) 1)) (need (refusal.OutputRule 0) (between 1 n i))
+    unfolding sheetFile
+    file-checks =
+        file-check-outs n t p (sheetBodies n p i text) few (omega (arith, outs-count)) (λ a m. sheet-wired (prime-above n p m))
+        ∙ rw outs-count (late (modulusOk n p) refl)
+      where
+        found : Checked
+        found = unlessFound refusal.OutputRule (firstFailing (outMade n (sheetBodies n p i text)) 1)
+
+        late : (z : Bool) → modulusOk n p ≡ z
+            → andThen (firstOf (contentChecks n t p (length (sheetBodies n p i text .gates)) 1)) found
+            ≡ andThen (firstOf (contentChecks n t p (length (sheetBodies n p i text .gates)) 1)) (need (refusal.OutputRule 0) (between 1 n i))
+        late true m =
+            let two : 2 ≤ p = prime-above n p m in
+            let w = made-wire n p (sheetTree n p text) (omega arith) (sheet-below n p text (omega arith)) names-some in
+            ap (andThen (firstOf (contentChecks n t p (length (sheetBodies n p i text .gates)) 1))) (rw outs-count at (outs-are w))
+        late false m = unfold contentChecks in unfold firstOf in rw m (by (partiesOk n) (thresholdOk n t) (andThen (need refusal.Layout (between 1 1024 (length (sheetBodies n p i text .gates)) && between 1 64 1)) Passed))
+          where
+            by : (x y : Bool) (c : Checked) → andThen (andThen (need refusal.Parties x) (andThen (need refusal.Threshold y) (andThen (need refusal.Modulus false) c))) found
+                ≡ andThen (andThen (need refusal.Parties x) (andThen (need refusal.Threshold y) (andThen (need refusal.Modulus false) c))) (need (refusal.OutputRule 0) (between 1 n i))
+            by true true c = unfold need in unfold andThen in refl
+            by true false c = unfold need in unfold andThen in refl
+            by false y c = unfold need in unfold andThen in refl
+
+    text-told : firstOf (textChecks n t p i text) ≡ andThen (firstOf (contentChecks n t p (length (sheetBodies n p i text .gates)) 1)) (need (refusal.OutputRule 0) (between 1 n i))
+    unfolding textChecks firstOf andThen need
+    text-told = rw (ok, le-leb (length (sheetBodies n p i text .gates)) 1024 few) (unfold planCheck in file-checks)
+
+-- what the contents' checks say where all pass
+module _ (n t p gates outs : ℕ) (passed : firstOf (contentChecks n t p gates outs) ≡ Passed) where
+  contents-parts : (partiesOk n ≡ true) × (thresholdOk n t ≡ true) × (modulusOk n p ≡ true)
+  unfolding contentChecks firstOf
+  contents-parts =
+      let a = passed-both _ _ passed in
+      let b = passed-both _ _ (a .1) in
+      let c = passed-both _ _ (b .1) in
+      (passed-need refusal.Parties _ (a .0), passed-need refusal.Threshold _ (b .0), passed-need refusal.Modulus _ (c .0))
+
+told-of : (c : Checked) (inputs gates : ℕ) → refusalOf (measuredOf c inputs gates) ≡ c
+unfolding measuredOf refusalOf
+told-of Passed inputs gates = refl
+told-of (Refused r) inputs gates = refl
+
+-- ---- the first pass
+module _ (n t p i : ℕ) (text : List ℕ) (r : Survey) (names : List ℕ) (h : Surveyed n p text r names) where
+  pub measure-wrong : r ≡ survey.Wrong → MeasuredAs text n t p i (measured.Refused refusal.SheetText) names
+  unfolding textChecks firstOf andThen need refusalOf Ready SurveyIs
+  measure-wrong e = let k : sheetOk n p text ≡ false = rw e at (h .is) in record { told = rw k; ready = tt; long = h .long }
+
+  module _ (inputs gates : ℕ) (e : r ≡ survey.Counts inputs gates) where
+    record Counted : Type 0 where
+      ok : sheetOk n p text ≡ true
+      inputs-are : inputs ≡ upTo (length (namesOf (sheetTree n p text)))
+      gates-are : gates ≡ inputs + upTo (gateCount (sheetTree n p text))
+      table : names ≡ tableOf 1025 (namesOf (sheetTree n p text))
+
+    counted : Counted
+    unfolding SurveyIs
+    counted = let k = counts (rw e at (h .is)) in k
+      where
+        counts : record { ok : sheetOk n p text ≡ true; inputs-are : inputs ≡ upTo (length (namesOf (sheetTree n p text))); gates-are : gates ≡ inputs + upTo (gateCount (sheetTree n p text)); table : names ≡ tableOf 1025 (namesOf (sheetTree n p text)) } → Counted
+        counts k = record { ok = k .ok; inputs-are = k .inputs-are; gates-are = k .gates-are; table = k .table }
+
+    all : length (sheetBodies n p i text .gates) ≡ length (namesOf (sheetTree n p text)) + gateCount (sheetTree n p text)
+    all = gates-count n t p i text (counted .ok)
+
+    pub measure-large : 1024 < gates → MeasuredAs text n t p i (measured.Refused refusal.TooLarge) names
+    unfolding textChecks firstOf andThen need refusalOf Ready
+    measure-large l =
+        let large : 1024 < length (sheetBodies n p i text .gates) = omega (arith, all, counted .inputs-are, counted .gates-are, up-le (length (namesOf (sheetTree n p text))), up-le (gateCount (sheetTree n p text))) in
+        record { told = rw (counted .ok, lt-leb (length (sheetBodies n p i text .gates)) 1024 large); ready = tt; long = h .long }
+
+    module _ (few : gates ≤ 1024) where
+      names-are : inputs ≡ length (namesOf (sheetTree n p text))
+      names-are = counted .inputs-are ∙ up-is (length (namesOf (sheetTree n p text))) (omega (arith, counted .inputs-are, counted .gates-are))
+
+      gates-are : length (sheetBodies n p i text .gates) ≡ gates
+      gates-are =
+          let g : upTo (gateCount (sheetTree n p text)) ≡ gateCount (sheetTree n p text) = up-is (gateCount (sheetTree n p text)) (omega (arith, counted .gates-are)) in
+          omega (arith, all, counted .gates-are, names-are, g)
+
+      module _ (c d : Checked) (ec : c ≡ firstOf (contentChecks n t p gates 1)) (ed : d ≡ andThen c (need (refusal.OutputRule 0) (between 1 n i))) where
+        told : d ≡ firstOf (textChecks n t p i text)
+        told = ed ∙ rw ec (sym (text-told n t p i text (counted .ok) (omega (arith, gates-are)) ∙ rw gates-are))
+
+        compilable : d ≡ Passed → Compilable text n t p i inputs gates names
+        compilable q =
+            let both = passed-both c (need (refusal.OutputRule 0) (between 1 n i)) (sym ed ∙ q) in
+            let parts = contents-parts n t p gates 1 (sym ec ∙ both .0) in
+            let parties : n ≤ 15 = between-true 1 15 n (parts .0) .1 in
+            let seat : i ≤ n = between-true 1 n i (passed-need (refusal.OutputRule 0) (between 1 n i) (both .1)) .1 in
+            record {
+              ok = counted .ok;
+              inputs-are = names-are;
+              gates-are = sym gates-are ∙ (unfold sheetBodies in unfold treeBodies in unfold bodiesWith in refl);
+              few = few;
+              table = counted .table;
+              parties = omega arith;
+              threshold = omega (arith, ltb-true (2 * t) n (parts .1));
+              prime = prime-above n p (parts .2);
+              small = modulus-small n p (parts .2);
+              result = omega arith;
+            }
+
+        pub measure-counts : (m : Sheet) → m ≡ measuredOf d inputs gates → MeasuredAs text n t p i m names
+        measure-counts m em = record { told = rw em (told-of d inputs gates ∙ told); ready = rw em (by d refl); long = h .long }
+          where
+            by : (x : Checked) → d ≡ x → Ready text n t p i (measuredOf x inputs gates) names
+            by Passed q = unfold measuredOf in unfold Ready in compilable q
+            by (Refused y) q = unfold measuredOf in unfold Ready in tt
+
+pub ruleset measuring = (needs, not-true, not-false, measured-passed, measured-refused, refusal-counts, refusal-refused, result-refused, result-no, result-yes, measure-wrong, measure-large, measure-counts)
+
+-- ---- the call
+file-size : (text : List ℕ) (n t p i inputs gates : ℕ) (names : List ℕ) → Compilable text n t p i inputs gates names → length (sheetFile n t p i text) ≡ fileSize gates 1
+unfolding sheetFile sheetBodies treeBodies bodiesWith
+file-size text n t p i inputs gates names h = file-long n t p (bodiesWith i (treeMade p (sheetTree n p text))) ∙ (unfold bodiesWith in rw (← h .gates-are))
+
+module _ (text : List ℕ) (n t p i : ℕ) (m : Sheet) (names : List ℕ) (h : MeasuredAs text n t p i m names) where
+  pub measured-sized : Measuring text n t p i m
+  measured-sized = record { told = h .told; sized = by m (h .ready) }
+    where
+      by : (x : Sheet) → Ready text n t p i x names → Sized text n t p i x
+      by (measured.Counts inputs gates) k = unfold Sized in unfold Ready in record { few = k .few; size = file-size text n t p i inputs gates names k }
+      by (measured.Refused r) k = unfold Sized in tt
+
+  parts : (room : ℕ) → sheetAnswer n t p i text room ≡ andThen (refusalOf m) (need refusal.BufferLength (eqb room (length (sheetFile n t p i text))))
+  unfolding sheetAnswer sheetChecks
+  parts room =
+      firstOf-append (textChecks n t p i text) (need refusal.BufferLength (eqb room (length (sheetFile n t p i text))) ∷ [])
+      ∙ ap₂ andThen (sym (h .told)) (one (need refusal.BufferLength (eqb room (length (sheetFile n t p i text)))))
+    where
+      one : (c : Checked) → firstOf (c ∷ []) ≡ c
+      one Passed = unfold firstOf in unfold andThen in refl
+      one (Refused r) = unfold firstOf in unfold andThen in refl
+
+  after : (out : List ℕ) (a : Checked) → sheetAnswer n t p i text (length out) ≡ a → sheetAfter n t p i text out ≡ unlessRefused a (sheetFile n t p i text) out
+  unfolding sheetAfter
+  after out a e = ap (λ (c : Checked). unlessRefused c (sheetFile n t p i text) out) e
+
+  module _ (r : Refusal) (q : m ≡ measured.Refused r) where
+    refused : refusalOf m ≡ Refused r
+    unfolding refusalOf
+    refused = rw q
+
+    answer-refused : (room : ℕ) → sheetAnswer n t p i text room ≡ Refused r
+    answer-refused room = parts room ∙ andThen-refused _ _ r refused
+
+    pub sheet-refused : (c : Checked) (room : ℕ) → c ≡ refusalOf m → c ≡ sheetAnswer n t p i text room
+    sheet-refused c room e = e ∙ refused ∙ sym (answer-refused room)
+
+    pub sheet-kept : (out : List ℕ) → out ≡ sheetAfter n t p i text out
+    unfolding unlessRefused
+    sheet-kept out = sym (after out (Refused r) (answer-refused (length out)))
+
+  module _ (inputs gates : ℕ) (q : m ≡ measured.Counts inputs gates) where
+    pub counts-text : Compilable text n t p i inputs gates names
+    unfolding Ready
+    counts-text = rw q at (h .ready)
+
+    pub gates-small : gates ≤ 1024
+    gates-small = counts-text .few
+
+    passed : refusalOf m ≡ Passed
+    unfolding refusalOf
+    passed = rw q
+
+    pub counts-room : (out : List ℕ) (size : ℕ) → size ≡ fileSize gates 1 → length out ≡ size → length out ≡ fileSize gates 1
+    counts-room out size s e = e ∙ s
+
+    module _ (out : List ℕ) (size : ℕ) (es : size ≡ fileSize gates 1) where
+      answer-is : sheetAnswer n t p i text (length out) ≡ need refusal.BufferLength (eqb (length out) size)
+      answer-is = parts (length out) ∙ andThen-passed _ _ passed ∙ ap (λ (k : ℕ). need refusal.BufferLength (eqb (length out) k)) (file-size text n t p i inputs gates names counts-text ∙ sym es)
+
+      pub sheet-length : (length out ≡ size → ⊥) → Refused refusal.BufferLength ≡ sheetAnswer n t p i text (length out)
+      unfolding need
+      sheet-length l = sym (answer-is ∙ rw (ne-eqb (length out) size l))
+
+      pub sheet-left : (length out ≡ size → ⊥) → out ≡ sheetAfter n t p i text out
+      unfolding unlessRefused
+      sheet-left l = sym (after out (Refused refusal.BufferLength) (sym (sheet-length l)))
+
+      module _ (l : length out ≡ size) where
+        pub sheet-passed : Passed ≡ sheetAnswer n t p i text (length out)
+        unfolding need
+        sheet-passed = sym (answer-is ∙ rw (eq-eqb (length out) size l))
+
+        pub sheet-written : (new : List ℕ) → new ≡ planFile n t p (treeBodies p i (sheetTree n p text)) → new ≡ sheetAfter n t p i text out
+        unfolding unlessRefused sheetFile sheetBodies
+        sheet-written new e = e ∙ sym (after out Passed (sym sheet-passed))
+
+pub ruleset compiling = (needs, fresh, measured-sized, sheet-refused, sheet-kept, counts-text, gates-small, counts-room, sheet-length, sheet-left, sheet-passed, sheet-written)

@@ -1,0 +1,4 @@
+pub mod Names
+pub mod Gates
+pub mod Leaves
+pub mod Readers

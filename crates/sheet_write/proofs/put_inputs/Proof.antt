@@ -1,0 +1,50 @@
+use Prim.Native.Nat.{_-_}
+use Rattle.sheet_write.proofs.Passing.{Listing}
+use Rattle.sheet_write.proofs.Passing.{listing}
+use Rattle.sheet_write.proofs.put_inputs.Statement.{statement}
+use Rattle.sheet_write.proofs.put_inputs.Tie as tie
+
+abbrev Inv-loop : tie.InvT-loop
+Inv-loop names count out₀ i₀ out i = Listing count names out₀ i out
+
+abbrev μ-loop : tie.MeasureT-loop
+μ-loop names count out₀ i₀ out i = count - i
+
+loop-holds : tie.Need-loop-holds Inv-loop μ-loop
+loop-holds c = search listing
+
+party-at-requires : tie.Need-party-at-requires Inv-loop μ-loop
+party-at-requires c κs = search listing
+
+put-gate-requires : tie.Need-put-gate-requires Inv-loop μ-loop
+put-gate-requires c κs = search listing
+
+add-i : tie.Need-add-i Inv-loop μ-loop
+add-i c = search listing
+
+loop-less : tie.Need-loop-less Inv-loop μ-loop
+loop-less c = search listing
+
+loop-again : tie.Need-loop-again Inv-loop μ-loop
+loop-again c = search listing
+
+same-length : tie.Need-same-length Inv-loop μ-loop
+same-length c = search listing
+
+returns : tie.Need-returns Inv-loop μ-loop
+returns c = search listing
+
+pub put-inputs-spec : {M : Type 1} → statement M
+put-inputs-spec =
+    tie.close
+    (tie.spec
+    Inv-loop
+    μ-loop
+    loop-holds
+    party-at-requires
+    put-gate-requires
+    add-i
+    loop-less
+    loop-again
+    same-length
+    returns)
