@@ -32,19 +32,19 @@ static const char about[] =
 
 /* ---- ends */
 
-/* The start of every message: the program, and the subcommand where there is one. */
-static void say_who(void)
+/* A message: the program, the subcommand where there is one, and the words. */
+static void say(const char *format, va_list args)
 {
     fprintf(stderr, "pool%s%s: ", current ? " " : "", current ? current->name : "");
+    vfprintf(stderr, format, args);
+    fputc('\n', stderr);
 }
 
 _Noreturn void fail(enum fault fault, const char *format, ...)
 {
     va_list args;
     va_start(args, format);
-    say_who();
-    vfprintf(stderr, format, args);
-    fputc('\n', stderr);
+    say(format, args);
     va_end(args);
     exit(fault == NOT_UNDERSTOOD ? USAGE : SYSTEM);
 }
@@ -53,9 +53,7 @@ _Noreturn void bad_usage(const char *format, ...)
 {
     va_list args;
     va_start(args, format);
-    say_who();
-    vfprintf(stderr, format, args);
-    fputc('\n', stderr);
+    say(format, args);
     va_end(args);
     if (current)
         fprintf(stderr, "usage: pool %s %s\n'pool %s --help' says more.\n", current->name, current->usage, current->name);
