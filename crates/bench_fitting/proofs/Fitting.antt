@@ -7,46 +7,56 @@
 use Prim.Native.Nat.{ℕ, zero, suc, _+_, _*_, _/_, _%_, _<_, _≤_}
 use mathlib.Core.Path.{_≡_, refl, sym, ap, _∙_}
 use mathlib.Core.Bool.{Bool, true, false, cond}
-use mathlib.Core.List.{List, [], _∷_, _++_, flatMap}
+use mathlib.Core.List.{List, [], _∷_, _++_, map, flatMap}
 use native.Mathlib.Nat.{mul-le-mul}
 use native.Mathlib.Omega.{arith}
+use borrow.Author.Needs.{needs}
 use borrow.Author.Tests.{lt-ltb}
-use lib.Dec.{ltb}
-use lib.ListN.{length, getD, take, drop, length-append}
+use lib.Dec.{eqb, ltb}
+use lib.ListN.{length, getD, take, length-append}
 use lib.Seq.{take-all}
-use Rattle.numbers.specs.Tables.{tab, countWhere}
-use Rattle.numbers.specs.Bytes.{wordAt, numbers, allBelow}
-use Rattle.numbers.proofs.Tables.{length-tab}
-use Rattle.numbers.proofs.Counts.{countWhere-le-length}
-use Rattle.numbers.proofs.Below.{at-allBelow, allBelow-at, allBelow-take, allBelow-drop, firstOver-nothing}
-use Rattle.numbers.proofs.Bytes.{holds-numbers}
+use Rattle.numbers.specs.Tables.{tab, countWhere, total}
+use Rattle.numbers.specs.Bytes.{width, numbers, allBelow}
+use Rattle.numbers.proofs.Tables.{tab-map}
+use Rattle.numbers.proofs.Counts.{countWhere-append, countWhere-le-length}
+use Rattle.numbers.proofs.Below.{allBelow-at}
+use Rattle.numbers.proofs.Bytes.{numbers-length}
+use Rattle.field.proofs.Inverse.{pos}
 use Rattle.sharing_laws.specs.Interp.{All}
-use Rattle.sharing_laws.proofs.Alls.{all-append, all-tab}
+use Rattle.sharing_laws.proofs.Alls.{all-append}
+use Rattle.sharing_laws.proofs.Lists.{at-all}
+use Rattle.plan.specs.declared.Gate.{Gate}
+use Rattle.plan.specs.declared.Gate.the-variants.{Input, Add, Scale, Offset, Multiply, Random, Spend}
+use Rattle.plan.specs.declared.Header.{Header}
 use Rattle.plan.specs.declared.Output.{Output}
 use Rattle.plan.specs.declared.Checked.{Checked}
 use Rattle.plan.specs.declared.Checked.the-variants.{Passed, Refused}
-use Rattle.plan.specs.declared.Refusal.the-variants as refusal
-use Rattle.plan.specs.Refusals.{numberOf, placeOf}
-use Rattle.plan.proofs.Refusals.{firstOf-append, passed-both, passed-need, passed-found}
-use Rattle.plan.specs.Plans.{Plan, partyCount, dealerCount, isMultiply, deals, multiplies, inputCount, coinCount, ownCoinCount, ownOutCount, ownInputs, ownCoins, outWires, outWiresOf, mailCount, sentCount}
-use Rattle.plan.specs.File.{planChecks, planCheck, planOf}
-use Rattle.plan.proofs.Valid.{valid}
-use Rattle.plan_coalition.specs.Coalitions.{inSet, members, setOk}
-use Rattle.run_protocol.specs.Rounds.{mailTo, round, results}
-use Rattle.run_protocol.proofs.Lists.{at-all}
-use Rattle.run_protocol.proofs.Counts.{total, total-add, total-scale, total-const, length-flatMap, mail-count}
-use Rattle.run_protocol.proofs.Carried.{view-table}
-use Rattle.run_protocol.proofs.Accepted.{own-inputs-count, own-inputs-below, own-coins-count, own-coins-below, mail-below}
+use Rattle.plan.specs.Refusals.{firstOf, numberOf, placeOf}
+use Rattle.plan.specs.Plans.{Plan, partyCount, dealerCount, kindCount, isKind, isInputOf, inputOwners, coinOwnersAt, coinOwners, steps, stepAt, lastCall, received, inputCount, ownInputCount, coinCount, ownCoinCount, ownOutCount, ownInputs, ownCoins, outWires, outWiresOf, mailCount, sentCount}
+use Rattle.plan.specs.File.{nAt, pAt, between, planChecks, planCheck, planOf, headerOf}
+use Rattle.plan.specs.Planned.{Planned}
+use Rattle.plan.proofs.Refusals.{firstOf-append, passed-both}
+use Rattle.plan.proofs.Planned.{passing, modulus-small, planned, plan-t, plan-n, plan-dealers, plan-gates, plan-outs}
+use Rattle.plan.proofs.Wires.{out-wires-few}
+use Rattle.plan.proofs.Valid.{Valid, valid, sized, plain, plain-no-7}
+use Rattle.plan_counts.proofs.Counts.{coins-input, coins-multiply, coins-random, coins-add, coins-scale, coins-offset, coins-spend}
+use Rattle.plan.proofs.Counts.{plain-steps, plain-own-inputs}
+use Rattle.plan_coalition.specs.Coalitions.{inSet, members, setFits}
+use Rattle.plan_coalition.proofs.Coalitions.{set-ok, member-in, all-members, member-party}
+use Rattle.run_protocol.specs.Rounds.{mailTo, after, results, viewCount}
+use Rattle.run_protocol.specs.Settings.{Inputs, Coins}
+use Rattle.run_protocol.proofs.Expected.{Tabled}
+use Rattle.run_protocol.proofs.Given.{tabled-none}
+use Rattle.run_protocol.proofs.Owners.{length-own}
+use Rattle.run_protocol.proofs.Counts.{mail-count}
+use Rattle.run_protocol.proofs.Runs.{run-mail, steps-tab}
+use Rattle.run_protocol.proofs.Accepted.{own-below}
+use Rattle.run_protocol.proofs.Below.{mail-below}
 use Rattle.match_privacy.proofs.SetMembers.{set-few}
-use Rattle.run_views.specs.ViewCounts.{viewCountOf, viewCount}
-use Rattle.run_views.proofs.FlatLaws as flat
+use Rattle.run_dealings.specs.Rows.{Given}
 use Rattle.run_bench.specs.BenchCalls.{runChecks, benchAnswer}
-use Rattle.demands.specs.Demands.{Inputs, Coins}
-use Rattle.demands.proofs.Second.{small-prime}
-use Rattle.demands.proofs.Third.{each-member}
-use Rattle.demands.proofs.First.{first-passed}
-use Rattle.demands.proofs.Bounds.{gates-few, outs-few, parties-few, threshold-few, dealers-few, inputs-few, own-few, own-outs-few}
-use Rattle.demands.proofs.Pieces as pieces
+use Rattle.run_bench.proofs.RunCheckLaws.{mail-total}
+use Rattle.run_bench.proofs.BenchLaws.{passed-set, passed-given}
 use Rattle.bench_text.specs.Decimals.{digits, decimal, field, line}
 use Rattle.bench_lines.specs.Report.{planWord, viewWord, roundWord, outWord, sentWord, refusedWord, planLine, viewLine, roundLine, memberLines, outLinesFrom, runLines, answerLines, planPart, setPart, figuresPart, coinsPart, unreadable, benchOf, report}
 use Rattle.bench_text.specs.Texts.{Reported}
@@ -107,103 +117,141 @@ line-most word xs = omega (arith, length-append word (flatMap field xs ++ (10 �
 numbers-short : (p : ℕ) (xs : List ℕ) → p ≤ 65536 → allBelow p xs ≡ true → Short xs
 numbers-short p xs l h = at-all (λ x. x < 100000) xs (λ i m. omega (arith, allBelow-at p xs i h m))
 
-total-le : (f g : ℕ → ℕ) (is : List ℕ) → All (λ i. f i ≤ g i) is → total f is ≤ total g is
-unfolding total
-total-le f g [] a = omega arith
-total-le f g (i ∷ is) a = omega (arith, a .0, total-le f g is (a .1))
-
 flat-most : (f : ℕ → List ℕ) (is : List ℕ) → All (λ i. length (f i) ≤ 165576) is → length (flatMap f is) ≤ 165576 * length is
 unfolding flatMap
 flat-most f [] a = omega arith
 flat-most f (i ∷ is) a = omega (arith, length-append (f i) (flatMap f is), a .0, flat-most f is (a .1))
 
+-- lines of so many numbers and twelve bytes
+rounds-bound : (f : ℕ → List ℕ) (c u : ℕ → ℕ) (n : ℕ) → ((k : ℕ) → k < n → length (f (u k)) ≤ 12 + 6 * c k) → length (flatMap f (tab u n)) ≤ 12 * n + 6 * total (tab c n)
+unfolding flatMap tab total
+rounds-bound f c u zero h = omega arith
+rounds-bound f c u (suc n) h =
+    omega (
+      arith,
+      h 0 (omega arith),
+      length-append (f (u 0)) (flatMap f (tab (λ k. u (suc k)) n)),
+      rounds-bound f (λ k. c (suc k)) (λ k. u (suc k)) n (λ k l. h (suc k) (omega arith)),
+    )
+
+-- ---- a party's own coins: t at most at each gate
+module _ (bs : List ℕ) (h : Header) (k : Planned bs h) (i : ℕ) where
+  coins-by : (b : Bool) (r : ℕ) → cond b (h .t) 0 ≡ r → r ≤ 7
+  coins-by true r e = omega (arith, k .majority, k .n-high)
+  coins-by false r e = omega arith
+
+  gate-coins : (x : Gate) → countWhere (eqb i) (coinOwnersAt (planOf bs) x) ≤ 7
+  gate-coins (Input s) = coins-by (eqb i s) _ (coins-input bs h k i (Input s) s _ refl refl)
+  gate-coins (Add a b) = omega (arith, coins-add bs h k i (Add a b) a b refl)
+  gate-coins (Scale a c) = omega (arith, coins-scale bs h k i (Scale a c) a c refl)
+  gate-coins (Offset a c) = omega (arith, coins-offset bs h k i (Offset a c) a c refl)
+  gate-coins (Multiply a b) = coins-by (between 1 (h .t + h .t + 1) i) _ (coins-multiply bs h k i (Multiply a b) a b _ _ refl refl refl)
+  gate-coins Random = coins-by (between 1 (h .n) i) _ (coins-random bs h k i Random _ _ refl refl refl)
+  gate-coins (Spend a b) = omega (arith, coins-spend bs h k i (Spend a b) a b refl)
+
+  gates-coins : (gs : List Gate) → countWhere (eqb i) (flatMap (coinOwnersAt (planOf bs)) gs) ≤ 7 * length gs
+  unfolding flatMap countWhere
+  gates-coins [] = omega arith
+  gates-coins (x ∷ gs) =
+      omega (arith, gate-coins x, gates-coins gs, countWhere-append (eqb i) (coinOwnersAt (planOf bs) x) (flatMap (coinOwnersAt (planOf bs)) gs))
+
 -- ---- the lines of a run that passes
-module _ (bytes xs cs : List ℕ) (is-bytes : allBelow 256 bytes ≡ true) (passes : planCheck bytes ≡ Passed) (inputs : Inputs (planOf bytes) xs) (settings : Coins (planOf bytes) cs) where
-  prime-few : planOf bytes .p ≤ 65536
-  prime-few = small-prime bytes is-bytes passes
+pub contents : (bytes : List ℕ) → planCheck bytes ≡ Passed → Planned bytes (headerOf bytes)
+contents bytes passes = planned bytes (modulus-small (nAt bytes) (pAt bytes) (passing bytes passes .modulus)) passes
 
-  multiplies-few : multiplies (planOf bytes) ≤ 1024
-  unfolding multiplies
-  multiplies-few = omega (arith, gates-few bytes passes, countWhere-le-length isMultiply (planOf bytes .gates))
+module _ (bytes xs cs : List ℕ) (passes : planCheck bytes ≡ Passed) (inputs : Inputs (planOf bytes) xs) (settings : Coins (planOf bytes) cs) where
+  abbrev plan : Plan
+  plan = planOf bytes
 
-  own-coins-most : (i : ℕ) → ownCoinCount (planOf bytes) i ≤ 7168
-  unfolding ownCoinCount
-  own-coins-most i =
-      let l : countWhere (deals (planOf bytes) i) (planOf bytes .gates) ≤ 1024 = omega (arith, gates-few bytes passes, countWhere-le-length (deals (planOf bytes) i) (planOf bytes .gates)) in
-      omega (arith, mul-le-mul {n₁ = planOf bytes .t} {m₁ = countWhere (deals (planOf bytes) i) (planOf bytes .gates)} {n₂ = 7} {m₂ = 1024} (threshold-few bytes passes) l)
+  abbrev h : Header
+  h = headerOf bytes
 
-  module _ (i : ℕ) (from1 : 1 ≤ i) (upto : i ≤ partyCount (planOf bytes)) where
-    view-line : length (viewLine (planOf bytes) xs cs i) ≤ 49200
-    unfolding viewLine viewWord
+  k : Planned bytes (headerOf bytes)
+  k = contents bytes passes
+
+  ok : Valid (planOf bytes)
+  ok = valid bytes passes
+
+  above : 0 < plan .p
+  above = pos (ok .prime)
+
+  tabled : Tabled (planOf bytes) [] []
+  tabled = tabled-none (planOf bytes) [] (plain-no-7 (planOf bytes) (plain bytes passes))
+
+  prime-few : plan .p ≤ 65536
+  prime-few = sized bytes passes .few
+
+  gates-few : length (plan .gates) ≤ 1024
+  gates-few = omega (arith, plan-gates k, k .gates-high)
+
+  kind-few : (j : ℕ) → kindCount plan j ≤ 1024
+  unfolding kindCount
+  kind-few j = omega (arith, gates-few, countWhere-le-length (isKind j) (plan .gates))
+
+  calls-few : lastCall plan ≤ 1026
+  calls-few = omega (arith, plain-steps plan (plain bytes passes), kind-few 5)
+
+  own-few : (i : ℕ) → ownInputCount plan i ≤ 1024
+  own-few i = omega (arith, plain-own-inputs plan (plain bytes passes) i, countWhere-le-length (isInputOf i) (plan .gates), gates-few)
+
+  own-coins-most : (i : ℕ) → ownCoinCount plan i ≤ 7168
+  unfolding ownCoinCount coinOwners
+  own-coins-most i = omega (arith, gates-coins bytes h k i (plan .gates), gates-few)
+
+  own-outs-few : (i : ℕ) → ownOutCount plan i ≤ 64
+  unfolding ownOutCount outWires
+  own-outs-few i = omega (arith, out-wires-few i (plan .outs), plan-outs k, k .outs-high)
+
+  module _ (i : ℕ) (from1 : 1 ≤ i) (upto : i ≤ partyCount plan) where
+    view-line : length (viewLine plan xs cs i) ≤ 49200
+    unfolding viewLine viewWord ownInputs ownCoins ownInputCount ownCoinCount
     view-line =
-        let s : Short (i ∷ (ownInputs (planOf bytes) i xs ++ ownCoins (planOf bytes) i cs)) = (
-          omega (arith, upto, parties-few bytes passes),
-          all-append (λ x. x < 100000) (ownInputs (planOf bytes) i xs) (ownCoins (planOf bytes) i cs)
-              (numbers-short (planOf bytes .p) (ownInputs (planOf bytes) i xs) prime-few (own-inputs-below (planOf bytes) (valid bytes passes) i xs (inputs .small)))
-              (numbers-short (planOf bytes .p) (ownCoins (planOf bytes) i cs) prime-few (own-coins-below (planOf bytes) (valid bytes passes) i cs (settings .small))),
+        let s : Short (i ∷ (ownInputs plan i xs ++ ownCoins plan i cs)) = (
+          omega (arith, upto, plan-n k, k .n-high),
+          all-append (λ x. x < 100000) (ownInputs plan i xs) (ownCoins plan i cs)
+              (numbers-short (plan .p) (ownInputs plan i xs) prime-few (own-below plan above i (inputOwners plan) xs (inputs .small)))
+              (numbers-short (plan .p) (ownCoins plan i cs) prime-few (own-below plan above i (coinOwners plan) cs (settings .small))),
         ) in
         omega (
           arith,
-          line-small viewWord (i ∷ (ownInputs (planOf bytes) i xs ++ ownCoins (planOf bytes) i cs)) s,
-          length-append (ownInputs (planOf bytes) i xs) (ownCoins (planOf bytes) i cs),
-          own-inputs-count (planOf bytes) (valid bytes passes) i xs,
-          own-coins-count (planOf bytes) (valid bytes passes) i cs from1 (settings .count),
-          own-few bytes passes i,
+          line-small viewWord (i ∷ (ownInputs plan i xs ++ ownCoins plan i cs)) s,
+          length-append (ownInputs plan i xs) (ownCoins plan i cs),
+          length-own i (inputOwners plan) xs,
+          length-own i (coinOwners plan) cs,
+          own-few i,
           own-coins-most i,
         )
 
-    round-line : (k : ℕ) → k ≤ multiplies (planOf bytes) + 1 → length (roundLine (planOf bytes) xs cs i k) ≤ 12 + 6 * mailCount (planOf bytes) i (suc k)
-    unfolding roundLine roundWord
-    round-line k l =
-        let s : Short (k ∷ mailTo i (round (planOf bytes) xs cs k)) = (
-          omega (arith, multiplies-few),
-          numbers-short (planOf bytes .p) (mailTo i (round (planOf bytes) xs cs k)) prime-few
-              (mail-below (planOf bytes) (valid bytes passes) xs cs (settings .count) (inputs .small) i from1 upto k l),
-        ) in
-        omega (arith, line-small roundWord (k ∷ mailTo i (round (planOf bytes) xs cs k)) s, mail-count (planOf bytes) (valid bytes passes) xs cs (settings .count) k i l from1 upto)
+    round-line : (r : ℕ) → r < lastCall plan → length (roundLine plan xs cs i r) ≤ 12 + 6 * received plan i (stepAt plan r)
+    unfolding roundLine roundWord mailCount
+    round-line r l =
+        let mail : List ℕ = mailTo i (after plan xs cs [] (suc r)) in
+        let small : allBelow (plan .p) mail ≡ true = rw (run-mail plan ok xs cs [] [] (settings .count) tabled r l i from1 upto) (mail-below plan above xs cs [] i (stepAt plan r)) in
+        let s : Short (r ∷ mail) = (omega (arith, calls-few), numbers-short (plan .p) mail prime-few small) in
+        omega (arith, line-small roundWord (r ∷ mail) s, mail-count plan ok xs cs [] i from1 upto (suc r) (omega arith))
 
-    mail-most : total (λ k. mailCount (planOf bytes) i (suc k)) (tab (λ k. k) (multiplies (planOf bytes) + 2)) ≤ 17344
-    unfolding viewCountOf ownOutCount
+    mail-most : total (map (received plan i) (steps plan)) ≤ 17344
     mail-most =
-        let d : multiplies (planOf bytes) * dealerCount (planOf bytes) ≤ 15360 = mul-le-mul {n₁ = multiplies (planOf bytes)} {m₁ = dealerCount (planOf bytes)} {n₂ = 1024} {m₂ = 15} multiplies-few (dealers-few bytes passes) in
-        let o : partyCount (planOf bytes) * length (outWires (planOf bytes) i) ≤ 960 = mul-le-mul {n₁ = partyCount (planOf bytes)} {m₁ = length (outWires (planOf bytes) i)} {n₂ = 15} {m₂ = 64} (parties-few bytes passes) (own-outs-few bytes passes i) in
-        omega (
-          arith,
-          d,
-          o,
-          inputs-few bytes passes,
-          pieces.length-view (planOf bytes) (valid bytes passes) xs cs inputs settings i from1 upto,
-          ap length (view-table (planOf bytes) (valid bytes passes) xs cs (settings .count) i from1 upto),
-          flat.length-view (planOf bytes) (valid bytes passes) xs cs (settings .count) i from1,
-        )
+        let d : dealerCount plan * kindCount plan 5 ≤ 15360 = mul-le-mul {n₁ = dealerCount plan} {m₁ = kindCount plan 5} {n₂ = 15} {m₂ = 1024} (omega (arith, plan-dealers k, k .majority, k .n-high)) (kind-few 5) in
+        let o : partyCount plan * ownOutCount plan i ≤ 960 = mul-le-mul {n₁ = partyCount plan} {m₁ = ownOutCount plan i} {n₂ = 15} {m₂ = 64} (omega (arith, plan-n k, k .n-high)) (own-outs-few i) in
+        omega (arith, d, o, kind-few 1, mail-total plan (plain bytes passes) i)
 
-    rounds-most : length (flatMap (roundLine (planOf bytes) xs cs i) (tab (λ k. k) (multiplies (planOf bytes) + 2))) ≤ 116376
+    rounds-most : length (flatMap (roundLine plan xs cs i) (tab (λ r. r) (lastCall plan))) ≤ 116376
     rounds-most =
-        let n : ℕ = multiplies (planOf bytes) + 2 in
-        let f : ℕ → ℕ = λ k. mailCount (planOf bytes) i (suc k) in
-        omega (
-          arith,
-          multiplies-few,
-          mail-most,
-          length-flatMap (roundLine (planOf bytes) xs cs i) (tab (λ k. k) n),
-          total-le (λ k. length (roundLine (planOf bytes) xs cs i k)) (λ k. 12 + 6 * f k) (tab (λ k. k) n)
-              (all-tab (λ k. length (roundLine (planOf bytes) xs cs i k) ≤ 12 + 6 * f k) (λ k. k) n (λ k l. round-line k (omega arith))),
-          total-add (λ k. 12) (λ k. 6 * f k) (tab (λ k. k) n),
-          total-const 12 (tab (λ k. k) n),
-          total-scale 6 f (tab (λ k. k) n),
-          length-tab {A = ℕ} (λ k. k) n,
-        )
+        let c : ℕ → ℕ = λ r. received plan i (stepAt plan r) in
+        let all : total (map (received plan i) (steps plan)) ≡ total (tab c (lastCall plan)) =
+        ap total (ap (map (received plan i)) (steps-tab plan ok xs cs [] [] (settings .count) tabled) ∙ tab-map (received plan i) (stepAt plan) (lastCall plan)) in
+        omega (arith, calls-few, mail-most, all, rounds-bound (roundLine plan xs cs i) c (λ r. r) (lastCall plan) round-line)
 
-    member-lines : length (memberLines (planOf bytes) xs cs i) ≤ 165576
+    member-lines : length (memberLines plan xs cs i) ≤ 165576
     unfolding memberLines
-    member-lines =
-        omega (arith, view-line, rounds-most, length-append (viewLine (planOf bytes) xs cs i) (flatMap (roundLine (planOf bytes) xs cs i) (tab (λ k. k) (multiplies (planOf bytes) + 2))))
+    member-lines = omega (arith, view-line, rounds-most, length-append (viewLine plan xs cs i) (flatMap (roundLine plan xs cs i) (tab (λ r. r) (lastCall plan))))
 
   out-lines : (set : ℕ) (os : List Output) (o : ℕ) (seen : List Output) → length (outLinesFrom (planOf bytes) set xs cs o seen os) ≤ 67 * length os
   unfolding outLinesFrom outWord
   out-lines set [] o seen = omega arith
   out-lines set (x ∷ os) o seen =
-      let ns : List ℕ = o ∷ x .party ∷ getD (results (planOf bytes) xs cs (x .party)) (length (outWiresOf (x .party) seen)) 0 ∷ [] in
+      let ns : List ℕ = o ∷ x .party ∷ getD (results (planOf bytes) xs cs [] (x .party)) (length (outWiresOf (x .party) seen)) 0 ∷ [] in
       let l : length (cond (inSet set (x .party)) (line outWord ns) []) ≤ 67 = either (inSet set (x .party)) (line outWord ns) (omega (arith, line-most outWord ns)) in
       omega (arith, l, length-append (cond (inSet set (x .party)) (line outWord ns) []) (outLinesFrom (planOf bytes) set xs cs (suc o) (seen ++ (x ∷ [])) os), out-lines set os (suc o) (seen ++ (x ∷ [])))
     where
@@ -211,57 +259,51 @@ module _ (bytes xs cs : List ℕ) (is-bytes : allBelow 256 bytes ≡ true) (pass
       either true l m = m
       either false l m = omega arith
 
-  run-lines : (set : ℕ) → setOk (planOf bytes) set ≡ true → length (runLines (planOf bytes) set xs cs) ≤ 1300000
+  run-lines : (set : ℕ) → setFits (h .n) (h .t) set ≡ true → length (runLines plan set xs cs) ≤ 1300000
   unfolding runLines planLine planWord sentWord
-  run-lines set ok =
-      let ms : List ℕ = flatMap (memberLines (planOf bytes) xs cs) (members set) in
-      let ol : List ℕ = outLinesFrom (planOf bytes) set xs cs 0 [] (planOf bytes .outs) in
-      let sl : List ℕ = line sentWord (sentCount (planOf bytes) ∷ []) in
-      let ns : List ℕ = partyCount (planOf bytes) ∷ planOf bytes .t ∷ planOf bytes .p ∷ length (planOf bytes .gates) ∷ length (planOf bytes .outs) ∷ [] in
+  run-lines set fits =
+      let ms : List ℕ = flatMap (memberLines plan xs cs) (members set) in
+      let ol : List ℕ = outLinesFrom plan set xs cs 0 [] (plan .outs) in
+      let sl : List ℕ = line sentWord (sentCount plan ∷ []) in
+      let ns : List ℕ = partyCount plan ∷ plan .t ∷ plan .p ∷ length (plan .gates) ∷ length (plan .outs) ∷ [] in
       omega (
         arith,
         length-append (line planWord ns) (ms ++ (ol ++ sl)),
         length-append ms (ol ++ sl),
         length-append ol sl,
         line-most planWord ns,
-        line-most sentWord (sentCount (planOf bytes) ∷ []),
-        out-lines set (planOf bytes .outs) 0 [],
-        outs-few bytes passes,
-        flat-most (memberLines (planOf bytes) xs cs) (members set) (each-member (λ i. length (memberLines (planOf bytes) xs cs i) ≤ 165576) (planOf bytes) set ok (λ i l m e. member-lines i l m)),
-        set-few (planOf bytes) set ok,
-        threshold-few bytes passes,
+        line-most sentWord (sentCount plan ∷ []),
+        out-lines set (plan .outs) 0 [],
+        plan-outs k,
+        k .outs-high,
+        flat-most (memberLines plan xs cs) (members set)
+            (all-members (λ i. length (memberLines plan xs cs i) ≤ 165576) (members set)
+            (λ m w. member-lines m (member-in set m w .from) (rw (plan-n k) (member-party (h .n) (h .t) set fits m w)))),
+        set-few plan set (sym (set-ok bytes h set k) ∙ fits),
+        plan-t k,
+        k .majority,
+        k .n-high,
       )
 
 -- ---- the text
-module _ (bytes : List ℕ) (set : ℕ) (figures coins : List ℕ) (room : ℕ) (is-bytes : allBelow 256 bytes ≡ true) (passed : benchAnswer bytes set figures coins room ≡ Passed) where
-  plan-passes : planCheck bytes ≡ Passed
-  unfolding planCheck benchAnswer
-  plan-passes = passed-both _ _ (sym (firstOf-append (planChecks bytes) (runChecks (planOf bytes) set figures coins room)) ∙ passed) .0
-
-  each : (k : ℕ) → getD (planChecks bytes ++ runChecks (planOf bytes) set figures coins room) k Passed ≡ Passed
+module _ (bytes : List ℕ) (set : ℕ) (figures coins : List ℕ) (room : ℕ) (passed : benchAnswer bytes set figures coins room ≡ Passed) where
+  both : (firstOf (planChecks bytes) ≡ Passed) × (firstOf (runChecks (planOf bytes) set figures coins room) ≡ Passed)
   unfolding benchAnswer
-  each = first-passed _ passed
+  both = passed-both _ _ (sym (firstOf-append (planChecks bytes) (runChecks (planOf bytes) set figures coins room)) ∙ passed)
 
-  set-passes : setOk (planOf bytes) set ≡ true
-  unfolding planChecks runChecks
-  set-passes = passed-need refusal.Coalition _ (each 8)
+  plan-passes : planCheck bytes ≡ Passed
+  unfolding planCheck
+  plan-passes = both .0
 
-  inputs-given : Inputs (planOf bytes) (numbers figures)
-  unfolding planChecks runChecks
-  inputs-given = record {
-    count = holds-numbers (inputCount (planOf bytes)) figures (passed-need refusal.InputCount _ (each 9));
-    small = firstOver-nothing (planOf bytes .p) (numbers figures) (passed-found refusal.InputValue _ (each 10));
-  }
-
-  coins-given : Coins (planOf bytes) (numbers coins)
-  unfolding planChecks runChecks
-  coins-given = record {
-    count = holds-numbers (coinCount (planOf bytes)) coins (passed-need refusal.CoinCount _ (each 11));
-    small = firstOver-nothing (planOf bytes .p) (numbers coins) (passed-found refusal.CoinValue _ (each 12));
-  }
+  given : Given (planOf bytes) figures coins
+  given = passed-given bytes set figures coins room _ refl (both .1)
 
   passed-lines : length (runLines (planOf bytes) set (numbers figures) (numbers coins)) ≤ 1300000
-  passed-lines = run-lines bytes (numbers figures) (numbers coins) is-bytes plan-passes inputs-given coins-given set set-passes
+  passed-lines =
+      run-lines bytes (numbers figures) (numbers coins) plan-passes
+      (record { count = omega (arith, numbers-length figures, given .inputs-count); small = given .inputs-below })
+      (record { count = omega (arith, numbers-length coins, given .coins-count); small = given .coins-below }) set
+      (passed-set bytes set figures coins room _ refl (both .1) (headerOf bytes) (contents bytes plan-passes))
 
 answer-lines : (c : Checked) (plan : Plan) (set : ℕ) (xs cs : List ℕ) → (c ≡ Passed → length (runLines plan set xs cs) ≤ 1300000) → length (answerLines c plan set xs cs) ≤ 1300000
 unfolding answerLines refusedWord
@@ -269,22 +311,21 @@ answer-lines Passed plan set xs cs h = h refl
 answer-lines (Refused r) plan set xs cs h = omega (arith, line-most refusedWord (numberOf r ∷ placeOf r ∷ []))
 
 pub fitting : Fitting
-unfolding report benchOf planPart refusedWord
-fitting bs is-bytes = step (unreadable bs)
+unfolding report benchOf refusedWord
+fitting bs = step (unreadable bs)
   where
-    part-bytes : allBelow 256 (planPart bs) ≡ true
-    part-bytes = unfold planPart in allBelow-take 256 (wordAt bs 0) (drop 2 bs) (allBelow-drop 256 2 bs is-bytes)
-
     step : (b : Bool)
         → length (cond b (line refusedWord (1 ∷ 0 ∷ [])) (answerLines (benchOf bs) (planOf (planPart bs)) (setPart bs) (numbers (figuresPart bs)) (numbers (coinsPart bs)))) ≤ 1300000
     step true = omega (arith, line-most refusedWord (1 ∷ 0 ∷ []))
     step false =
         answer-lines (benchOf bs) (planOf (planPart bs)) (setPart bs) (numbers (figuresPart bs)) (numbers (coinsPart bs))
-        (λ e. passed-lines (planPart bs) (setPart bs) (figuresPart bs) (coinsPart bs) (2 * viewCount (planOf (planPart bs)) (members (setPart bs))) part-bytes e)
+        (λ e. passed-lines (planPart bs) (setPart bs) (figuresPart bs) (coinsPart bs) (width * viewCount (planOf (planPart bs)) (members (setPart bs))) e)
 
 -- ---- a text that is written as far as there is room is written whole
-pub whole : (bs old new : List ℕ) (r : ℕ) → ((i : ℕ) → getD bs i 0 < 256) → longest ≤ length old → Reported (report bs) old new r → Whole (report bs) new r
-whole bs old new r below room written =
-    let fits : length (report bs) ≤ length old = omega (arith, fitting bs (at-allBelow 256 bs (λ i l. below i)), room) in
+pub whole : (bs old new : List ℕ) (r : ℕ) → longest ≤ length old → Reported (report bs) old new r → Whole (report bs) new r
+whole bs old new r room written =
+    let fits : length (report bs) ≤ length old = omega (arith, fitting bs, room) in
     let all : take (length old) (report bs) ≡ report bs = take-all (length old) (report bs) fits in
     record { room = written .room; text = written .text ∙ all; count = written .count ∙ ap length all }
+
+pub ruleset fitted = (needs, whole)

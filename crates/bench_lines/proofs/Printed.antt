@@ -13,27 +13,27 @@ use mathlib.Core.Bool.{Bool, true, false, cond}
 use mathlib.Core.List.{List, [], _∷_, _++_, flatMap}
 use Prim.Native.Nat.{ℕ, suc, _+_, _-_, _*_, _<_, _≤_}
 use native.Mathlib.Numerals.{add-one}
-use native.Mathlib.Nat.{mul-le-mul, sub-zero}
+use native.Mathlib.Nat.{sub-zero}
 use native.Mathlib.Omega.{arith}
 use borrow.Author.Needs.{needs}
 use borrow.Author.Tests.{not-true, not-false, leb-true, leb-false}
-use mir.Syntax.{w16, w64}
+use mir.Syntax.{w16}
 use mir.Val.{Fits}
 use lib.Dec.{eqb, leb}
 use lib.ListN.{length, take, drop, getD, length-append, drop-of-length-le}
 use lib.Seq.{drop-drop, take-suc, drop-cons}
-use Rattle.numbers.specs.Tables.{countWhere}
+use Rattle.numbers.specs.Tables.{total}
 use Rattle.plan.specs.declared.Header.{Header}
 use Rattle.plan.specs.declared.Output.{Output}
 use Rattle.plan.specs.declared.Refusal.{Refusal}
 use Rattle.plan.specs.Refusals.{numberOf, placeOf}
-use Rattle.plan.specs.Plans.{Plan, multiplies, mailCount, sentCount, ownInputCount, ownCoinCount, ownOutCount, outWiresOf, deals}
+use Rattle.plan.specs.Plans.{Plan, lastCall, mailCount, sentCount, ownInputCount, ownCoinCount, ownOutCount, outWiresOf}
 use Rattle.plan.specs.File.{planOf, outAt}
 use Rattle.plan.specs.Planned.{Planned}
 use Rattle.plan_coalition.specs.Coalitions.{inSet, membersFrom, members}
 use Rattle.plan.proofs.Planned.{plan-t, plan-p, plan-n, plan-gates, plan-outs, plan-out}
 use Rattle.plan_coalition.proofs.Coalitions.{bit-past}
-use Rattle.run_views.specs.ViewCounts.{viewCountOf, viewCount}
+use Rattle.run_protocol.specs.Rounds.{viewCountOf, viewCount}
 use Rattle.bench_text.specs.Decimals.{line}
 use Rattle.bench_lines.specs.Report.{planWord, viewWord, roundWord, outWord, sentWord, refusedWord, planLine}
 use Rattle.bench_text.specs.Texts.{Put}
@@ -97,48 +97,34 @@ module _ (plan : Plan) (i : ℕ) (vs : List ℕ) (from rounds at : ℕ) (old : L
               (rw e (rounds-cons place k l)) w;
         }
 
-    pub rounds-end : rounds ≤ k → (m : ℕ) → m ≡ multiplies plan → rounds ≡ m + 2 → Put (roundLinesIn plan i (drop from vs) 0 (multiplies plan + 2)) at old new next
+    pub rounds-end : rounds ≤ k → rounds ≡ lastCall plan → Put (roundLinesIn plan i (drop from vs) 0 (lastCall plan)) at old new next
     unfolding roundLinesIn
-    rounds-end l m e f =
+    rounds-end l e =
         let z : rounds - k ≡ 0 = omega arith in
-        let g : rounds ≡ multiplies plan + 2 = omega arith in
-        rw (← g) (left-end (roundLinesIn plan i (drop from vs) 0 rounds) at old new next (roundLinesIn plan i (drop place vs) k (rounds - k)) (h .left) (rw z))
+        rw (← e) (left-end (roundLinesIn plan i (drop from vs) 0 rounds) at old new next (roundLinesIn plan i (drop place vs) k (rounds - k)) (h .left) (rw z))
 
 pub ruleset rounding = (needs, rounds-all, rounds-next, rounds-end)
 
 -- ---- a member
-module _ {bs : List ℕ} {h : Header} (p : Planned bs h) (d : ℕ) where
-  coins-le : d ≤ 1024 → h .t * d ≤ 7168
-  coins-le l = omega (arith, mul-le-mul {n₁ = h .t} {m₁ = d} {n₂ = 7} {m₂ = 1024} (omega (arith, p .majority, p .n-high)) l)
-
-  pub coins-fit : d ≤ 1024 → Fits w64 (h .t * d)
-  coins-fit l = record { fits = omega (arith, coins-le l) }
-
-  pub own-fit : (a : ℕ) → a ≤ 1024 → d ≤ 1024 → Fits w64 (a + h .t * d)
-  own-fit a m l = record { fits = omega (arith, coins-le l) }
-
-  pub own-le : (a : ℕ) → a ≤ 1024 → d ≤ 1024 → a + h .t * d ≤ 8192
-  own-le a m l = omega (arith, coins-le l)
-
-  pub own-eq : (a i : ℕ) → a ≡ ownInputCount (planOf bs) i → d ≡ countWhere (deals (planOf bs) i) (planOf bs .gates) → a + h .t * d ≡ ownCount (planOf bs) i
-  unfolding ownCount ownCoinCount
-  own-eq a i e f = rw (e, f, plan-t p)
+pub own-eq : (plan : Plan) (i a c : ℕ) → a ≡ ownInputCount plan i → c ≡ ownCoinCount plan i → a + c ≡ ownCount plan i
+unfolding ownCount
+own-eq plan i a c e f = rw (e, f)
 
 pub member-lines :
     (plan : Plan) (i : ℕ) (vs : List ℕ) (from count at m e : ℕ) (old mid new : List ℕ)
     → Put (line viewWord (i ∷ take count (drop from vs))) at old mid m → count ≡ ownCount plan i
-    → Put (roundLinesIn plan i (drop (from + count) vs) 0 (multiplies plan + 2)) m mid new e
+    → Put (roundLinesIn plan i (drop (from + count) vs) 0 (lastCall plan)) m mid new e
     → Put (memberLinesIn plan i (drop from vs)) at old new e
 unfolding memberLinesIn
 member-lines plan i vs from count at m e old mid new a c b =
     rw (← c, drop-drop count from vs)
-    (put-then (line viewWord (i ∷ take count (drop from vs))) (roundLinesIn plan i (drop (from + count) vs) 0 (multiplies plan + 2)) at m e old mid new a b)
+    (put-then (line viewWord (i ∷ take count (drop from vs))) (roundLinesIn plan i (drop (from + count) vs) 0 (lastCall plan)) at m e old mid new a b)
 
-pub ruleset membering = (needs, coins-fit, own-fit, own-le, own-eq, member-lines)
+pub ruleset membering = (needs, own-eq, member-lines)
 
 -- ---- where a member's view begins
 view-count-append : (plan : Plan) (a b : List ℕ) → viewCount plan (a ++ b) ≡ viewCount plan a + viewCount plan b
-unfolding viewCount
+unfolding viewCount total
 view-count-append plan [] b = omega arith
 view-count-append plan (x ∷ a) b = omega (arith, view-count-append plan a b)
 
@@ -150,11 +136,11 @@ pub record Parting (plan : Plan) (set i k j : ℕ) : Type 0 where
   pub is : k ≡ viewCount plan (membersFrom set 1 (j - 1))
 
 pub part-none : (plan : Plan) (set i : ℕ) → Parting plan set i 0 1
-unfolding membersFrom viewCount
+unfolding membersFrom viewCount total
 part-none plan set i = record { low = omega arith; high = omega arith; few = omega arith; is = refl }
 
 counted : (plan : Plan) (b : Bool) (j : ℕ) → viewCount plan (cond b (j ∷ []) []) ≡ cond b (viewCountOf plan j) 0
-unfolding viewCount
+unfolding viewCount total
 counted plan true j = omega arith
 counted plan false j = refl
 

@@ -13,26 +13,32 @@ use borrow.Author.Tests.{leb-true, eq-eqb}
 use lib.Dec.{leb, ltb}
 use lib.ListN.{length, drop, getD, length-append, List·getD-append}
 use lib.Seq.{take-at, drop-at, getD-drop, getD-append-add, getD-append-seam}
-use Rattle.numbers.specs.Tables.{tab}
-use Rattle.numbers.specs.Bytes.{numbers, bytesOf, allBelow}
+use Rattle.numbers.specs.Tables.{tab, total}
+use Rattle.numbers.specs.Bytes.{limit, numbers, bytesOf, allBelow}
 use Rattle.numbers.proofs.Tables.{tab-ext}
+use Rattle.numbers.proofs.Below.{append-below, flatMap-below}
 use Rattle.numbers.proofs.Truth.{both-true}
+use Rattle.field.proofs.Inverse.{pos}
 use Rattle.sharing_laws.specs.Interp.{All}
+use Rattle.sharing_laws.proofs.Lists.{flatMap-append, flatMap-all, length-map}
 use Rattle.plan.specs.declared.Output.{Output}
-use Rattle.plan.specs.Plans.{Plan, partyCount, multiplies, ownOutCount, coinCount, mailCount, ownInputs, ownCoins, outWires, outWiresOf}
+use Rattle.plan.specs.Plans.{Plan, partyCount, kindCount, steps, lastCall, inputOwners, coinOwners, ownInputCount, ownCoinCount, ownOutCount, coinCount, mailCount, ownInputs, ownCoins, outWires, outWiresOf}
 use Rattle.plan.specs.File.{outOk, between}
 use Rattle.plan_coalition.specs.Coalitions.{inSet, membersFrom, members}
 use Rattle.plan.proofs.Valid.{Valid}
 use Rattle.plan_coalition.proofs.Coalitions.{Among, member-in, in-member, all-members}
-use Rattle.run_protocol.specs.Rounds.{mailTo, round, results, mails, viewOf, view}
-use Rattle.run_protocol.specs.Shares.{tableResults, tableViewOf}
-use Rattle.run_views.specs.ViewCounts.{viewCountOf, viewCount}
-use Rattle.run_protocol.proofs.Lists.{flatMap-append, flatMap-all, all-map, length-map}
-use Rattle.run_protocol.proofs.Carried.{view-table, views-table, results-table}
+use Rattle.run_protocol.specs.Rounds.{mailTo, after, results, mails, viewOf, view, viewCountOf, viewCount}
+use Rattle.run_protocol.specs.Tables.{tableMail, tableResults, tableViewOf}
+use Rattle.run_protocol.proofs.Expected.{Tabled}
+use Rattle.run_protocol.proofs.Given.{tabled-none}
+use Rattle.run_protocol.proofs.Owners.{length-own}
+use Rattle.run_protocol.proofs.Runs.{views-table, results-table}
 use Rattle.run_protocol.proofs.Counts.{mail-count}
-use Rattle.run_protocol.proofs.Accepted.{own-inputs-count, own-coins-count, own-inputs-below, own-coins-below, back}
-use Rattle.run_protocol.proofs.Below.{append-below, flatMap-below, mails-below, results-below}
-use Rattle.run_views.proofs.FlatLaws.{length-view, length-views}
+use Rattle.run_protocol.proofs.ViewCounts.{view-count}
+use Rattle.run_protocol.proofs.Accepted.{own-below, back}
+use Rattle.run_protocol.proofs.Below.{mail-below}
+use Rattle.run_protocol.proofs.Sound.{no-triples, results-right}
+use Rattle.run_protocol.proofs.Values.{granted-below}
 use Rattle.bench_text.specs.Decimals.{line}
 use Rattle.bench_lines.specs.Report.{outWord, viewLine, roundLine, memberLines, outLinesFrom, runLines}
 use Rattle.bench_lines.proofs.Parts.{members-split, wires-append}
@@ -79,53 +85,59 @@ own-before seen x outs =
       ap length (own-out x outs),
     )
 
-module _ (plan : Plan) (valid : Valid plan) (xs cs : List ℕ) (full : length cs ≡ coinCount plan) where
+module _ (plan : Plan) (valid : Valid plan) (none : kindCount plan 7 ≡ 0) (xs cs : List ℕ) (full : length cs ≡ coinCount plan) where
+  tabled : Tabled plan [] []
+  tabled = tabled-none plan [] none
+
   -- ---- one member
   module _ (i : ℕ) (low : 1 ≤ i) (high : i ≤ partyCount plan) where
     mailOf : ℕ → List ℕ
-    mailOf k = mailTo i (round plan xs cs k)
+    mailOf k = mailTo i (after plan xs cs [] (suc k))
 
-    rounds-flat : (m k : ℕ) (rest : List ℕ) → k + m ≤ multiplies plan + 2
+    rounds-flat : (m k : ℕ) (rest : List ℕ) → k + m ≤ lastCall plan
         → roundLinesIn plan i (flatMap mailOf (upFrom k m) ++ rest) k m ≡ flatMap (roundLine plan xs cs i) (upFrom k m)
     unfolding roundLinesIn upFrom flatMap mailOf roundLine
     rounds-flat zero k rest l = refl
     rounds-flat (suc m) k rest l =
-        let n : length (mailTo i (round plan xs cs k)) ≡ mailCount plan i (suc k) = mail-count plan valid xs cs full k i (omega arith) low high in
+        let n : length (mailTo i (after plan xs cs [] (suc k))) ≡ mailCount plan i (suc k) = mail-count plan valid xs cs [] i low high (suc k) (omega arith) in
         let more : List ℕ = flatMap mailOf (upFrom (suc k) m) ++ rest in
         rw (append-assoc (mailOf k) (flatMap mailOf (upFrom (suc k) m)) rest, take-at (mailOf k) more (mailCount plan i (suc k)) n, drop-at (mailOf k) more (mailCount plan i (suc k)) n, rounds-flat m (suc k) rest (omega arith))
 
     own-long : length (ownInputs plan i xs ++ ownCoins plan i cs) ≡ ownCount plan i
-    unfolding ownCount
-    own-long = length-append (ownInputs plan i xs) (ownCoins plan i cs) ∙ ap₂ (λ (a b : ℕ). a + b) (own-inputs-count plan valid i xs) (own-coins-count plan valid i cs low full)
+    unfolding ownCount ownInputs ownCoins ownInputCount ownCoinCount
+    own-long = length-append (ownInputs plan i xs) (ownCoins plan i cs) ∙ ap₂ (λ (a b : ℕ). a + b) (length-own i (inputOwners plan) xs) (length-own i (coinOwners plan) cs)
 
     view-parts : (rest : List ℕ)
-        → viewOf plan xs cs i ++ rest ≡ (ownInputs plan i xs ++ ownCoins plan i cs) ++ (flatMap mailOf (upFrom 0 (multiplies plan + 2)) ++ (results plan xs cs i ++ rest))
+        → viewOf plan xs cs [] i ++ rest ≡ (ownInputs plan i xs ++ ownCoins plan i cs) ++ (flatMap mailOf (upFrom 0 (lastCall plan)) ++ (results plan xs cs [] i ++ rest))
     unfolding viewOf mails mailOf
-    view-parts rest = rw (up-all (multiplies plan + 2)) (simp append-assoc)
+    view-parts rest = rw (up-all (lastCall plan)) (simp append-assoc)
 
-    pub member-flat : (rest : List ℕ) → memberLinesIn plan i (viewOf plan xs cs i ++ rest) ≡ memberLines plan xs cs i
+    pub member-flat : (rest : List ℕ) → memberLinesIn plan i (viewOf plan xs cs [] i ++ rest) ≡ memberLines plan xs cs i
     unfolding memberLinesIn memberLines viewLine
     member-flat rest =
         let own : List ℕ = ownInputs plan i xs ++ ownCoins plan i cs in
-        let more : List ℕ = flatMap mailOf (upFrom 0 (multiplies plan + 2)) ++ (results plan xs cs i ++ rest) in
-        rw (view-parts rest, take-at own more (ownCount plan i) own-long, drop-at own more (ownCount plan i) own-long, rounds-flat (multiplies plan + 2) 0 (results plan xs cs i ++ rest) (omega arith), up-all (multiplies plan + 2))
+        let more : List ℕ = flatMap mailOf (upFrom 0 (lastCall plan)) ++ (results plan xs cs [] i ++ rest) in
+        rw (view-parts rest, take-at own more (ownCount plan i) own-long, drop-at own more (ownCount plan i) own-long, rounds-flat (lastCall plan) 0 (results plan xs cs [] i ++ rest) (omega arith), up-all (lastCall plan))
 
-    results-long : length (results plan xs cs i) ≡ ownOutCount plan i
+    results-long : length (results plan xs cs [] i) ≡ ownOutCount plan i
     unfolding tableResults ownOutCount
-    results-long = ap length (results-table plan valid xs cs full i low high) ∙ length-map _ (outWires plan i)
+    results-long = ap length (results-table plan valid xs cs [] [] full tabled i low high) ∙ length-map _ (outWires plan i)
 
-    view-long : length (viewOf plan xs cs i) ≡ viewCountOf plan i
-    view-long = ap length (view-table plan valid xs cs full i low high) ∙ length-view plan valid xs cs full i low
+    view-long : length (viewOf plan xs cs [] i) ≡ viewCountOf plan i
+    unfolding view viewCount total flatMap
+    view-long =
+        let one : List ℕ = viewOf plan xs cs [] i in
+        omega (arith, length-append one [], view-count plan valid xs cs [] [] full tabled (i ∷ []) ((low, high), tt))
 
     -- result r stands behind inputs, coins and mail
-    result-in : (rest : List ℕ) (r : ℕ) → r < ownOutCount plan i → getD (viewOf plan xs cs i ++ rest) (viewCountOf plan i - ownOutCount plan i + r) 0 ≡ getD (results plan xs cs i) r 0
+    result-in : (rest : List ℕ) (r : ℕ) → r < ownOutCount plan i → getD (viewOf plan xs cs [] i ++ rest) (viewCountOf plan i - ownOutCount plan i + r) 0 ≡ getD (results plan xs cs [] i) r 0
     unfolding viewOf
     result-in rest r l =
-        let front : List ℕ = ownInputs plan i xs ++ (ownCoins plan i cs ++ mails plan xs cs i) in
-        let e : viewOf plan xs cs i ≡ front ++ results plan xs cs i = simp append-assoc in
-        let n : length front ≡ viewCountOf plan i - ownOutCount plan i = omega (arith, view-long, ap length e, length-append front (results plan xs cs i), results-long) in
+        let front : List ℕ = ownInputs plan i xs ++ (ownCoins plan i cs ++ mails plan xs cs [] i) in
+        let e : viewOf plan xs cs [] i ≡ front ++ results plan xs cs [] i = simp append-assoc in
+        let n : length front ≡ viewCountOf plan i - ownOutCount plan i = omega (arith, view-long, ap length e, length-append front (results plan xs cs [] i), results-long) in
         ap (λ (l : List ℕ). getD (l ++ rest) (viewCountOf plan i - ownOutCount plan i + r) 0) e
-        ∙ rw (append-assoc front (results plan xs cs i) rest, ← n) (getD-append-add front (results plan xs cs i ++ rest) r 0 ∙ List·getD-append (results plan xs cs i) rest 0 r (omega (arith, results-long)))
+        ∙ rw (append-assoc front (results plan xs cs [] i) rest, ← n) (getD-append-add front (results plan xs cs [] i ++ rest) r 0 ∙ List·getD-append (results plan xs cs [] i) rest 0 r (omega (arith, results-long)))
 
   -- ---- all members
   module _ (set : ℕ) (upto : (m : ℕ) → List·Memᴰ m (members set) → m ≤ partyCount plan) where
@@ -133,28 +145,27 @@ module _ (plan : Plan) (valid : Valid plan) (xs cs : List ℕ) (full : length cs
     within = all-members (λ i. (1 ≤ i) × (i ≤ partyCount plan)) (members set) (λ m w. (member-in set m w .from, upto m w))
 
     abbrev vs : List ℕ
-    vs = view plan (members set) xs cs
+    vs = view plan (members set) xs cs []
 
-    after : ℕ → List ℕ
-    after m = flatMap (viewOf plan xs cs) (membersFrom set (suc m) (16 - m))
+    rest-of : ℕ → List ℕ
+    rest-of m = flatMap (viewOf plan xs cs []) (membersFrom set (suc m) (16 - m))
 
     -- a member's view stands behind those of the members below it
-    view-at : (m : ℕ) → 1 ≤ m → m ≤ 16 → inSet set m ≡ true → drop (partAt plan set m) vs ≡ viewOf plan xs cs m ++ after m
-    unfolding partAt view flatMap after
+    view-at : (m : ℕ) → 1 ≤ m → m ≤ 16 → inSet set m ≡ true → drop (partAt plan set m) vs ≡ viewOf plan xs cs [] m ++ rest-of m
+    unfolding partAt view flatMap rest-of
     view-at m l h e =
         let q : members set ≡ membersFrom set 1 (m - 1) ++ (m ∷ membersFrom set (suc m) (16 - m)) = members-around set m l h e in
         let front : List ℕ = membersFrom set 1 (m - 1) in
         let a : All (λ i. (1 ≤ i) × (i ≤ partyCount plan)) front =
         all-front (λ i. (1 ≤ i) × (i ≤ partyCount plan)) front (m ∷ membersFrom set (suc m) (16 - m)) (rw q at within) in
-        let n : length (flatMap (viewOf plan xs cs) front) ≡ viewCount plan front =
-        ap length (views-table plan valid xs cs full front a) ∙ length-views plan valid xs cs full front (all-map (λ i. (1 ≤ i) × (i ≤ partyCount plan)) (λ i. 1 ≤ i) front (λ i w. w .0) a) in
-        ap (λ (ms : List ℕ). drop (viewCount plan front) (flatMap (viewOf plan xs cs) ms)) q
-        ∙ ap (drop (viewCount plan front)) (flatMap-append (viewOf plan xs cs) front (m ∷ membersFrom set (suc m) (16 - m)))
-        ∙ drop-at (flatMap (viewOf plan xs cs) front) (viewOf plan xs cs m ++ flatMap (viewOf plan xs cs) (membersFrom set (suc m) (16 - m))) (viewCount plan front) n
+        let n : length (flatMap (viewOf plan xs cs []) front) ≡ viewCount plan front = view-count plan valid xs cs [] [] full tabled front a in
+        ap (λ (ms : List ℕ). drop (viewCount plan front) (flatMap (viewOf plan xs cs []) ms)) q
+        ∙ ap (drop (viewCount plan front)) (flatMap-append (viewOf plan xs cs []) front (m ∷ membersFrom set (suc m) (16 - m)))
+        ∙ drop-at (flatMap (viewOf plan xs cs []) front) (viewOf plan xs cs [] m ++ flatMap (viewOf plan xs cs []) (membersFrom set (suc m) (16 - m))) (viewCount plan front) n
 
     member-part : (m : ℕ) → 1 ≤ m → m ≤ 16 → inSet set m ≡ true → m ≤ partyCount plan → memberPart plan set vs m ≡ memberLines plan xs cs m
     unfolding memberPart
-    member-part m l h e u = ap (memberLinesIn plan m) (view-at m l h e) ∙ member-flat m l u (after m)
+    member-part m l h e u = ap (memberLinesIn plan m) (view-at m l h e) ∙ member-flat m l u (rest-of m)
 
     members-flat : flatMap (memberPart plan set vs) (members set) ≡ flatMap (memberLines plan xs cs) (members set)
     members-flat =
@@ -163,19 +174,19 @@ module _ (plan : Plan) (valid : Valid plan) (xs cs : List ℕ) (full : length cs
         (λ m w. let a : Among set 1 16 m = member-in set m w in member-part m (a .from) (omega (arith, a .below)) (a .bit) (upto m w)))
 
     -- ---- outs
-    result-at : (m r : ℕ) → 1 ≤ m → m ≤ 16 → inSet set m ≡ true → r < ownOutCount plan m → getD vs (resultsAt plan set m + r) 0 ≡ getD (results plan xs cs m) r 0
+    result-at : (m r : ℕ) → 1 ≤ m → m ≤ 16 → inSet set m ≡ true → r < ownOutCount plan m → getD vs (resultsAt plan set m + r) 0 ≡ getD (results plan xs cs [] m) r 0
     unfolding resultsAt
     result-at m r l h e k =
         let q : partAt plan set m + (viewCountOf plan m - ownOutCount plan m) + r ≡ partAt plan set m + (viewCountOf plan m - ownOutCount plan m + r) = omega arith in
         ap (λ (n : ℕ). getD vs n 0) q
         ∙ sym (getD-drop (partAt plan set m) vs (viewCountOf plan m - ownOutCount plan m + r) 0)
         ∙ ap (λ (ys : List ℕ). getD ys (viewCountOf plan m - ownOutCount plan m + r) 0) (view-at m l h e)
-        ∙ result-in m l (upto m (in-member set m l h e)) (after m) r k
+        ∙ result-in m l (upto m (in-member set m l h e)) (rest-of m) r k
 
     module _ (few : partyCount plan ≤ 16) where
       out-flat : (o : ℕ) (seen : List Output) (x : Output) (outs : List Output) → seen ++ (x ∷ outs) ≡ plan .outs
           → outLineIn plan set vs o seen x
-          ≡ cond (inSet set (x .party)) (line outWord (o ∷ x .party ∷ getD (results plan xs cs (x .party)) (length (outWiresOf (x .party) seen)) 0 ∷ [])) []
+          ≡ cond (inSet set (x .party)) (line outWord (o ∷ x .party ∷ getD (results plan xs cs [] (x .party)) (length (outWiresOf (x .party) seen)) 0 ∷ [])) []
       unfolding outLineIn outOk between ownOutCount outWires
       out-flat o seen x outs e = pick (inSet set (x .party)) refl
         where
@@ -202,7 +213,7 @@ module _ (plan : Plan) (valid : Valid plan) (xs cs : List ℕ) (full : length cs
 
           pick : (b : Bool) → inSet set (x .party) ≡ b
               → cond b (line outWord (o ∷ x .party ∷ getD vs (resultsAt plan set (x .party) + length (outWiresOf (x .party) seen)) 0 ∷ [])) []
-              ≡ cond b (line outWord (o ∷ x .party ∷ getD (results plan xs cs (x .party)) (length (outWiresOf (x .party) seen)) 0 ∷ [])) []
+              ≡ cond b (line outWord (o ∷ x .party ∷ getD (results plan xs cs [] (x .party)) (length (outWiresOf (x .party) seen)) 0 ∷ [])) []
           pick true m = ap (λ (v : ℕ). line outWord (o ∷ x .party ∷ v ∷ [])) (result-at (x .party) (length (outWiresOf (x .party) seen)) low (omega (arith, high)) m before)
           pick false m = refl
 
@@ -217,12 +228,17 @@ module _ (plan : Plan) (valid : Valid plan) (xs cs : List ℕ) (full : length cs
       run-flat = rw (members-flat, outs-flat (plan .outs) 0 [] refl)
 
     -- ---- as bytes
-    pub view-back : plan .p ≤ 65536 → allBelow (plan .p) xs ≡ true → allBelow (plan .p) cs ≡ true → numbers (bytesOf vs) ≡ vs
-    unfolding tableViewOf
-    view-back few small coins = back (plan .p) vs few (rw (views-table plan valid xs cs full (members set) within) (flatMap-below (plan .p) (tableViewOf plan xs cs) (members set) below))
+    pub view-back : plan .p ≤ limit → allBelow (plan .p) xs ≡ true → allBelow (plan .p) cs ≡ true → numbers (bytesOf vs) ≡ vs
+    unfolding tableViewOf ownInputs ownCoins
+    view-back few small coins =
+        back (plan .p) vs few (rw (views-table plan valid xs cs [] [] full tabled (members set) within) (flatMap-below (plan .p) (tableViewOf plan xs cs []) (members set) below))
       where
-        below : (i : ℕ) → allBelow (plan .p) (tableViewOf plan xs cs i) ≡ true
+        above : 0 < plan .p
+        above = pos (valid .prime)
+
+        below : (i : ℕ) → allBelow (plan .p) (tableViewOf plan xs cs [] i) ≡ true
         below i =
-            append-below (plan .p) _ _ (own-inputs-below plan valid i xs small)
-            (append-below (plan .p) _ _ (own-coins-below plan valid i cs coins)
-            (append-below (plan .p) _ _ (mails-below plan valid xs cs small i) (results-below plan valid xs small cs i)))
+            append-below (plan .p) _ _ (own-below plan above i (inputOwners plan) xs small)
+            (append-below (plan .p) _ _ (own-below plan above i (coinOwners plan) cs coins)
+            (append-below (plan .p) _ _ (flatMap-below (plan .p) (tableMail plan xs cs [] i) (steps plan) (mail-below plan above xs cs [] i))
+            (rw (results-right plan valid xs cs [] [] (no-triples plan) small i) (granted-below plan above xs small i))))

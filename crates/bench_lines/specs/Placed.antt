@@ -4,9 +4,9 @@ use mathlib.Core.Bool.{cond}
 use mathlib.Core.List.{List, [], _∷_, _++_, flatMap}
 use lib.ListN.{length, take, drop, getD}
 use Rattle.plan.specs.declared.Output.{Output}
-use Rattle.plan.specs.Plans.{Plan, multiplies, ownInputCount, ownCoinCount, ownOutCount, mailCount, outWiresOf, sentCount}
+use Rattle.plan.specs.Plans.{Plan, lastCall, ownInputCount, ownCoinCount, ownOutCount, mailCount, outWiresOf, sentCount}
 use Rattle.plan_coalition.specs.Coalitions.{inSet, membersFrom, members}
-use Rattle.run_views.specs.ViewCounts.{viewCountOf, viewCount}
+use Rattle.run_protocol.specs.Rounds.{viewCountOf, viewCount}
 use Rattle.bench_text.specs.Decimals.{line}
 use Rattle.bench_lines.specs.Report.{viewWord, roundWord, outWord, sentWord, planLine}
 
@@ -24,7 +24,7 @@ ownCount plan i = ownInputCount plan i + ownCoinCount plan i
 -- party i's lines, when its view begins the numbers vs
 unfoldable pub memberLinesIn : Plan → ℕ → List ℕ → List ℕ
 memberLinesIn plan i vs =
-    line viewWord (i ∷ take (ownCount plan i) vs) ++ roundLinesIn plan i (drop (ownCount plan i) vs) 0 (multiplies plan + 2)
+    line viewWord (i ∷ take (ownCount plan i) vs) ++ roundLinesIn plan i (drop (ownCount plan i) vs) 0 (lastCall plan)
 
 -- where party i's view begins: after those of the members below it
 unfoldable pub partAt : Plan → ℕ → ℕ → ℕ

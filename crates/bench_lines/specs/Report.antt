@@ -5,16 +5,15 @@ use mathlib.Core.List.{List, [], _∷_, _++_, flatMap}
 use lib.Dec.{eqb, ltb}
 use lib.ListN.{length, take, drop, getD}
 use Rattle.numbers.specs.Tables.{tab}
-use Rattle.numbers.specs.Bytes.{wordAt, numbers}
+use Rattle.numbers.specs.Bytes.{wordAt, width, numbers}
 use Rattle.plan.specs.declared.Output.{Output}
 use Rattle.plan.specs.declared.Checked.{Checked}
 use Rattle.plan.specs.declared.Checked.the-variants.{Passed, Refused}
 use Rattle.plan.specs.Refusals.{numberOf, placeOf}
-use Rattle.plan.specs.Plans.{Plan, partyCount, multiplies, inputCount, ownInputs, ownCoins, outWiresOf, sentCount}
+use Rattle.plan.specs.Plans.{Plan, partyCount, lastCall, inputCount, ownInputs, ownCoins, outWiresOf, sentCount}
 use Rattle.plan.specs.File.{planOf}
 use Rattle.plan_coalition.specs.Coalitions.{members, inSet}
-use Rattle.run_protocol.specs.Rounds.{mailTo, round, results}
-use Rattle.run_views.specs.ViewCounts.{viewCount}
+use Rattle.run_protocol.specs.Rounds.{mailTo, after, results, viewCount}
 use Rattle.run_bench.specs.BenchCalls.{benchAnswer}
 use Rattle.bench_text.specs.Decimals.{line}
 
@@ -45,20 +44,20 @@ planLine plan = line planWord (partyCount plan ∷ plan .t ∷ plan .p ∷ lengt
 unfoldable pub viewLine : Plan → List ℕ → List ℕ → ℕ → List ℕ
 viewLine plan xs coins i = line viewWord (i ∷ (ownInputs plan i xs ++ ownCoins plan i coins))
 
--- a round's number and a member's mail of it
+-- a round's number and a member's mail of it; a plan file has no gate that spends a triple
 unfoldable pub roundLine : Plan → List ℕ → List ℕ → ℕ → ℕ → List ℕ
-roundLine plan xs coins i k = line roundWord (k ∷ mailTo i (round plan xs coins k))
+roundLine plan xs coins i k = line roundWord (k ∷ mailTo i (after plan xs coins [] (suc k)))
 
--- a member's lines: rounds run from 0 to M + 1
+-- a member's lines: a round for each step
 unfoldable pub memberLines : Plan → List ℕ → List ℕ → ℕ → List ℕ
-memberLines plan xs coins i = viewLine plan xs coins i ++ flatMap (roundLine plan xs coins i) (tab (λ k. k) (multiplies plan + 2))
+memberLines plan xs coins i = viewLine plan xs coins i ++ flatMap (roundLine plan xs coins i) (tab (λ k. k) (lastCall plan))
 
 -- the lines of a member's outs, from out number o on; seen are the outs before it
 unfoldable pub outLinesFrom : Plan → ℕ → List ℕ → List ℕ → ℕ → List Output → List Output → List ℕ
 outLinesFrom plan set xs coins o seen [] = []
 outLinesFrom plan set xs coins o seen (x ∷ outs) =
     cond (inSet set (x .party))
-    (line outWord (o ∷ x .party ∷ getD (results plan xs coins (x .party)) (length (outWiresOf (x .party) seen)) 0 ∷ []))
+    (line outWord (o ∷ x .party ∷ getD (results plan xs coins [] (x .party)) (length (outWiresOf (x .party) seen)) 0 ∷ []))
     []
     ++ outLinesFrom plan set xs coins (suc o) (seen ++ (x ∷ [])) outs
 
@@ -86,10 +85,10 @@ listPart bs = drop (4 + wordAt bs 0) bs
 
 -- the first numbers, as many as the plan has input gates, are the figures, and the rest are coins
 unfoldable pub figuresPart : List ℕ → List ℕ
-figuresPart bs = take (2 * inputCount (planOf (planPart bs))) (listPart bs)
+figuresPart bs = take (width * inputCount (planOf (planPart bs))) (listPart bs)
 
 unfoldable pub coinsPart : List ℕ → List ℕ
-coinsPart bs = drop (2 * inputCount (planOf (planPart bs))) (listPart bs)
+coinsPart bs = drop (width * inputCount (planOf (planPart bs))) (listPart bs)
 
 -- over 32,768 bytes, too short for its plan and set, or with an odd byte after the set
 unfoldable pub unreadable : List ℕ → Bool
@@ -97,7 +96,7 @@ unreadable bs = ltb 32768 (length bs) || (ltb (length bs) (4 + wordAt bs 0) || e
 
 unfoldable pub benchOf : List ℕ → Checked
 benchOf bs =
-    benchAnswer (planPart bs) (setPart bs) (figuresPart bs) (coinsPart bs) (2 * viewCount (planOf (planPart bs)) (members (setPart bs)))
+    benchAnswer (planPart bs) (setPart bs) (figuresPart bs) (coinsPart bs) (width * viewCount (planOf (planPart bs)) (members (setPart bs)))
 
 -- what the program prints for its input
 unfoldable pub report : List ℕ → List ℕ

@@ -5,11 +5,11 @@ use plan::Refusal;
 ghost use mathlib.Core.Path.{_≡_};
 ghost use mathlib.Core.Bool.{cond};
 ghost use mathlib.Core.List.{[], _∷_, flatMap};
-ghost use Prim.Native.Nat.{_+_, _<_, _≤_};
+ghost use Prim.Native.Nat.{_<_, _≤_};
 ghost use lib.ListN.{length, take, drop};
 ghost use Rattle.numbers.specs.Bytes.{numbers};
 ghost use Rattle.plan.specs.Refusals.{numberOf, placeOf};
-ghost use Rattle.plan.specs.Plans.{multiplies, outWiresOf, sentCount};
+ghost use Rattle.plan.specs.Plans.{lastCall, outWiresOf, sentCount};
 ghost use Rattle.plan.specs.File.{planOf, outAt};
 ghost use Rattle.plan.specs.Planned.{Planned};
 ghost use Rattle.plan_coalition.specs.Coalitions.{inSet, members};
@@ -68,14 +68,15 @@ fn put_rounds(
     requires { ⌜ Planned (now plan) h ⌝ }
     requires { ⌜ at ≤ length (now text) ⌝ }
     requires { ⌜ from ≤ 500000 ⌝ }
-    ensures { λ e. ⌜ Put (roundLinesIn (planOf (now (plan .entry))) i (drop from (numbers (now (view .entry)))) 0 (multiplies (planOf (now (plan .entry))) + 2)) at (now (text .entry)) (now (text .exit)) e ⌝ }
+    ensures { λ e. ⌜ Put (roundLinesIn (planOf (now (plan .entry))) i (drop from (numbers (now (view .entry)))) 0 (lastCall (planOf (now (plan .entry))))) at (now (text .entry)) (now (text .exit)) e ⌝ }
 {
-    let rounds = plan_counts::multiply_count(plan, h) + 2;
+    let tally = plan_counts::tally_of(plan, h, i);
+    let rounds = plan_counts::last_call_by(plan, h, i, tally);
     let mut next = at;
     let mut place = from;
     let mut round: usize = 0;
     while round < rounds {
-        let count = plan_sizes::mail_count(plan, h, i, round + 1);
+        let count = plan_sizes::mail_by(plan, h, i, tally, round + 1);
         next = bench_text::put_list_line(text, next, b"round", round as u64, view, place, count);
         place += count;
         round += 1;
@@ -88,7 +89,7 @@ fn own_count(plan: &[u8], h: Header, i: usize) -> usize
     requires { ⌜ Planned (now plan) h ⌝ }
     ensures { λ r. ⌜ record { eq : r ≡ ownCount (planOf (now (plan .entry))) i; le : r ≤ 8192 } ⌝ }
 {
-    plan_counts::own_input_count(plan, h, i) + h.t * plan_counts::own_dealing_count(plan, h, i)
+    plan_counts::own_input_count(plan, h, i) + plan_counts::own_coin_count(plan, h, i)
 }
 
 // Party i's lines, when its view begins at number `from`.
@@ -165,15 +166,6 @@ fn put_members(text: &mut [u8], at: usize, plan: &[u8], h: Header, set: u16, vie
 
 // ---- outs
 
-fn one_if(t: bool) -> usize
-    ensures { λ r. ⌜ record { eq : r ≡ cond t 1 0; le : r ≤ 1 } ⌝ }
-{
-    if t {
-        return 1;
-    }
-    0
-}
-
 // How many of the outs before out o are party i's.
 fn outs_before(plan: &[u8], h: Header, i: usize, o: usize) -> usize
     requires { ⌜ Planned (now plan) h ⌝ }
@@ -184,7 +176,7 @@ fn outs_before(plan: &[u8], h: Header, i: usize, o: usize) -> usize
     let mut k: usize = 0;
     while k < o {
         let out = plan::out_at(plan, k);
-        count += one_if(i == out.party);
+        count += numbers::one_if(i == out.party);
         k += 1;
     }
     count

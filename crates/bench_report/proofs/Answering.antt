@@ -15,7 +15,7 @@ use borrow.Author.Tests.{lt-ltb, le-ltb, ltb-false, leb-true, leb-false}
 use lib.Dec.{eqb, leb, ltb}
 use lib.ListN.{length, take, drop, length-drop, drop-of-length-le}
 use lib.Seq.{take-all, length-take-le}
-use Rattle.numbers.specs.Bytes.{numbers, bytesOf, wordAt}
+use Rattle.numbers.specs.Bytes.{width, numbers, bytesOf, wordAt}
 use Rattle.numbers.proofs.Bytes.{numbers-length}
 use Rattle.plan.specs.declared.Header.{Header}
 use Rattle.plan.specs.declared.Reading.{Reading}
@@ -25,20 +25,19 @@ use Rattle.plan.specs.declared.Checked.the-variants.{Passed, Refused}
 use Rattle.plan.specs.declared.Refusal.{Refusal}
 use Rattle.plan.specs.declared.Refusal.the-variants as refusal
 use Rattle.plan.specs.Refusals.{firstOf, numberOf, placeOf}
-use Rattle.plan.specs.Plans.{Plan, partyCount, inputCount, coinCount, sentCount}
+use Rattle.plan.specs.Plans.{Plan, partyCount, kindCount, inputCount, coinCount, sentCount}
 use Rattle.plan.specs.File.{planOf, planCheck, planChecks}
 use Rattle.plan.specs.Planned.{Planned, ReadAs}
 use Rattle.plan_coalition.specs.Coalitions.{members, setFits}
 use Rattle.plan.proofs.Refusals.{andThen-passed, andThen-refused, firstOf-append}
 use Rattle.plan.proofs.Planned.{planned-read, refused-read, plan-p, plan-n}
-use Rattle.plan.proofs.Valid.{valid}
+use Rattle.plan.proofs.Valid.{valid, plain, plain-no-7}
 use Rattle.plan_coalition.proofs.Coalitions.{member-party}
 use Rattle.seat_messages.specs.Calls.{unlessRefused}
 use Rattle.run_bench.specs.declared.Benched.{Benched}
 use Rattle.run_bench.specs.declared.Benched.the-variants as benched
-use Rattle.run_protocol.specs.Rounds.{view}
+use Rattle.run_protocol.specs.Rounds.{view, viewCount}
 use Rattle.run_dealings.specs.Rows.{Given}
-use Rattle.run_views.specs.ViewCounts.{viewCount}
 use Rattle.run_bench.specs.BenchCalls.{runChecks, benchAnswer, benchedOf, viewAfter}
 use Rattle.run_bench.proofs.BenchLaws.{passed-set, passed-given}
 use Rattle.bench_text.specs.Decimals.{line}
@@ -78,7 +77,7 @@ module _ (bs : List ℕ) (h : Header) (set : ℕ) (figures coins : List ℕ) (p 
   plan = planOf bs
 
   abbrev seen : List ℕ
-  seen = view plan (members set) (numbers figures) (numbers coins)
+  seen = view plan (members set) (numbers figures) (numbers coins) []
 
   module _ (given : Given plan figures coins) (ok : setFits (h .n) (h .t) set ≡ true) where
     full : length (numbers coins) ≡ coinCount plan
@@ -89,21 +88,22 @@ module _ (bs : List ℕ) (h : Header) (set : ℕ) (figures coins : List ℕ) (p 
 
     given-lines : runLinesIn plan set (numbers (bytesOf seen)) ≡ runLines plan set (numbers figures) (numbers coins)
     given-lines =
+        let none : kindCount plan 7 ≡ 0 = plain-no-7 plan (plain bs (p .passes)) in
         ap (runLinesIn plan set)
-        (view-back plan (valid bs (p .passes)) (numbers figures) (numbers coins) full set upto (rw (plan-p p) (omega (arith, p .p-high))) (given .inputs-below) (given .coins-below))
-        ∙ run-flat plan (valid bs (p .passes)) (numbers figures) (numbers coins) full set upto (rw (plan-n p) (omega (arith, p .n-high)))
+        (view-back plan (valid bs (p .passes)) none (numbers figures) (numbers coins) full set upto (rw (plan-p p) (omega (arith, p .p-high))) (given .inputs-below) (given .coins-below))
+        ∙ run-flat plan (valid bs (p .passes)) none (numbers figures) (numbers coins) full set upto (rw (plan-n p) (omega (arith, p .n-high)))
 
   lines-passed : (room : ℕ) → benchAnswer bs set figures coins room ≡ Passed → runLinesIn plan set (numbers (bytesOf seen)) ≡ runLines plan set (numbers figures) (numbers coins)
   lines-passed room e =
       let c : firstOf (runChecks plan set figures coins room) ≡ Passed = sym (past-plan bs h set figures coins room p) ∙ e in
       given-lines (passed-given bs set figures coins room _ refl c) (passed-set bs set figures coins room _ refl c h p)
 
-  module _ (old : List ℕ) (room : length old ≡ 2 * viewCount plan (members set)) (b : Benched)
+  module _ (old : List ℕ) (room : length old ≡ width * viewCount plan (members set)) (b : Benched)
       (eb : b ≡ benchedOf (benchAnswer bs set figures coins (length old)) (sentCount plan)) where
     pub bench-refused-lines : (r : Refusal) (at e : ℕ) (t u : List ℕ) → b ≡ benched.Refused r → Put (line refusedWord (numberOf r ∷ placeOf r ∷ [])) at t u e → Put (answered bs set figures coins) at t u e
     unfolding answered
     bench-refused-lines r at e t u f w =
-        let c : benchAnswer bs set figures coins (2 * viewCount plan (members set)) ≡ Refused r =
+        let c : benchAnswer bs set figures coins (width * viewCount plan (members set)) ≡ Refused r =
         ap (benchAnswer bs set figures coins) (sym room) ∙ answer-refused _ (sentCount plan) r (sym f ∙ eb) in
         put-as _ _ at e t u (refused-lines _ r plan set (numbers figures) (numbers coins) c) w
 
@@ -112,7 +112,7 @@ module _ (bs : List ℕ) (h : Header) (set : ℕ) (figures coins : List ℕ) (p 
     bench-run-lines k at e t u new f en w =
         let c : benchAnswer bs set figures coins (length old) ≡ Passed = answer-sent _ (sentCount plan) k (sym f ∙ eb) in
         let q : new ≡ bytesOf seen = en ∙ rw c in
-        let d : benchAnswer bs set figures coins (2 * viewCount plan (members set)) ≡ Passed = ap (benchAnswer bs set figures coins) (sym room) ∙ c in
+        let d : benchAnswer bs set figures coins (width * viewCount plan (members set)) ≡ Passed = ap (benchAnswer bs set figures coins) (sym room) ∙ c in
         put-as _ _ at e t u (ap (λ (l : List ℕ). runLinesIn plan set (numbers l)) q ∙ lines-passed (length old) c ∙ passed-lines _ plan set (numbers figures) (numbers coins) d) w
 
 pub ruleset benching-lines = (needs, bench-refused-lines, bench-run-lines)
@@ -144,7 +144,7 @@ view-sized k n v e h l = length-take-le (2 * k) v (omega arith) ∙ ap (λ (x : 
 
 pub split-lines : (bs : List ℕ) (set : ℕ) (list : List ℕ) (k m at e : ℕ) (t u : List ℕ) → k ≡ inputCount (planOf bs) → m ≡ min (2 * k) (length list)
     → Put (answered bs set (take m list) (take (length list - m) (drop m list))) at t u e
-    → Put (answered bs set (take (2 * inputCount (planOf bs)) list) (drop (2 * inputCount (planOf bs)) list)) at t u e
+    → Put (answered bs set (take (width * inputCount (planOf bs)) list) (drop (width * inputCount (planOf bs)) list)) at t u e
 split-lines bs set list k m at e t u ek em w =
     rw (← ek, ← take-least (2 * k) list (leb (2 * k) (length list)) refl, ← drop-least (2 * k) list (leb (2 * k) (length list)) refl, ← em, ← rest-all m list) w
 
@@ -156,8 +156,8 @@ pub plan-refused-lines :
     → Put (line refusedWord (numberOf r ∷ placeOf r ∷ [])) at t u e → Put (answered bs set figures coins) at t u e
 unfolding answered benchAnswer planCheck
 plan-refused-lines bs set figures coins x r at e t u a f w =
-    let checks : List Checked = runChecks (planOf bs) set figures coins (2 * viewCount (planOf bs) (members set)) in
-    let c : benchAnswer bs set figures coins (2 * viewCount (planOf bs) (members set)) ≡ Refused r =
+    let checks : List Checked = runChecks (planOf bs) set figures coins (width * viewCount (planOf bs) (members set)) in
+    let c : benchAnswer bs set figures coins (width * viewCount (planOf bs) (members set)) ≡ Refused r =
     firstOf-append (planChecks bs) checks ∙ andThen-refused (planCheck bs) _ r (refused-read bs x r a f) in
     put-as _ _ at e t u (refused-lines _ r (planOf bs) set (numbers figures) (numbers coins) c) w
 
@@ -202,8 +202,8 @@ module _ (bs : List ℕ) (b : Bool) (eb : b ≡ unreadable bs) (f : b ≡ false)
   plan-end = omega (arith, parts-long)
 
   parts-report : (set : ℕ) → set ≡ wordAt bs (2 + w)
-      → answered (take (2 + w - 2) (drop 2 bs)) set (take (2 * inputCount (planOf (take (2 + w - 2) (drop 2 bs)))) (take (length bs - (2 + w + 2)) (drop (2 + w + 2) bs)))
-      (drop (2 * inputCount (planOf (take (2 + w - 2) (drop 2 bs)))) (take (length bs - (2 + w + 2)) (drop (2 + w + 2) bs)))
+      → answered (take (2 + w - 2) (drop 2 bs)) set (take (width * inputCount (planOf (take (2 + w - 2) (drop 2 bs)))) (take (length bs - (2 + w + 2)) (drop (2 + w + 2) bs)))
+      (drop (width * inputCount (planOf (take (2 + w - 2) (drop 2 bs)))) (take (length bs - (2 + w + 2)) (drop (2 + w + 2) bs)))
       ≡ report bs
   unfolding planPart setPart figuresPart coinsPart listPart
   parts-report set es =
@@ -227,8 +227,8 @@ module _ (bs : List ℕ) (b : Bool) (eb : b ≡ unreadable bs) (r : ℕ) (old ne
   unread f h = reported _ (report bs) r old new h (magic-report bs b eb f)
 
   pub parsed : b ≡ false → (w : ℕ) → w ≡ wordAt bs 0 → (set : ℕ) → set ≡ wordAt bs (2 + w)
-      → Put (answered (take (2 + w - 2) (drop 2 bs)) set (take (2 * inputCount (planOf (take (2 + w - 2) (drop 2 bs)))) (take (length bs - (2 + w + 2)) (drop (2 + w + 2) bs)))
-      (drop (2 * inputCount (planOf (take (2 + w - 2) (drop 2 bs)))) (take (length bs - (2 + w + 2)) (drop (2 + w + 2) bs)))) 0 old new r
+      → Put (answered (take (2 + w - 2) (drop 2 bs)) set (take (width * inputCount (planOf (take (2 + w - 2) (drop 2 bs)))) (take (length bs - (2 + w + 2)) (drop (2 + w + 2) bs)))
+      (drop (width * inputCount (planOf (take (2 + w - 2) (drop 2 bs)))) (take (length bs - (2 + w + 2)) (drop (2 + w + 2) bs)))) 0 old new r
       → Reported (report bs) old new r
   parsed f w ew set es h = reported _ (report bs) r old new h (parts-report bs b eb f w ew set es)
 

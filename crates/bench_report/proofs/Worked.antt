@@ -2,20 +2,19 @@
 use mathlib.Core.Path.{_≡_, refl}
 use mathlib.Core.List.{List, [], _∷_, flatMap}
 use Prim.Native.Nat.{ℕ}
-use Rattle.numbers.specs.Tables.{tab, firstFrom, firstFailing, countWhere}
-use Rattle.numbers.specs.Bytes.{wordAt, numbers, bytesOf, holdsCount, firstOver, allBelow}
+use Rattle.numbers.specs.Tables.{tab, firstFrom, firstFailing, countWhere, total}
+use Rattle.numbers.specs.Bytes.{numberAt, bytesFrom, wordAt, numbers, bytesOf, holdsCount, firstOver, allBelow}
 use Rattle.field.specs.Mod.{add, mul, sub}
 use Rattle.field.specs.Prime.{isPrime, divisorFrom, divisorOf, inv, invert}
 use Rattle.sharing_laws.specs.Poly.{eval}
 use Rattle.sharing_laws.specs.Interp.{factor, weight, weights, dot, interpolate}
 use Rattle.sharing_laws.specs.Sharing.{opened}
 use Rattle.plan.specs.Refusals.{numberOf, placeOf, andThen, firstOf, need, unlessFound}
-use Rattle.plan.specs.Plans.{partyCount, parties, pointOf, dealerCount, dealerPoints, isInput, isInputOf, isMultiply, dealersOf, deals, dealings, wiresFrom, wiresWhere, multiplies, multiplyWire, inputWires, outWiresOf, outWires, inputCount, ownInputCount, coinCount, dealingsBelow, ownCoinCount, ownOutCount, ownInputsOf, ownInputs, ownBlocks, ownCoins, coinsAt, sentCount}
+use Rattle.plan.specs.Plans.{partyCount, parties, dealerCount, dealerPoints, kindOf, isKind, kindCount, operandsOf, isInputOf, wiresFrom, inputWires, outWiresOf, outWires, inputOwnersAt, firstDealings, multiplyDealings, dealingsAt, coinOwnersAt, inputOwners, coinOwners, ownOf, ownInputs, ownCoins, inputAt, coinsAt, tripleNumbers, ownTriples, multiplySteps, stepsAt, stepsFrom, steps, stepAt, lastCall, inputCount, ownInputCount, coinCount, ownCoinCount, ownOutCount, received, perMultiply, sentCount}
 use Rattle.plan.specs.File.{magic, sameBytes, between, gateOf, gateAt, outAt, gateOk, outOk, gateKept, outKept, layoutOk, planChecks, planCheck, planOf}
 use Rattle.plan_coalition.specs.Coalitions.{inSet, membersFrom, members, setOk}
-use Rattle.seat_messages.specs.Messages.{setAll, wiresByParty, reduced, workGate, workFrom, learn, dealTo, nothing, inputPolys, sendInputs, productAt, sendProduct, sendOuts, send, sharesOfOut, resultsOf, callWith, call}
-use Rattle.run_protocol.specs.Rounds.{fresh, noCall, callOf, mailTo, round, results}
-use Rattle.run_views.specs.ViewCounts.{viewCountOf, viewCount}
+use Rattle.seat_messages.specs.Messages.{setAll, fromEach, wiresByParty, openedAt, learnt, resumeAt, workGate, workFrom, learnFrom, spendFrom, learn, spend, dealTo, nothing, productAt, sendAt, callWith, call}
+use Rattle.run_protocol.specs.Rounds.{fresh, noCall, callOf, mailTo, nextCall, nextRound, after, atEnd, results, viewCountOf, viewCount}
 use Rattle.run_bench.specs.BenchCalls.{runChecks, benchAnswer}
 use Rattle.bench_text.specs.Decimals.{digits, decimal, field, line}
 use Rattle.bench_lines.specs.Report.{planWord, viewWord, roundWord, outWord, sentWord, refusedWord, planLine, viewLine, roundLine, memberLines, outLinesFrom, runLines, answerLines, planPart, setPart, listPart, figuresPart, coinsPart, unreadable, benchOf, report}
@@ -27,5 +26,5 @@ textK : List ℕ
 textK = 112 ∷ 108 ∷ 97 ∷ 110 ∷ 32 ∷ 51 ∷ 32 ∷ 49 ∷ 32 ∷ 49 ∷ 49 ∷ 32 ∷ 52 ∷ 32 ∷ 49 ∷ 10 ∷ 118 ∷ 105 ∷ 101 ∷ 119 ∷ 32 ∷ 51 ∷ 32 ∷ 55 ∷ 10 ∷ 114 ∷ 111 ∷ 117 ∷ 110 ∷ 100 ∷ 32 ∷ 48 ∷ 32 ∷ 49 ∷ 48 ∷ 32 ∷ 51 ∷ 10 ∷ 114 ∷ 111 ∷ 117 ∷ 110 ∷ 100 ∷ 32 ∷ 49 ∷ 32 ∷ 55 ∷ 32 ∷ 52 ∷ 32 ∷ 55 ∷ 10 ∷ 114 ∷ 111 ∷ 117 ∷ 110 ∷ 100 ∷ 32 ∷ 50 ∷ 32 ∷ 49 ∷ 48 ∷ 32 ∷ 55 ∷ 32 ∷ 52 ∷ 10 ∷ 111 ∷ 117 ∷ 116 ∷ 32 ∷ 48 ∷ 32 ∷ 51 ∷ 32 ∷ 50 ∷ 10 ∷ 115 ∷ 101 ∷ 110 ∷ 116 ∷ 32 ∷ 49 ∷ 56 ∷ 10 ∷ []
 
 report-K : report inputK ≡ textK
-unfolding inputK textK tab firstFrom firstFailing countWhere wordAt numbers bytesOf holdsCount firstOver allBelow add mul sub isPrime divisorFrom divisorOf inv invert eval factor weight weights dot interpolate opened numberOf placeOf andThen firstOf need unlessFound partyCount parties pointOf dealerCount dealerPoints isInput isInputOf isMultiply dealersOf deals dealings wiresFrom wiresWhere multiplies multiplyWire inputWires outWiresOf outWires inputCount ownInputCount coinCount dealingsBelow ownCoinCount ownOutCount ownInputsOf ownInputs ownBlocks ownCoins coinsAt sentCount magic sameBytes between gateOf gateAt outAt gateOk outOk gateKept outKept layoutOk planChecks planCheck planOf inSet membersFrom members setOk setAll wiresByParty reduced workGate workFrom learn dealTo nothing inputPolys sendInputs productAt sendProduct sendOuts send sharesOfOut resultsOf callWith call fresh noCall callOf mailTo round results viewCountOf viewCount runChecks benchAnswer digits decimal field line planWord viewWord roundWord outWord sentWord refusedWord planLine viewLine roundLine memberLines outLinesFrom runLines answerLines planPart setPart listPart figuresPart coinsPart unreadable benchOf report flatMap
+unfolding inputK textK tab firstFrom firstFailing countWhere numberAt bytesFrom wordAt numbers bytesOf holdsCount firstOver allBelow add mul sub isPrime divisorFrom divisorOf inv invert eval factor weight weights dot interpolate opened numberOf placeOf andThen firstOf need unlessFound partyCount parties dealerCount dealerPoints kindOf isKind kindCount operandsOf isInputOf wiresFrom inputWires outWiresOf outWires inputOwnersAt firstDealings multiplyDealings dealingsAt coinOwnersAt inputOwners coinOwners ownOf ownInputs ownCoins inputAt coinsAt tripleNumbers ownTriples multiplySteps stepsAt stepsFrom steps stepAt lastCall inputCount ownInputCount coinCount ownCoinCount ownOutCount received perMultiply sentCount magic sameBytes between gateOf gateAt outAt gateOk outOk gateKept outKept layoutOk planChecks planCheck planOf inSet membersFrom members setOk setAll fromEach wiresByParty openedAt learnt resumeAt workGate workFrom learnFrom spendFrom learn spend dealTo nothing productAt sendAt callWith call fresh noCall callOf mailTo nextCall nextRound after atEnd results total viewCountOf viewCount runChecks benchAnswer digits decimal field line planWord viewWord roundWord outWord sentWord refusedWord planLine viewLine roundLine memberLines outLinesFrom runLines answerLines planPart setPart listPart figuresPart coinsPart unreadable benchOf report flatMap
 report-K = refl

@@ -6,11 +6,12 @@ use run_bench::Benched;
 ghost use mathlib.Core.Path.{_≡_};
 ghost use Prim.Native.Nat.{_*_, _≤_, min};
 ghost use lib.ListN.{length, take, drop};
+ghost use Rattle.numbers.specs.Bytes.{width};
 ghost use Rattle.plan.specs.Plans.{inputCount};
 ghost use Rattle.plan.specs.File.{planOf};
 ghost use Rattle.plan.specs.Planned.{Planned};
 ghost use Rattle.plan_coalition.specs.Coalitions.{members};
-ghost use Rattle.run_views.specs.ViewCounts.{viewCount};
+ghost use Rattle.run_protocol.specs.Rounds.{viewCount};
 ghost use Rattle.bench_lines.specs.Report.{unreadable, report};
 ghost use Rattle.bench_text.specs.Texts.{Put, Reported};
 ghost use Rattle.bench_report.specs.Answers.{answered};
@@ -26,7 +27,7 @@ fn put_benched(
     view: &mut [u8],
 ) -> usize
     requires { ⌜ Planned (now plan) h ⌝ }
-    requires { ⌜ length (now view) ≡ 2 * viewCount (planOf (now plan)) (members set) ⌝ }
+    requires { ⌜ length (now view) ≡ width * viewCount (planOf (now plan)) (members set) ⌝ }
     ensures { λ e. ⌜ Put (answered (now (plan .entry)) set (now (figures .entry)) (now (coins .entry))) 0 (now (text .entry)) (now (text .exit)) e ⌝ }
 {
     match run_bench::bench(plan, set, figures, coins, view) {
@@ -55,7 +56,7 @@ fn put_listed(
 ) -> usize
     requires { ⌜ Planned (now plan) h ⌝ }
     requires { ⌜ 819200 ≤ length (now view) ⌝ }
-    ensures { λ e. ⌜ Put (answered (now (plan .entry)) set (take (2 * inputCount (planOf (now (plan .entry)))) (now (list .entry))) (drop (2 * inputCount (planOf (now (plan .entry)))) (now (list .entry)))) 0 (now (text .entry)) (now (text .exit)) e ⌝ }
+    ensures { λ e. ⌜ Put (answered (now (plan .entry)) set (take (width * inputCount (planOf (now (plan .entry)))) (now (list .entry))) (drop (width * inputCount (planOf (now (plan .entry)))) (now (list .entry)))) 0 (now (text .entry)) (now (text .exit)) e ⌝ }
 {
     let size = 2 * run_bench::checking::view_count(plan, h, set);
     let m = least(2 * plan_counts::input_count(plan, h), list.len());
@@ -80,14 +81,14 @@ fn put_in(
     view: &mut [u8; 819200],
 ) -> usize
     requires { ⌜ Planned (now plan) h ⌝ }
-    ensures { λ e. ⌜ Put (answered (now (plan .entry)) set (take (2 * inputCount (planOf (now (plan .entry)))) (now (list .entry))) (drop (2 * inputCount (planOf (now (plan .entry)))) (now (list .entry)))) 0 (now (text .entry)) (now (text .exit)) e ⌝ }
+    ensures { λ e. ⌜ Put (answered (now (plan .entry)) set (take (width * inputCount (planOf (now (plan .entry)))) (now (list .entry))) (drop (width * inputCount (planOf (now (plan .entry)))) (now (list .entry)))) 0 (now (text .entry)) (now (text .exit)) e ⌝ }
 {
     put_listed(text, plan, h, set, list, view)
 }
 
 fn put_planned(text: &mut [u8], plan: &[u8], h: Header, set: u16, list: &[u8]) -> usize
     requires { ⌜ Planned (now plan) h ⌝ }
-    ensures { λ e. ⌜ Put (answered (now (plan .entry)) set (take (2 * inputCount (planOf (now (plan .entry)))) (now (list .entry))) (drop (2 * inputCount (planOf (now (plan .entry)))) (now (list .entry)))) 0 (now (text .entry)) (now (text .exit)) e ⌝ }
+    ensures { λ e. ⌜ Put (answered (now (plan .entry)) set (take (width * inputCount (planOf (now (plan .entry)))) (now (list .entry))) (drop (width * inputCount (planOf (now (plan .entry)))) (now (list .entry)))) 0 (now (text .entry)) (now (text .exit)) e ⌝ }
 {
     let mut view = [0u8; 819200];
     put_in(text, plan, h, set, list, &mut view)
@@ -95,7 +96,7 @@ fn put_planned(text: &mut [u8], plan: &[u8], h: Header, set: u16, list: &[u8]) -
 
 // The text of a bench run.
 fn put_answer(text: &mut [u8], plan: &[u8], set: u16, list: &[u8]) -> usize
-    ensures { λ e. ⌜ Put (answered (now (plan .entry)) set (take (2 * inputCount (planOf (now (plan .entry)))) (now (list .entry))) (drop (2 * inputCount (planOf (now (plan .entry)))) (now (list .entry)))) 0 (now (text .entry)) (now (text .exit)) e ⌝ }
+    ensures { λ e. ⌜ Put (answered (now (plan .entry)) set (take (width * inputCount (planOf (now (plan .entry)))) (now (list .entry))) (drop (width * inputCount (planOf (now (plan .entry)))) (now (list .entry)))) 0 (now (text .entry)) (now (text .exit)) e ⌝ }
 {
     match plan_reading::read(plan) {
         Reading::Passed(h) => put_planned(text, plan, h, set, list),

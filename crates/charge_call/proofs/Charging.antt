@@ -6,7 +6,7 @@ use mathlib.Core.Path.{_≡_, refl, sym, ap, ap₂, _∙_}
 use mathlib.Core.Bool.{Bool, true, false, cond}
 use mathlib.Core.List.{List, [], _∷_}
 use Prim.Native.Nat.{ℕ, suc, _+_, _*_, _/_, _<_, _≤_}
-use native.Mathlib.Nat.{mul-le-mul, mul-add, mul-zero, zero-mul, suc-mul, mul-comm}
+use native.Mathlib.Nat.{mul-le-mul, mul-add, mul-zero, mul-comm}
 use native.Mathlib.Numerals.{add-one}
 use native.Mathlib.Omega.{arith}
 use borrow.Author.Needs.{needs}
@@ -16,69 +16,42 @@ use lib.ListN.{length, take, set, length-set}
 use lib.Seq.{length-take-le, take-all}
 use mir.Syntax.{w64}
 use mir.Val.{Fits}
-use Rattle.numbers.specs.Tables.{tab, countWhere}
+use Rattle.numbers.specs.Tables.{tab, total}
 use Rattle.numbers.proofs.Fills.{fill-none, fill-next}
 use Rattle.plan.specs.declared.Header.{Header}
 use Rattle.plan.specs.declared.Reading.{Reading}
 use Rattle.plan.specs.declared.Reading.the-variants as reading
-use Rattle.plan.specs.declared.Gate.{Gate}
-use Rattle.plan.specs.declared.Gate.the-variants.{Input, Add, Scale, Offset, Multiply}
 use Rattle.plan.specs.declared.Refusal.{Refusal}
 use Rattle.plan.specs.declared.Refusal.the-variants as refusal
 use Rattle.plan.specs.declared.Checked.{Checked}
 use Rattle.plan.specs.declared.Checked.the-variants.{Passed, Refused}
 use Rattle.plan.specs.Refusals.{andThen, firstOf, need}
-use Rattle.plan.specs.Plans.{Plan, partyCount, dealerCount, isInputOf, isMultiply, deals, multiplies, inputCount, ownInputCount, dealingsBelow, sentCount}
+use Rattle.plan.specs.Plans.{Plan, partyCount, dealerCount, kindCount, perMultiply, sentCount}
 use Rattle.plan.specs.File.{planChecks, planCheck, planOf, outcomeOf}
 use Rattle.plan.specs.Planned.{Planned, ReadAs}
 use Rattle.plan.proofs.Refusals.{firstOf-append, andThen-passed, andThen-refused}
-use Rattle.plan.proofs.Planned.{planned-read, refused-read, plan-n, plan-gates, plan-outs}
-use Rattle.plan.proofs.Valid.{valid}
+use Rattle.plan.proofs.Planned.{planned-read, refused-read, plan-n, plan-dealers, plan-outs}
+use Rattle.plan.proofs.Valid.{valid, plain}
+use Rattle.plan_counts.specs.declared.Tally.{Tally}
+use Rattle.plan_counts.specs.Counts.{Tallied}
 use Rattle.seat_messages.specs.Calls.{unlessRefused}
-use Rattle.charge_laws.specs.Charges.{total, elementsBy, elements, billFor, billOf, chargeOf, partsOf, partBytes}
-use Rattle.charge_laws.proofs.Elements.{elements-tab, elements-long, elements-by, elements-sent}
+use Rattle.charge_laws.specs.Charges.{elementsBy, elements, billFor, billOf, chargeOf, partsOf, partBytes}
+use Rattle.charge_laws.proofs.Elements.{elements-tab, elements-long, plain-elements, elements-sent}
 use Rattle.charge_laws.proofs.Parts.{bill-fits, parts-long}
 use Rattle.charge_call.specs.declared.Charged.{Charged}
 use Rattle.charge_call.specs.declared.Charged.the-variants as charged
 use Rattle.charge_call.specs.ChargeCalls.{priceChecks, chargeAnswer, chargedOf, chargeAfter}
 
--- ---- a party deals at its inputs, and at each multiply gate if it is a dealer
-module _ (plan : Plan) (i : ℕ) where
-  dealings-of : (b : Bool) → leb i (dealerCount plan) ≡ b → (gs : List Gate)
-      → countWhere (deals plan i) gs ≡ countWhere (isInputOf i) gs + countWhere isMultiply gs * cond b 1 0
-  unfolding countWhere deals isInputOf isMultiply
-  dealings-of b e [] = omega (arith, zero-mul (cond b 1 0))
-  dealings-of b e (Input s ∷ gs) = by (eqb i s) (dealings-of b e gs)
-    where
-      by : (t : Bool) → countWhere (deals plan i) gs ≡ countWhere (isInputOf i) gs + countWhere isMultiply gs * cond b 1 0
-          → cond t (suc (countWhere (deals plan i) gs)) (countWhere (deals plan i) gs)
-          ≡ cond t (suc (countWhere (isInputOf i) gs)) (countWhere (isInputOf i) gs) + countWhere isMultiply gs * cond b 1 0
-      by true h = omega (arith, h)
-      by false h = h
-  dealings-of b e (Add x y ∷ gs) = dealings-of b e gs
-  dealings-of b e (Scale x y ∷ gs) = dealings-of b e gs
-  dealings-of b e (Offset x y ∷ gs) = dealings-of b e gs
-  dealings-of b e (Multiply x y ∷ gs) = rw (e, suc-mul) (by b (dealings-of b e gs))
-    where
-      by : (t : Bool) → countWhere (deals plan i) gs ≡ countWhere (isInputOf i) gs + countWhere isMultiply gs * cond t 1 0
-          → cond t (suc (countWhere (deals plan i) gs)) (countWhere (deals plan i) gs)
-          ≡ countWhere (isInputOf i) gs + (countWhere isMultiply gs * cond t 1 0 + cond t 1 0)
-      by true h = omega (arith, h)
-      by false h = omega (arith, h)
+-- ---- what a party sends
+scaled : (n m : ℕ) (b : Bool) → n * cond b m 0 ≡ m * cond b n 0
+scaled n m true = mul-comm n m
+scaled n m false = omega (arith, mul-zero n, mul-zero m)
 
-  scaled : (n m : ℕ) (b : Bool) → n * (m * cond b 1 0) ≡ m * cond b n 0
-  scaled n m true = omega (arith, mul-comm n m)
-  scaled n m false = omega (arith, mul-zero n, mul-zero m)
+pub dealt-some : (m i d : ℕ) → i ≤ d → m ≡ cond (leb i d) m 0
+dealt-some m i d l = rw (le-leb i d l)
 
-  by-dealings : elementsBy plan i ≡ partyCount plan * countWhere (deals plan i) (plan .gates) + length (plan .outs)
-  unfolding ownInputCount multiplies
-  by-dealings =
-      let b : Bool = leb i (dealerCount plan) in
-      let n : ℕ = partyCount plan in
-      let own : ℕ = countWhere (isInputOf i) (plan .gates) in
-      let m : ℕ = countWhere isMultiply (plan .gates) in
-      let e : n * (own + m * cond b 1 0) ≡ n * own + m * cond b n 0 = mul-add n own (m * cond b 1 0) ∙ ap (λ (z : ℕ). n * own + z) (scaled n m b) in
-      elements-by plan i ∙ omega (arith, e, ap (λ (z : ℕ). n * z) (dealings-of b refl (plan .gates)))
+pub dealt-none : (m i d : ℕ) → d < i → 0 ≡ cond (leb i d) m 0
+dealt-none m i d l = rw (lt-leb i d l)
 
 -- the first i of n numbers stand
 pub record Listed (bs : List ℕ) (n : ℕ) (d : List ℕ) (i : ℕ) : Type 0 where
@@ -87,20 +60,26 @@ pub record Listed (bs : List ℕ) (n : ℕ) (d : List ℕ) (i : ℕ) : Type 0 wh
   pub front : take i d ≡ tab (λ k. elementsBy (planOf bs) (suc k)) i
 
 module _ (bs : List ℕ) (h : Header) (p : Planned bs h) where
-  few : (d : ℕ) → d ≤ 1024 → h .n * d ≤ 15360
-  few d l = omega (arith, mul-le-mul {n₁ = h .n} {m₁ = d} {n₂ = 15} {m₂ = 1024} (p .n-high) l)
+  -- a party deals at its inputs, and at each multiply gate if it is a dealer
+  module _ (i : ℕ) (c : Tally) (e : Tallied (planOf bs) i c) where
+    few : (d : ℕ) → d ≤ c .multiplies → h .n * (c .own + d) ≤ 30720
+    few d l = omega (arith, mul-le-mul {n₁ = h .n} {m₁ = c .own + d} {n₂ = 15} {m₂ = 2048} (p .n-high) (omega (arith, e .few, e .own-few)))
 
-  pub dealt-fits : (d : ℕ) → d ≤ 1024 → Fits w64 (h .n * d)
-  dealt-fits d l = record { fits = omega (arith, few d l) }
+    pub dealings-fit : (d : ℕ) → d ≤ c .multiplies → Fits w64 (c .own + d)
+    dealings-fit d l = record { fits = omega (arith, e .few, e .own-few) }
 
-  pub element-fits : (d : ℕ) → d ≤ 1024 → Fits w64 (h .n * d + h .outs)
-  element-fits d l = record { fits = omega (arith, few d l, p .outs-high) }
+    pub dealt-fits : (d : ℕ) → d ≤ c .multiplies → Fits w64 (h .n * (c .own + d))
+    dealt-fits d l = record { fits = omega (arith, few d l) }
 
-  pub element-is : (i d : ℕ) → d ≡ dealingsBelow (planOf bs) i (h .gates) → h .n * d + h .outs ≡ elementsBy (planOf bs) i
-  unfolding dealingsBelow
-  element-is i d e =
-      let all : d ≡ countWhere (deals (planOf bs) i) (planOf bs .gates) = e ∙ ap (countWhere (deals (planOf bs) i)) (take-all (h .gates) (planOf bs .gates) (omega (arith, plan-gates p))) in
-      sym (by-dealings (planOf bs) i ∙ rw (plan-n p, plan-outs p, all))
+    pub element-fits : (d : ℕ) → d ≤ c .multiplies → Fits w64 (h .n * (c .own + d) + h .outs)
+    element-fits d l = record { fits = omega (arith, few d l, p .outs-high) }
+
+    pub element-is : (d : ℕ) → d ≡ cond (leb i (h .t + h .t + 1)) (c .multiplies) 0 → h .n * (c .own + d) + h .outs ≡ elementsBy (planOf bs) i
+    element-is d q =
+        sym
+        (plain-elements (planOf bs) (plain bs (p .passes)) i
+        ∙ rw (plan-n p, plan-outs p, plan-dealers p, ← e .own, ← e .multiplies, q)
+        (omega (arith, mul-add (h .n) (c .own) (cond (leb i (h .t + h .t + 1)) (c .multiplies) 0), scaled (h .n) (c .multiplies) (leb i (h .t + h .t + 1)))))
 
   -- ---- the list of elements
   pub element-next : (i x : ℕ) → x ≡ elementsBy (planOf bs) (i + 1) → x ≡ elementsBy (planOf bs) (suc i)
@@ -126,9 +105,13 @@ module _ (bs : List ℕ) (h : Header) (p : Planned bs h) where
         sym (take-all i d l) ∙ f .front ∙ ap (tab (λ k. elementsBy (planOf bs) (suc k))) e ∙ sym (elements-tab (planOf bs))
 
   -- ---- the whole
+  dealers-few : dealerCount (planOf bs) ≤ partyCount (planOf bs)
+  unfolding dealerCount
+  dealers-few = omega (arith, plain bs (p .passes) .majority)
+
   module _ (es : List ℕ) (ee : es ≡ elements (planOf bs)) (sent : ℕ) (is : sent ≡ sentCount (planOf bs)) where
     pub sent-sum : sent ≡ total es
-    sent-sum = is ∙ sym (ap total ee ∙ elements-sent (planOf bs) (valid bs (p .passes)))
+    sent-sum = is ∙ sym (ap total ee ∙ elements-sent (planOf bs) (valid bs (p .passes)) dealers-few)
 
     pub parts-room : (parts : List ℕ) → length parts ≡ h .n → length parts ≡ length es
     parts-room parts e = e ∙ sym (ap length ee ∙ elements-long (planOf bs) ∙ plan-n p)
@@ -136,9 +119,12 @@ module _ (bs : List ℕ) (h : Header) (p : Planned bs h) where
   pub sent-some : (sent : ℕ) → sent ≡ sentCount (planOf bs) → 1 ≤ sent
   unfolding sentCount
   sent-some sent e =
-      let k : ℕ = inputCount (planOf bs) + multiplies (planOf bs) * dealerCount (planOf bs) + length (planOf bs .outs) in
+      let n : ℕ = partyCount (planOf bs) in
+      let k : ℕ =
+      kindCount (planOf bs) 1 + kindCount (planOf bs) 5 * perMultiply (planOf bs) (planOf bs .rule) + kindCount (planOf bs) 6 * n
+      + kindCount (planOf bs) 7 * (2 * n) + length (planOf bs .outs) in
       let l : 1 ≤ k = omega (arith, plan-outs p, p .outs-low) in
-      rw e (omega (arith, mul-le-mul {n₁ = 1} {m₁ = 1} {n₂ = partyCount (planOf bs)} {m₂ = k} (omega (arith, plan-n p, p .n-low)) l))
+      rw e (omega (arith, mul-le-mul {n₁ = 1} {m₁ = 1} {n₂ = n} {m₂ = k} (omega (arith, plan-n p, p .n-low)) l))
 
   module _ (price bill sent : ℕ) (is : sent ≡ sentCount (planOf bs)) (eb : bill ≡ billFor sent price) where
     pub bill-is : bill ≡ billOf (planOf bs) price
@@ -181,7 +167,7 @@ module _ (sent price : ℕ) (s : sent ≤ 231360) (q : price ≤ 1000000) where
   unfolding billFor
   cents-below = bill-fits sent price s q
 
-pub ruleset listing = (needs, dealt-fits, element-fits, element-is, listed-none, listed-next, listed-long, listed, sent-sum, parts-room, sent-some, bill-is, bytes-room, bytes-are, room-part, cents-fit, cents-up-fit, cents-are, cents-below)
+pub ruleset listing = (needs, dealt-some, dealt-none, dealings-fit, dealt-fits, element-fits, element-is, listed-none, listed-next, listed-long, listed, sent-sum, parts-room, sent-some, bill-is, bytes-room, bytes-are, room-part, cents-fit, cents-up-fit, cents-are, cents-below)
 
 -- ---- the call
 pub charged-passed : (c : Checked) (bill : ℕ) → c ≡ Passed → charged.Bill bill ≡ chargedOf c bill

@@ -4,7 +4,9 @@ use plan::Header;
 use plan::Reading;
 use plan::Refusal;
 ghost use mathlib.Core.Path.{_≡_};
+ghost use mathlib.Core.Bool.{cond};
 ghost use Prim.Native.Nat.{_*_, _<_, _≤_};
+ghost use lib.Dec.{leb};
 ghost use lib.ListN.{length};
 ghost use Rattle.plan.specs.File.{planOf};
 ghost use Rattle.plan.specs.Planned.{Planned};
@@ -27,12 +29,23 @@ fn answer(c: Checked, bill: u64) -> Charged
     }
 }
 
+// A dealing at each of so many multiply gates if party i is one of the dealers.
+fn dealt(i: usize, dealers: usize, multiplies: usize) -> usize
+    ensures { λ r. ⌜ record { eq : r ≡ cond (leb i dealers) multiplies 0; le : r ≤ multiplies } ⌝ }
+{
+    if i <= dealers {
+        return multiplies;
+    }
+    0
+}
+
 // The elements that party i sends: one to each party for each of its dealings, and a share for each out.
 fn elements_by(plan: &[u8], h: Header, i: usize) -> u64
     requires { ⌜ Planned (now plan) h ⌝ }
     ensures { λ r. ⌜ r ≡ elementsBy (planOf (now (plan .entry))) i ⌝ }
 {
-    let dealings = plan_counts::dealings_below(plan, h, i, h.gates);
+    let c = plan_counts::tally_of(plan, h, i);
+    let dealings = c.own + dealt(i, h.t + h.t + 1, c.multiplies);
     (h.n * dealings + h.outs) as u64
 }
 

@@ -12,9 +12,9 @@ use native.Mathlib.Nat.{add-mul, suc-mul, mul-add, mul-zero, mod-lt, mul-le-mul,
 use native.Mathlib.Omega.{arith}
 use lib.ListN.{length, getD, length-set}
 use lib.Seq.{getD-set-same, getD-set-other}
-use Rattle.numbers.specs.Tables.{tab}
+use Rattle.numbers.specs.Tables.{tab, total}
 use Rattle.numbers.proofs.Tables.{length-tab, getD-tab}
-use Rattle.charge_laws.specs.Charges.{total, billFor, floorAt, remainderAt, leftOver, greatest, Shares, giveTo, give, sharesFirst, partsOf, partAt}
+use Rattle.charge_laws.specs.Charges.{billFor, floorAt, remainderAt, leftOver, greatest, Shares, giveTo, give, sharesFirst, partsOf, partAt}
 use Rattle.charge_laws.proofs.Totals.{total-more, total-less, total-none, nonempty, same-or, Best, best-greatest, greatest-in}
 
 -- ---- cents given

@@ -12,9 +12,9 @@ use native.Mathlib.Omega.{arith}
 use borrow.Author.Tests.{ltb-true, ltb-false, eqb-true, eqb-false}
 use lib.Dec.{ltb, eqb}
 use lib.ListN.{length, getD, set}
-use Rattle.numbers.specs.Tables.{tab}
+use Rattle.numbers.specs.Tables.{tab, total}
 use Rattle.numbers.proofs.Tables.{tab-snoc}
-use Rattle.charge_laws.specs.Charges.{total, greaterAt, greatestFrom, greatest}
+use Rattle.charge_laws.specs.Charges.{greaterAt, greatestFrom, greatest}
 
 -- ---- by parts
 pub total-append : (xs ys : List ℕ) → total (xs ++ ys) ≡ total xs + total ys

@@ -4,16 +4,12 @@ use mathlib.Core.Bool.{cond}
 use mathlib.Core.List.{List, [], _∷_, map, flatMap}
 use lib.Dec.{ltb}
 use lib.ListN.{length, getD, set}
-use Rattle.numbers.specs.Tables.{tab}
-use Rattle.plan.specs.Plans.{Plan, parties, multiplies, writtenCount, sentCount}
-
-unfoldable pub total : List ℕ → ℕ
-total [] = 0
-total (x ∷ xs) = x + total xs
+use Rattle.numbers.specs.Tables.{tab, total}
+use Rattle.plan.specs.Plans.{Plan, parties, lastCall, writtenCount, sentCount}
 
 -- the elements that party i sends, own included: what its calls write, but for the last, which writes results
 unfoldable pub elementsBy : Plan → ℕ → ℕ
-elementsBy plan i = total (tab (writtenCount plan i) (multiplies plan + 2))
+elementsBy plan i = total (tab (writtenCount plan i) (lastCall plan))
 
 -- by party, ascending
 unfoldable pub elements : Plan → List ℕ

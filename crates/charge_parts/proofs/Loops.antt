@@ -16,10 +16,10 @@ use lib.ListN.{length, getD, take, drop, set, length-set, take-append-drop}
 use lib.Seq.{sets, length-sets, take-suc, take-all, length-take-le}
 use mir.Syntax.{w64}
 use mir.Val.{Fits}
-use Rattle.numbers.specs.Tables.{tab}
+use Rattle.numbers.specs.Tables.{tab, total}
 use Rattle.numbers.proofs.Rows.{flat-snoc, flat-length, sets-append, sets-all}
 use Rattle.numbers.proofs.Fills.{Filled, fill-none, fill-next, filled}
-use Rattle.charge_laws.specs.Charges.{total, floorAt, remainderAt, greaterAt, greatestFrom, greatest, fourBytes, partBytes}
+use Rattle.charge_laws.specs.Charges.{floorAt, remainderAt, greaterAt, greatestFrom, greatest, fourBytes, partBytes}
 use Rattle.charge_laws.proofs.Totals.{total-append, entry-total, greater-in}
 
 -- ---- a part as bytes

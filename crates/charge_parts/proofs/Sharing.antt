@@ -10,9 +10,9 @@ use borrow.Author.Needs.{needs}
 use lib.ListN.{length, getD, set, length-set}
 use mir.Syntax.{w64}
 use mir.Val.{Fits}
-use Rattle.numbers.specs.Tables.{tab}
+use Rattle.numbers.specs.Tables.{tab, total}
 use Rattle.numbers.proofs.Tables.{length-tab}
-use Rattle.charge_laws.specs.Charges.{total, floorAt, remainderAt, leftOver, greatest, Shares, giveTo, give, sharesFirst, partsOf}
+use Rattle.charge_laws.specs.Charges.{floorAt, remainderAt, leftOver, greatest, Shares, giveTo, give, sharesFirst, partsOf}
 use Rattle.charge_laws.proofs.Totals.{total-more, entry-total, nonempty}
 use Rattle.charge_laws.proofs.Parts.{floors-under}
 

@@ -3,8 +3,8 @@ ghost use mathlib.Core.Path.{_≡_};
 ghost use Prim.Native.Nat.{_+_, _*_, _<_, _≤_};
 ghost use lib.ListN.{length};
 ghost use lib.Seq.{sets};
-ghost use Rattle.numbers.specs.Tables.{tab};
-ghost use Rattle.charge_laws.specs.Charges.{total, floorAt, remainderAt, leftOver, greaterAt, greatest, give, sharesFirst, partsOf, fourBytes, partBytes};
+ghost use Rattle.numbers.specs.Tables.{tab, total};
+ghost use Rattle.charge_laws.specs.Charges.{floorAt, remainderAt, leftOver, greaterAt, greatest, give, sharesFirst, partsOf, fourBytes, partBytes};
 
 // ---- rounded down
 

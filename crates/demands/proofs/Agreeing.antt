@@ -5,27 +5,29 @@
 use Prim.Native.Nat.{ℕ, zero, suc, _+_, _<_, _≤_}
 use mathlib.Core.Path.{_≡_, refl, sym, ap, _∙_}
 use mathlib.Core.Bool.{Bool, true, false, cond, not, _&&_, _||_}
-use mathlib.Core.List.{List, [], _∷_, map}
+use mathlib.Core.List.{List, [], _∷_, map, flatMap}
 use native.Mathlib.Omega.{arith}
 use borrow.Author.Tests.{leb-true, eq-eqb, eqb-true, eqb-false}
 use lib.Dec.{leb, ltb, eqb}
 use lib.ListN.{length, getD, drop}
 use lib.Seq.{getD-drop}
-use Rattle.numbers.specs.Tables.{countWhere}
 use Rattle.numbers.proofs.Searches.{passes-nothing}
 use Rattle.numbers.proofs.Truth.{both-true}
 use Rattle.plan.specs.declared.Gate.{Gate}
-use Rattle.plan.specs.declared.Gate.the-variants.{Input, Add, Scale, Offset, Multiply}
+use Rattle.plan.specs.declared.Gate.the-variants.{Input, Add, Scale, Offset, Multiply, Random, Spend}
 use Rattle.plan.specs.declared.Output.{Output}
 use Rattle.plan.specs.declared.Checked.the-variants.{Passed}
 use Rattle.plan.specs.declared.Refusal.the-variants as refusal
 use Rattle.plan.proofs.Refusals.{found-nothing}
-use Rattle.plan.specs.Plans.{Plan, partyCount, isInput, inputCount, outWiresOf, outWires, ownInputsOf, ownInputs}
+use Rattle.plan.specs.Plans.{Plan, partyCount, inputOwnersAt, inputOwners, inputCount, outWiresOf, outWires, ownOf, ownInputs}
 use Rattle.plan.specs.File.{between, gateOk, outOk}
 use Rattle.plan.proofs.Valid.{Valid}
+use Rattle.sharing_laws.specs.Interp.{All}
+use Rattle.sharing_laws.proofs.Alls.{all-append, all-at}
+use Rattle.plan.proofs.Parties.{each-party}
 use Rattle.plan_coalition.specs.Coalitions.{inSet, members, membersFrom}
 use Rattle.run_protocol.specs.Ideal.{values, granted}
-use Rattle.match_agreement.specs.MatchCalls.{inputOwners, inputsAgree, outsAgree}
+use Rattle.match_agreement.specs.MatchCalls.{inputsAgree, outsAgree}
 
 -- ---- each member
 module _ {B : Type 0} (f g : ℕ → B) (set i : ℕ) (on : inSet set i ≡ true) where
@@ -50,16 +52,24 @@ module _ {B : Type 0} (f g : ℕ → B) (set i : ℕ) (on : inSet set i ≡ true
   at-member l m e = from-members 16 1 l (omega arith) e
 
 -- ---- refusal 21
--- the party of input j is a party of the plan
-owner-all : (P : ℕ → Type 0) (gs : List Gate) → ((g s : ℕ) → g < length gs → getD gs g (Input 0) ≡ Input s → P s) → (j : ℕ) → j < countWhere isInput gs → P (getD (inputOwners gs) j 0)
-unfolding countWhere isInput inputOwners
-owner-all P [] h j l = absurd (omega arith)
-owner-all P (Input s ∷ gs) h zero l = h 0 s (omega arith) refl
-owner-all P (Input s ∷ gs) h (suc j) l = owner-all P gs (λ g s q e. h (suc g) s (omega arith) e) j (omega arith)
-owner-all P (Add a b ∷ gs) h j l = owner-all P gs (λ g s q e. h (suc g) s (omega arith) e) j l
-owner-all P (Scale a c ∷ gs) h j l = owner-all P gs (λ g s q e. h (suc g) s (omega arith) e) j l
-owner-all P (Offset a c ∷ gs) h j l = owner-all P gs (λ g s q e. h (suc g) s (omega arith) e) j l
-owner-all P (Multiply a b ∷ gs) h j l = owner-all P gs (λ g s q e. h (suc g) s (omega arith) e) j l
+-- the owners of inputs are parties of the plan
+module _ (plan : Plan) (P : ℕ → Type 0) where
+  owners-from : (gs : List Gate) → ((g : ℕ) → g < length gs → All P (inputOwnersAt plan (getD gs g (Input 0)))) → All P (flatMap (inputOwnersAt plan) gs)
+  unfolding flatMap
+  owners-from [] h = tt
+  owners-from (x ∷ gs) h = all-append P (inputOwnersAt plan x) (flatMap (inputOwnersAt plan) gs) (h 0 (omega arith)) (owners-from gs (λ g l. h (suc g) (omega arith)))
+
+  owners-at : (g : ℕ) (x : Gate) → ((s : ℕ) → 1 ≤ s → s ≤ partyCount plan → P s) → gateOk (partyCount plan) (plan .p) g x ≡ true → All P (inputOwnersAt plan x)
+  unfolding inputOwnersAt gateOk between
+  owners-at g (Input s) h ok =
+      let k = both-true (leb 1 s) (leb s (partyCount plan)) ok in
+      (h s (leb-true 1 s (k .0)) (leb-true s (partyCount plan) (k .1)), tt)
+  owners-at g (Add a b) h ok = tt
+  owners-at g (Scale a c) h ok = tt
+  owners-at g (Offset a c) h ok = tt
+  owners-at g (Multiply a b) h ok = tt
+  owners-at g Random h ok = each-party plan P h
+  owners-at g (Spend a b) h ok = tt
 
 next-input : (xs ys : List ℕ) (j : ℕ) → getD (drop 1 xs) j 0 ≡ getD (drop 1 ys) j 0 → getD xs (suc j) 0 ≡ getD ys (suc j) 0
 next-input xs ys j e =
@@ -67,50 +77,43 @@ next-input xs ys j e =
     ap (λ (k : ℕ). getD xs k 0) (sym s) ∙ sym (getD-drop 1 xs j 0) ∙ e ∙ getD-drop 1 ys j 0 ∙ ap (λ (k : ℕ). getD ys k 0) s
 
 -- the same own inputs are the same where they stand in the list of all
-own-agree : (i : ℕ) (gs : List Gate) (xs ys : List ℕ) → ownInputsOf i gs xs ≡ ownInputsOf i gs ys → (j : ℕ) → j < countWhere isInput gs → getD (inputOwners gs) j 0 ≡ i → getD xs j 0 ≡ getD ys j 0
-unfolding countWhere isInput inputOwners ownInputsOf
+own-agree : (i : ℕ) (os xs ys : List ℕ) → ownOf i os xs ≡ ownOf i os ys → (j : ℕ) → j < length os → getD os j 0 ≡ i → getD xs j 0 ≡ getD ys j 0
+unfolding ownOf
 own-agree i [] xs ys e j l o = absurd (omega arith)
-own-agree i (Input s ∷ gs) xs ys e zero l o = head (eqb i s) (eq-eqb i s (sym o)) e
+own-agree i (s ∷ os) xs ys e zero l o = head (eqb i s) (eq-eqb i s (sym o)) e
   where
     head : (b : Bool) → b ≡ true
-        → cond b (getD xs 0 0 ∷ ownInputsOf i gs (drop 1 xs)) (ownInputsOf i gs (drop 1 xs)) ≡ cond b (getD ys 0 0 ∷ ownInputsOf i gs (drop 1 ys)) (ownInputsOf i gs (drop 1 ys)) → getD xs 0 0 ≡ getD ys 0 0
+        → cond b (getD xs 0 0 ∷ ownOf i os (drop 1 xs)) (ownOf i os (drop 1 xs)) ≡ cond b (getD ys 0 0 ∷ ownOf i os (drop 1 ys)) (ownOf i os (drop 1 ys)) → getD xs 0 0 ≡ getD ys 0 0
     head true t e = ap (λ (m : List ℕ). getD m 0 0) e
     head false t e = absurd (let z : _≡_ {A = ℕ} 0 1 = ap (λ (u : Bool). cond {A = ℕ} u 1 0) t in omega (arith, z))
-own-agree i (Input s ∷ gs) xs ys e (suc j) l o = next-input xs ys j (own-agree i gs (drop 1 xs) (drop 1 ys) (rest (eqb i s) e) j (omega arith) o)
+own-agree i (s ∷ os) xs ys e (suc j) l o = next-input xs ys j (own-agree i os (drop 1 xs) (drop 1 ys) (rest (eqb i s) e) j (omega arith) o)
   where
     rest : (b : Bool)
-        → cond b (getD xs 0 0 ∷ ownInputsOf i gs (drop 1 xs)) (ownInputsOf i gs (drop 1 xs)) ≡ cond b (getD ys 0 0 ∷ ownInputsOf i gs (drop 1 ys)) (ownInputsOf i gs (drop 1 ys))
-        → ownInputsOf i gs (drop 1 xs) ≡ ownInputsOf i gs (drop 1 ys)
+        → cond b (getD xs 0 0 ∷ ownOf i os (drop 1 xs)) (ownOf i os (drop 1 xs)) ≡ cond b (getD ys 0 0 ∷ ownOf i os (drop 1 ys)) (ownOf i os (drop 1 ys))
+        → ownOf i os (drop 1 xs) ≡ ownOf i os (drop 1 ys)
     rest true e = ap (drop 1) e
     rest false e = e
-own-agree i (Add a b ∷ gs) xs ys e j l o = own-agree i gs xs ys e j l o
-own-agree i (Scale a c ∷ gs) xs ys e j l o = own-agree i gs xs ys e j l o
-own-agree i (Offset a c ∷ gs) xs ys e j l o = own-agree i gs xs ys e j l o
-own-agree i (Multiply a b ∷ gs) xs ys e j l o = own-agree i gs xs ys e j l o
 
 either : (b : Bool) (x y : ℕ) → (b ≡ true → x ≡ y) → (not b || eqb x y) ≡ true
 either true x y h = eq-eqb x y (h refl)
 either false x y h = refl
 
 module _ (plan : Plan) (valid : Valid plan) (n-high : partyCount plan ≤ 16) (set : ℕ) (xs ys : List ℕ) where
-  owner-in : (j : ℕ) → j < inputCount plan → (1 ≤ getD (inputOwners (plan .gates)) j 0) × (getD (inputOwners (plan .gates)) j 0 ≤ 16)
-  unfolding inputCount gateOk between
+  owner-in : (j : ℕ) → j < inputCount plan → (1 ≤ getD (inputOwners plan) j 0) × (getD (inputOwners plan) j 0 ≤ 16)
+  unfolding inputCount inputOwners
   owner-in j l =
-      owner-all (λ s. (1 ≤ s) × (s ≤ 16)) (plan .gates)
-      (λ g s m e.
-      let ok : (leb 1 s && leb s (partyCount plan)) ≡ true = sym (ap (gateOk (partyCount plan) (plan .p) g) e) ∙ valid .gates g m in
-      let low : 1 ≤ s = leb-true 1 s (both-true (leb 1 s) (leb s (partyCount plan)) ok .0) in
-      let high : s ≤ partyCount plan = leb-true s (partyCount plan) (both-true (leb 1 s) (leb s (partyCount plan)) ok .1) in
-      (low, omega arith)) j l
+      let P : ℕ → Type 0 = λ s. (1 ≤ s) × (s ≤ 16) in
+      all-at P (inputOwners plan) j
+      (owners-from plan P (plan .gates) (λ g m. owners-at plan P g (getD (plan .gates) g (Input 0)) (λ s low high. (low, omega arith)) (valid .gates g m))) l
 
   pub inputs-agree : map (λ i. ownInputs plan i xs) (members set) ≡ map (λ i. ownInputs plan i ys) (members set) → inputsAgree plan set xs ys ≡ Passed
   unfolding inputsAgree inputCount ownInputs
   inputs-agree e =
       found-nothing refusal.InputsDiffer _
-      (passes-nothing (λ j. not (inSet set (getD (inputOwners (plan .gates)) j 0)) || eqb (getD xs j 0) (getD ys j 0)) (inputCount plan)
-      (λ j l. either (inSet set (getD (inputOwners (plan .gates)) j 0)) (getD xs j 0) (getD ys j 0)
-      (λ on. own-agree (getD (inputOwners (plan .gates)) j 0) (plan .gates) xs ys
-      (at-member (λ i. ownInputs plan i xs) (λ i. ownInputs plan i ys) set (getD (inputOwners (plan .gates)) j 0) on (owner-in j l .0) (owner-in j l .1) e) j l refl)))
+      (passes-nothing (λ j. not (inSet set (getD (inputOwners plan) j 0)) || eqb (getD xs j 0) (getD ys j 0)) (inputCount plan)
+      (λ j l. either (inSet set (getD (inputOwners plan) j 0)) (getD xs j 0) (getD ys j 0)
+      (λ on. own-agree (getD (inputOwners plan) j 0) (inputOwners plan) xs ys
+      (at-member (λ i. ownInputs plan i xs) (λ i. ownInputs plan i ys) set (getD (inputOwners plan) j 0) on (owner-in j l .0) (owner-in j l .1) e) j l refl)))
 
 -- ---- refusal 22
 out-agree : (f g : ℕ → ℕ) (i : ℕ) (os : List Output) → map f (outWiresOf i os) ≡ map g (outWiresOf i os) → (o : ℕ) → o < length os

@@ -2,25 +2,39 @@
 -- Assumes nothing.
 use Prim.Native.Nat.{ℕ, zero, suc, _+_, _*_, _≤_, _<_}
 use mathlib.Core.Path.{_≡_}
-use mathlib.Core.Bool.{Bool, true, false, cond}
-use mathlib.Core.List.{List}
+use mathlib.Core.List.{List, [], _∷_}
 use native.Mathlib.Nat.{mul-le-mul}
 use native.Mathlib.Omega.{arith}
 use borrow.Author.Tests.{ltb-true}
-use lib.Dec.{ltb}
+use lib.Dec.{eqb}
 use lib.ListN.{length}
 use Rattle.numbers.specs.Tables.{countWhere}
 use Rattle.numbers.proofs.Tables.{length-tab}
 use Rattle.numbers.proofs.Counts.{countWhere-le-length}
 use Rattle.plan.specs.declared.Checked.the-variants.{Passed}
-use Rattle.plan.specs.Plans.{partyCount, dealerCount, isInput, isInputOf, deals, multiplies, inputCount, ownInputCount, dealings, coinCount, ownCoinCount, outWires, ownOutCount, mailCount, sentCount}
-use Rattle.plan.specs.File.{nAt, tAt, gateCountAt, outCountAt, planCheck, planOf, headerOf}
+use Rattle.plan.specs.declared.Gate.{Gate}
+use Rattle.plan.specs.declared.Gate.the-variants.{Input, Add, Scale, Offset, Multiply, Random, Spend}
+use Rattle.plan.specs.declared.Step.{Step}
+use Rattle.plan.specs.declared.Step.the-variants.{DealInputs, DealProduct, DealZero, DealMasked, SendTruncated, DealDraws, OpenSpent, SendOuts}
+use Rattle.plan.specs.Plans.{Plan, partyCount, dealerCount, kindOf, isKind, kindCount, inputOwners, coinOwners, inputCount, ownInputCount, coinCount, ownCoinCount, outWires, ownOutCount, stepAt, received, mailCount, sentCount}
+use Rattle.plan.specs.File.{nAt, tAt, gateCountAt, outCountAt, planCheck, planOf}
 use Rattle.plan.proofs.Planned.{passing, between-true, Laid, laid, length-gates, length-outs}
+use Rattle.plan.proofs.Valid.{Plain, plain}
+use Rattle.plan.proofs.Counts.{plain-inputs, plain-coins, plain-sent}
 use Rattle.plan.proofs.Wires.{out-wires-few}
-use Rattle.plan_counts.proofs.Counts.{length-dealings, dealings-le}
-use Rattle.match_agreement.proofs.AgreeLaws.{coins-fit}
 use Rattle.charge_laws.specs.Charges.{billOf}
 use Rattle.charge_laws.proofs.Parts.{bill-fits}
+
+kinds-apart : (gs : List Gate) → countWhere (isKind 1) gs + countWhere (isKind 5) gs ≤ length gs
+unfolding countWhere isKind kindOf
+kinds-apart [] = omega arith
+kinds-apart (Input s ∷ gs) = omega (arith, kinds-apart gs)
+kinds-apart (Add a b ∷ gs) = omega (arith, kinds-apart gs)
+kinds-apart (Scale a c ∷ gs) = omega (arith, kinds-apart gs)
+kinds-apart (Offset a c ∷ gs) = omega (arith, kinds-apart gs)
+kinds-apart (Multiply a b ∷ gs) = omega (arith, kinds-apart gs)
+kinds-apart (Random ∷ gs) = omega (arith, kinds-apart gs)
+kinds-apart (Spend a b ∷ gs) = omega (arith, kinds-apart gs)
 
 module _ (bs : List ℕ) (passes : planCheck bs ≡ Passed) where
   pub laid-out : Laid bs
@@ -44,61 +58,88 @@ module _ (bs : List ℕ) (passes : planCheck bs ≡ Passed) where
   unfolding dealerCount
   dealers-few = omega (arith, threshold-few)
 
-  pub inputs-few : inputCount (planOf bs) ≤ 1024
-  unfolding inputCount
-  inputs-few = omega (arith, gates-few, countWhere-le-length isInput (planOf bs .gates))
+  abbrev plan : Plan
+  plan = planOf bs
 
-  pub own-few : (i : ℕ) → ownInputCount (planOf bs) i ≤ 1024
-  unfolding ownInputCount
-  own-few i = omega (arith, gates-few, countWhere-le-length (isInputOf i) (planOf bs .gates))
+  file-plain : Plain plan
+  file-plain = plain bs passes
 
-  pub own-coins-few : (i : ℕ) → ownCoinCount (planOf bs) i ≤ 230400
-  unfolding ownCoinCount
-  own-coins-few i =
-      let l : countWhere (deals (planOf bs) i) (planOf bs .gates) ≤ 15360 = omega (arith, gates-few, countWhere-le-length (deals (planOf bs) i) (planOf bs .gates)) in
-      coins-fit (headerOf bs) (planOf bs .t) (countWhere (deals (planOf bs) i) (planOf bs .gates)) (omega (arith, threshold-few)) l
+  kind-few : (k : ℕ) → kindCount plan k ≤ 1024
+  unfolding kindCount
+  kind-few k = omega (arith, gates-few, countWhere-le-length (isKind k) (planOf bs .gates))
 
-  dealings-few : length (dealings (planOf bs)) ≤ 15360
-  dealings-few = omega (arith, gates-few, dealings-le (planOf bs) 15 dealers-few (omega arith))
+  dealt-few : kindCount plan 1 + kindCount plan 5 * dealerCount plan ≤ 16384
+  dealt-few = omega (arith, kind-few 1, mul-le-mul {n₁ = kindCount plan 5} {m₁ = dealerCount plan} {n₂ = 1024} {m₂ = 15} (kind-few 5) dealers-few)
 
-  pub coins-few : coinCount (planOf bs) ≤ 230400
-  unfolding coinCount
-  coins-few = coins-fit (headerOf bs) (planOf bs .t) (length (dealings (planOf bs))) (omega (arith, threshold-few)) dealings-few
+  pub inputs-few : inputCount plan ≤ 1024
+  inputs-few = omega (arith, plain-inputs plan file-plain, kind-few 1)
 
-  pub own-outs-few : (i : ℕ) → ownOutCount (planOf bs) i ≤ 64
+  pub own-few : (i : ℕ) → ownInputCount plan i ≤ 1024
+  unfolding ownInputCount inputCount
+  own-few i = omega (arith, inputs-few, countWhere-le-length (eqb i) (inputOwners plan))
+
+  pub coins-few : coinCount plan ≤ 114688
+  coins-few =
+      omega (
+        arith,
+        plain-coins plan file-plain,
+        mul-le-mul {n₁ = plan .t} {m₁ = kindCount plan 1 + kindCount plan 5 * dealerCount plan} {n₂ = 7} {m₂ = 16384} threshold-few dealt-few,
+      )
+
+  pub own-coins-few : (i : ℕ) → ownCoinCount plan i ≤ 114688
+  unfolding ownCoinCount coinCount
+  own-coins-few i = omega (arith, coins-few, countWhere-le-length (eqb i) (coinOwners plan))
+
+  pub own-outs-few : (i : ℕ) → ownOutCount plan i ≤ 64
   unfolding ownOutCount outWires
   own-outs-few i = omega (arith, outs-few, out-wires-few i (planOf bs .outs))
 
-  either-few : (b : Bool) (x y : ℕ) → x ≤ 230400 → y ≤ 230400 → cond b x y ≤ 230400
-  either-few true x y l m = l
-  either-few false x y l m = m
+  received-few : (i : ℕ) (s : Step) → received plan i s ≤ 1024
+  unfolding received
+  received-few i DealInputs = kind-few 1
+  received-few i (DealProduct g a b) = omega (arith, dealers-few)
+  received-few i (DealZero g) = omega (arith, parties-few)
+  received-few i (DealMasked g a b) = omega (arith, parties-few)
+  received-few i (SendTruncated g) = omega (arith, parties-few)
+  received-few i (DealDraws g) = omega (arith, parties-few)
+  received-few i (OpenSpent g a b) = omega (arith, parties-few)
+  received-few i SendOuts = omega (arith, mul-le-mul {n₁ = partyCount plan} {m₁ = ownOutCount plan i} {n₂ = 15} {m₂ = 64} parties-few (own-outs-few i))
 
-  pub mail-few : (i k : ℕ) → mailCount (planOf bs) i k ≤ 230400
+  pub mail-few : (i k : ℕ) → mailCount plan i k ≤ 1024
   unfolding mailCount
   mail-few i zero = omega arith
-  mail-few i (suc zero) = omega (arith, inputs-few)
-  mail-few i (suc (suc k)) =
-      either-few (ltb k (multiplies (planOf bs))) (dealerCount (planOf bs)) (partyCount (planOf bs) * ownOutCount (planOf bs) i) (omega (arith, dealers-few))
-      (coins-fit (headerOf bs) (partyCount (planOf bs)) (ownOutCount (planOf bs) i) parties-few (omega (arith, own-outs-few i)))
+  mail-few i (suc k) = received-few i (stepAt plan k)
 
-  pub sent-most : sentCount (planOf bs) ≤ 231360
-  unfolding sentCount
+  -- a gate of kind 1 is none of kind 5
+  dealt-most : kindCount plan 1 + kindCount plan 5 * dealerCount plan ≤ 15360
+  unfolding kindCount
+  dealt-most =
+      omega (
+        arith,
+        kinds-apart (planOf bs .gates),
+        gates-few,
+        mul-le-mul {n₁ = kindCount plan 5} {m₁ = dealerCount plan} {n₂ = kindCount plan 5} {m₂ = 15} (omega arith) dealers-few,
+      )
+
+  pub sent-most : sentCount plan ≤ 231360
   sent-most =
-      let d : inputCount (planOf bs) + multiplies (planOf bs) * dealerCount (planOf bs) ≤ 15360 = omega (arith, dealings-few, length-dealings (planOf bs)) in
-      let l : inputCount (planOf bs) + multiplies (planOf bs) * dealerCount (planOf bs) + length (planOf bs .outs) ≤ 15424 = omega (arith, d, outs-few) in
-      omega (arith, mul-le-mul {n₁ = partyCount (planOf bs)} {m₁ = inputCount (planOf bs) + multiplies (planOf bs) * dealerCount (planOf bs) + length (planOf bs .outs)} {n₂ = 15} {m₂ = 15424} parties-few l)
+      omega (
+        arith,
+        plain-sent plan file-plain,
+        mul-le-mul {n₁ = partyCount plan} {m₁ = kindCount plan 1 + kindCount plan 5 * dealerCount plan + length (plan .outs)} {n₂ = 15} {m₂ = 15424} parties-few (omega (arith, dealt-most, outs-few)),
+      )
 
-  pub sent-few : sentCount (planOf bs) ≤ 4294967295
+  pub sent-few : sentCount plan ≤ 4294967295
   sent-few = omega (arith, sent-most)
 
-  pub bill-few : (price : ℕ) → price ≤ 1000000 → billOf (planOf bs) price < 4294967296
+  pub bill-few : (price : ℕ) → price ≤ 1000000 → billOf plan price < 4294967296
   unfolding billOf
-  bill-few price l = bill-fits (sentCount (planOf bs)) price sent-most l
+  bill-few price l = bill-fits (sentCount plan) price sent-most l
 
-  pub sent-some : 1 ≤ sentCount (planOf bs)
-  unfolding sentCount partyCount planOf
+  pub sent-some : 1 ≤ sentCount plan
+  unfolding partyCount planOf
   sent-some =
       let n : 1 ≤ partyCount (planOf bs) = omega (arith, length-tab suc (nAt bs), between-true 1 15 (nAt bs) (passing bs passes .parties) .0) in
-      let k : ℕ = inputCount (planOf bs) + multiplies (planOf bs) * dealerCount (planOf bs) + length (planOf bs .outs) in
+      let k : ℕ = kindCount (planOf bs) 1 + kindCount (planOf bs) 5 * dealerCount (planOf bs) + length (planOf bs .outs) in
       let l : 1 ≤ k = omega (arith, length-outs bs, between-true 1 64 (outCountAt bs) (laid-out .outs) .0) in
-      omega (arith, mul-le-mul {n₁ = 1} {m₁ = 1} {n₂ = partyCount (planOf bs)} {m₂ = k} n l)
+      omega (arith, plain-sent plan file-plain, mul-le-mul {n₁ = 1} {m₁ = 1} {n₂ = partyCount (planOf bs)} {m₂ = k} n l)

@@ -26,10 +26,10 @@ use Rattle.plan.specs.declared.Checked.{Checked}
 use Rattle.plan.specs.declared.Checked.the-variants.{Passed, Refused}
 use Rattle.plan.specs.Refusals.{numberOf, placeOf, andThen, firstOf, unlessFound}
 use Rattle.plan.proofs.Refusals.{firstOf-append, andThen-end, passed-both, passed-found, FirstRefused, first-refused}
-use Rattle.plan.specs.Plans.{Plan, partyCount, multiplies, ownOutCount}
+use Rattle.plan.specs.Plans.{Plan, partyCount, lastCall, ownOutCount}
 use Rattle.plan.specs.File.{planChecks, planCheck, planOf}
 use Rattle.plan.proofs.Valid.{Valid, valid}
-use Rattle.seat_messages.specs.Messages.{sharesOfOut}
+use Rattle.seat_messages.specs.Messages.{fromEach}
 use Rattle.seat_messages.specs.Calls.{onPolynomial, outsCheck, openingCheck, partyChecks, callChecks, callAnswer}
 use Rattle.demands.specs.Further.{sharesIn, Broken, FirstBroken}
 use Rattle.demands.proofs.First.{clash, same-number, same-place, Numbered, Numbers, _▹_, joined, planNumbers, plan-numbers, partyNumbers, party-numbers, first-passed}
@@ -73,9 +73,9 @@ module _ (plan : Plan) (ok : Valid plan) (i : ℕ) (mail : List ℕ) (below : al
   law : (j : ℕ)
       → ((s : ℕ) → (off j ≡ At s) ↔ OffAt (plan .p) (plan .t) (plan .points) (sharesIn plan i mail j) s)
       × ((off j ≡ Nothing) ↔ OnOne (plan .p) (plan .t) (plan .points) (sharesIn plan i mail j))
-  unfolding off sharesOfOut partyCount
+  unfolding off fromEach partyCount
   law j =
-      off-line (plan .p) (plan .t) (plan .points) (sharesIn plan i mail j) (ok .prime) (ok .distinct) (omega (arith, ok .majority))
+      off-line (plan .p) (plan .t) (plan .points) (sharesIn plan i mail j) (ok .prime) (ok .distinct) (omega (arith, ok .threshold))
       (length-tab (λ s. getD mail (ownOutCount plan i * s + j) 0) (length (plan .points)))
       (allBelow-tab (plan .p) (λ s. getD mail (ownOutCount plan i * s + j) 0) (length (plan .points))
       (λ s l. below-by (plan .p) mail (ownOutCount plan i * s + j) (pos (ok .prime)) below (ltb (ownOutCount plan i * s + j) (length mail)) refl))
@@ -127,7 +127,7 @@ module _ (bytes : List ℕ) (i : ℕ) (inputs coins state mail : List ℕ) (room
   unfolding openingCheck
   broken =
       outs-broken (planOf bytes) (valid bytes passes) i (numbers mail) below place
-      (cond-refused (eqb (getD (numbers state) 0 0) (multiplies (planOf bytes) + 2)) (outsCheck (planOf bytes) i (numbers mail)) (refusal.OffPolynomial place) opening)
+      (cond-refused (eqb (getD (numbers state) 0 0) (lastCall (planOf bytes))) (outsCheck (planOf bytes) i (numbers mail)) (refusal.OffPolynomial place) opening)
 
 pub first-broken : FirstBroken
 first-broken = broken

@@ -4,7 +4,7 @@
 use Prim.Native.Nat.{ℕ, zero, suc, _+_, _*_, _<_, _≤_}
 use mathlib.Core.Path.{_≡_, refl, sym, ap, _∙_}
 use mathlib.Core.Bool.{true, _&&_}
-use mathlib.Core.List.{List, [], _∷_}
+use mathlib.Core.List.{List, [], _∷_, map}
 use native.Mathlib.Omega.{arith}
 use borrow.Author.Tests.{leb-true}
 use lib.Dec.{leb, ltb}
@@ -15,27 +15,27 @@ use Rattle.plan.specs.declared.Output.{Output}
 use Rattle.plan.specs.declared.Checked.the-variants.{Passed}
 use Rattle.plan.specs.declared.Refusal.the-variants as refusal
 use Rattle.plan.specs.Refusals.{firstOf, need}
-use Rattle.plan.specs.Plans.{Plan, multiplies, ownInputsOf, ownInputs, writtenCount}
+use Rattle.plan.specs.Plans.{Plan, lastCall, ownOf, ownInputs, writtenCount}
 use Rattle.plan.specs.File.{between, outOk, planCheck, planOf}
 use Rattle.plan.proofs.Refusals.{firstOf-append, passed-both, passed-need}
 use Rattle.plan.proofs.Planned.{between-true}
 use Rattle.plan_file.specs.Bodies.{planWith, planFile}
 use Rattle.plan_file.proofs.Files.{Wired}
 use Rattle.run_protocol.specs.Ideal.{granted}
+use Rattle.run_protocol.specs.Settings.{Inputs, Coins}
 use Rattle.seat_messages.specs.Calls.{unlessRefused}
-use Rattle.sheet_text.specs.Trees.{namesOf, formulaValue, inputGates}
+use Rattle.sheet_text.specs.Trees.{partyOf, namesOf, formulaValue}
 use Rattle.sheet_text.specs.Making.{sheetTree, sheetOk, treeMade, bodiesWith, treeBodies}
 use Rattle.sheet_text.proofs.Proper.{Below, some-name, sheet-below, tree-value, tree-others}
 use Rattle.sheet_text.proofs.Sound.{made-count, made-own}
 use Rattle.sheet_call.specs.Compiling.{sheetBodies, sheetFile, textChecks, sheetChecks, sheetAnswer, sheetAfter}
 use Rattle.sheet_call.proofs.Calls.{names-some, sheet-wired}
-use Rattle.demands.specs.Demands.{Inputs, Coins}
 use Rattle.demands.specs.Sheets.{namedFigures, SameValue, Compiled}
 use Rattle.demands.specs.Apart as apart
 use Rattle.demands.proofs.Written.{parties, prime, sound, plan-is, is-bytes, results}
 
-own-named : (j : ℕ) (names xs : List ℕ) → ownInputsOf j (inputGates names) xs ≡ namedFigures j names xs
-unfolding ownInputsOf inputGates namedFigures
+own-named : (j : ℕ) (names xs : List ℕ) → ownOf j (map partyOf names) xs ≡ namedFigures j names xs
+unfolding ownOf namedFigures
 own-named j [] xs = refl
 own-named j (x ∷ names) xs = rw (own-named j names (drop 1 xs))
 
@@ -108,7 +108,7 @@ module _ (n t p i : ℕ) (text : List ℕ) (room : ℕ) (answers : sheetAnswer n
       where
         written : (coins : List ℕ) (lent : ℕ → ℕ → List ℕ) → Coins (planOf (sheetFile n t p i text)) coins
             → ((j k : ℕ) → length (lent j k) ≡ width * writtenCount (planOf (sheetFile n t p i text)) j k)
-            → apart.answerOf i (apart.run (sheetFile n t p i text) xs coins lent (multiplies (planOf (sheetFile n t p i text)) + 2)) .out ≡ bytesOf (granted (planOf (sheetFile n t p i text)) xs i)
+            → apart.answerOf i (apart.run (sheetFile n t p i text) xs coins lent (lastCall (planOf (sheetFile n t p i text)))) .out ≡ bytesOf (granted (planOf (sheetFile n t p i text)) xs i)
         written coins lent settings room =
             unfold sheetFile in results n t p (sheetBodies n p i text) (checks .few) one-out wired (checks .plan) i xs coins lent (party .0) (party .1) figures settings room
 

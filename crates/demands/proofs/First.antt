@@ -26,10 +26,10 @@ use Rattle.plan.specs.declared.Checked.{Checked}
 use Rattle.plan.specs.declared.Checked.the-variants.{Passed, Refused}
 use Rattle.plan.specs.Refusals.{numberOf, placeOf, codeOf, andThen, firstOf, need, unlessFound}
 use Rattle.plan.proofs.Refusals.{firstOf-append, passed-both, passed-need, first-refused}
-use Rattle.plan.specs.Plans.{Plan, partyCount, multiplies, inputCount, ownInputCount, coinCount, ownCoinCount, ownOutCount, mailCount, sentCount}
+use Rattle.plan.specs.Plans.{Plan, partyCount, lastCall, inputCount, ownInputCount, coinCount, ownCoinCount, ownOutCount, mailCount, sentCount}
 use Rattle.plan.specs.File.{gateCountAt, outCountAt, gateKept, outKept, layoutOk, planChecks, planCheck, planOf}
 use Rattle.plan.proofs.Planned.{between-true, Laid, laid}
-use Rattle.seat_messages.specs.Messages.{sharesOfOut}
+use Rattle.seat_messages.specs.Messages.{fromEach}
 use Rattle.seat_messages.specs.Calls.{onPolynomial, outsCheck, openingCheck, partyChecks, callChecks, callAnswer, unlessRefused, stateAfter, outAfter}
 use Rattle.run_bench.specs.BenchCalls.{runChecks, benchAnswer, benchedOf, viewAfter}
 use Rattle.match_agreement.specs.MatchCalls.{inputsAgree, outsAgree, pairChecks, matchAnswer, matchedAfter}
@@ -281,8 +281,8 @@ plan-numbers bs =
 opening-number : (plan : Plan) (i k : ℕ) (mail : List ℕ) → Numbered 20 (openingCheck plan i k mail)
 unfolding openingCheck outsCheck onPolynomial numberOf
 opening-number plan i k mail =
-    cond-number 20 (eqb k (multiplies plan + 2)) (outsCheck plan i mail)
-    (each-number 20 (λ j. onPolynomial (plan .p) (plan .t) (plan .points) (sharesOfOut (partyCount plan) (ownOutCount plan i) j mail)) (ownOutCount plan i)
+    cond-number 20 (eqb k (lastCall plan)) (outsCheck plan i mail)
+    (each-number 20 (λ j. onPolynomial (plan .p) (plan .t) (plan .points) (fromEach (partyCount plan) (ownOutCount plan i) j mail)) (ownOutCount plan i)
     (λ j. found-number (λ s. refusal.OffPolynomial (s + 1)) 20 _ (λ s. refl)))
 
 inputs-number : (plan : Plan) (set : ℕ) (xs ys : List ℕ) → Numbered 21 (inputsAgree plan set xs ys)
@@ -397,13 +397,13 @@ module _ (bs : List ℕ) (passes : planCheck bs ≡ Passed) where
   opening-small : (i k : ℕ) (mail : List ℕ) → Small (openingCheck (planOf bs) i k mail)
   unfolding openingCheck outsCheck onPolynomial placeOf partyCount
   opening-small i k mail =
-      cond-small (eqb k (multiplies (planOf bs) + 2)) (outsCheck (planOf bs) i mail)
+      cond-small (eqb k (lastCall (planOf bs))) (outsCheck (planOf bs) i mail)
       (each-small (λ j. onPolynomial (planOf bs .p) (planOf bs .t) (planOf bs .points) (shares j)) (ownOutCount (planOf bs) i)
       (λ j. found-below (λ s. refusal.OffPolynomial (s + 1)) _
       (λ s e. omega (arith, off-within (planOf bs .p) (planOf bs .t) (planOf bs .points) (shares j) s e, parties-few bs passes))))
     where
       shares : ℕ → List ℕ
-      shares j = sharesOfOut (partyCount (planOf bs)) (ownOutCount (planOf bs) i) j mail
+      shares j = fromEach (partyCount (planOf bs)) (ownOutCount (planOf bs) i) j mail
 
   inputs-small : (set : ℕ) (xs ys : List ℕ) → Small (inputsAgree (planOf bs) set xs ys)
   unfolding inputsAgree placeOf

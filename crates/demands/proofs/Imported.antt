@@ -15,12 +15,13 @@ use Rattle.numbers.proofs.Truth.{both-true}
 use Rattle.plan.specs.declared.Checked.the-variants.{Passed}
 use Rattle.plan.specs.declared.Refusal.the-variants as refusal
 use Rattle.plan.specs.Refusals.{firstOf, need}
-use Rattle.plan.specs.Plans.{Plan, multiplies, ownInputs, writtenCount}
+use Rattle.plan.specs.Plans.{Plan, lastCall, ownInputs, writtenCount}
 use Rattle.plan.specs.File.{planCheck, planOf}
 use Rattle.plan.proofs.Refusals.{firstOf-append, passed-both, passed-need}
 use Rattle.plan_file.specs.Bodies.{planWith, planFile}
 use Rattle.plan_file.proofs.Files.{Wired, sound-wired}
 use Rattle.run_protocol.specs.Ideal.{granted}
+use Rattle.run_protocol.specs.Settings.{Inputs, Coins}
 use Rattle.import_text.specs.Circuits.{formatOk, circuitOf}
 use Rattle.import_lines.specs.Lines.{linesOf}
 use Rattle.import_circuit.specs.Wires.{inputWires, circuitOk}
@@ -32,7 +33,6 @@ use Rattle.import_circuit.proofs.Figures.{made-count, made-own, made-others}
 use Rattle.import_check.specs.Surveying.{textOk}
 use Rattle.import_call.specs.Importing.{importBodies, importFile, textChecks, importChecks, importAnswer, importAfter}
 use Rattle.seat_messages.specs.Calls.{unlessRefused}
-use Rattle.demands.specs.Demands.{Inputs, Coins}
 use Rattle.demands.specs.Circuits.{SameBits, Imported}
 use Rattle.demands.specs.Apart as apart
 use Rattle.demands.proofs.Written.{parties, prime, plan-is, is-bytes, results}
@@ -99,7 +99,7 @@ module _ (n t p : ℕ) (text : List ℕ) (room : ℕ) (answers : importAnswer n 
       where
         written : (coins : List ℕ) (lent : ℕ → ℕ → List ℕ) → Coins (planOf (importFile n t p text)) coins
             → ((i k : ℕ) → length (lent i k) ≡ width * writtenCount (planOf (importFile n t p text)) i k)
-            → apart.answerOf 1 (apart.run (importFile n t p text) xs coins lent (multiplies (planOf (importFile n t p text)) + 2)) .out ≡ bytesOf (granted (planOf (importFile n t p text)) xs 1)
+            → apart.answerOf 1 (apart.run (importFile n t p text) xs coins lent (lastCall (planOf (importFile n t p text)))) .out ≡ bytesOf (granted (planOf (importFile n t p text)) xs 1)
         written coins lent settings room =
             unfold importFile in results n t p (importBodies p text) few-gates few-outs made-wired passes 1 xs coins lent (omega arith) (parties n t p (importBodies p text) few-gates few-outs made-wired passes .0) figures settings room
 

@@ -11,25 +11,23 @@ use borrow.Author.Tests.{eqb-true}
 use lib.Dec.{eqb}
 use lib.ListN.{length, getD, drop}
 use lib.Seq.{getD-drop}
-use Rattle.numbers.specs.Tables.{countWhere}
-use Rattle.numbers.specs.Bytes.{numbers, bytesOf, allBelow, holdsCount}
+use Rattle.numbers.specs.Bytes.{width, numbers, bytesOf, allBelow, holdsCount}
 use Rattle.numbers.proofs.Searches.{nothing-passes}
 use Rattle.numbers.proofs.Below.{allBelow-at, firstOver-nothing}
 use Rattle.numbers.proofs.Bytes.{holds-length, holds-numbers, bytes-of-numbers}
-use Rattle.plan.specs.declared.Gate.{Gate}
-use Rattle.plan.specs.declared.Gate.the-variants.{Input, Add, Scale, Offset, Multiply}
 use Rattle.plan.specs.declared.Output.{Output}
 use Rattle.plan.specs.declared.Checked.the-variants.{Passed}
 use Rattle.plan.specs.declared.Refusal.the-variants as refusal
 use Rattle.plan.proofs.Refusals.{firstOf-append, passed-both, passed-need, passed-found}
-use Rattle.plan.specs.Plans.{Plan, isInput, inputCount, coinCount, outWiresOf, outWires, ownInputsOf, ownInputs}
+use Rattle.plan.specs.Plans.{Plan, inputOwners, inputCount, coinCount, outWiresOf, outWires, ownOf, ownInputs}
 use Rattle.plan.specs.File.{planChecks, planCheck, planOf}
 use Rattle.plan_coalition.specs.Coalitions.{inSet, members, setOk}
 use Rattle.run_protocol.specs.Ideal.{values, granted}
-use Rattle.run_protocol.proofs.Lists.{map-all}
-use Rattle.run_views.specs.ViewCounts.{viewCount}
-use Rattle.match_agreement.specs.MatchCalls.{inputOwners, inputsAgree, outsAgree, pairChecks, matchAnswer}
-use Rattle.demands.specs.Demands.{Inputs, Coins, Alike, SameBytes}
+use Rattle.run_protocol.specs.Rounds.{viewCount}
+use Rattle.run_protocol.specs.Settings.{Inputs, Coins}
+use Rattle.sharing_laws.proofs.Lists.{map-all}
+use Rattle.match_agreement.specs.MatchCalls.{inputsAgree, outsAgree, pairChecks, matchAnswer}
+use Rattle.demands.specs.Demands.{Alike, SameBytes}
 use Rattle.demands.specs.Further.{MatchedBytes}
 use Rattle.demands.proofs.Third.{each-member}
 use Rattle.demands.proofs.First.{first-passed}
@@ -41,26 +39,21 @@ either-back false x y h e = absurd (let z : _≡_ {A = ℕ} 0 1 = ap (λ (u : Bo
 
 -- ---- what refusal 21 leaves
 module _ (set i : ℕ) (on : inSet set i ≡ true) where
-  own-same : (gs : List Gate) (xs ys : List ℕ) → ((j : ℕ) → j < countWhere isInput gs → inSet set (getD (inputOwners gs) j 0) ≡ true → getD xs j 0 ≡ getD ys j 0)
-      → ownInputsOf i gs xs ≡ ownInputsOf i gs ys
-  unfolding countWhere isInput inputOwners ownInputsOf
+  own-same : (os xs ys : List ℕ) → ((j : ℕ) → j < length os → inSet set (getD os j 0) ≡ true → getD xs j 0 ≡ getD ys j 0) → ownOf i os xs ≡ ownOf i os ys
+  unfolding ownOf
   own-same [] xs ys h = refl
-  own-same (Input s ∷ gs) xs ys h =
-      step (eqb i s) refl (own-same gs (drop 1 xs) (drop 1 ys) (λ j l e. later j (h (suc j) (omega arith) e)))
+  own-same (s ∷ os) xs ys h =
+      step (eqb i s) refl (own-same os (drop 1 xs) (drop 1 ys) (λ j l e. later j (h (suc j) (omega arith) e)))
     where
       later : (j : ℕ) → getD xs (suc j) 0 ≡ getD ys (suc j) 0 → getD (drop 1 xs) j 0 ≡ getD (drop 1 ys) j 0
       later j e =
           let s : 1 + j ≡ suc j = omega arith in
           getD-drop 1 xs j 0 ∙ ap (λ (k : ℕ). getD xs k 0) s ∙ e ∙ ap (λ (k : ℕ). getD ys k 0) (sym s) ∙ sym (getD-drop 1 ys j 0)
 
-      step : (b : Bool) → eqb i s ≡ b → ownInputsOf i gs (drop 1 xs) ≡ ownInputsOf i gs (drop 1 ys)
-          → cond b (getD xs 0 0 ∷ ownInputsOf i gs (drop 1 xs)) (ownInputsOf i gs (drop 1 xs)) ≡ cond b (getD ys 0 0 ∷ ownInputsOf i gs (drop 1 ys)) (ownInputsOf i gs (drop 1 ys))
+      step : (b : Bool) → eqb i s ≡ b → ownOf i os (drop 1 xs) ≡ ownOf i os (drop 1 ys)
+          → cond b (getD xs 0 0 ∷ ownOf i os (drop 1 xs)) (ownOf i os (drop 1 xs)) ≡ cond b (getD ys 0 0 ∷ ownOf i os (drop 1 ys)) (ownOf i os (drop 1 ys))
       step true e r = ap₂ (λ (x : ℕ) (l : List ℕ). x ∷ l) (h 0 (omega arith) (ap (inSet set) (sym (eqb-true i s e)) ∙ on)) r
       step false e r = r
-  own-same (Add a b ∷ gs) xs ys h = own-same gs xs ys h
-  own-same (Scale a c ∷ gs) xs ys h = own-same gs xs ys h
-  own-same (Offset a c ∷ gs) xs ys h = own-same gs xs ys h
-  own-same (Multiply a b ∷ gs) xs ys h = own-same gs xs ys h
 
   -- ---- what refusal 22 leaves
   outs-same : (f g : ℕ → ℕ) (os : List Output)
@@ -81,9 +74,9 @@ module _ (plan : Plan) (set : ℕ) (ok : setOk plan set ≡ true) (xs ys : List 
   inputs-left e =
       map-all (λ i. ownInputs plan i xs) (λ i. ownInputs plan i ys) (members set)
       (each-member (λ i. ownInputs plan i xs ≡ ownInputs plan i ys) plan set ok
-      (λ i l m on. own-same set i on (plan .gates) xs ys
-      (λ j q. either-back (inSet set (getD (inputOwners (plan .gates)) j 0)) (getD xs j 0) (getD ys j 0)
-      (nothing-passes (λ j. not (inSet set (getD (inputOwners (plan .gates)) j 0)) || eqb (getD xs j 0) (getD ys j 0)) (inputCount plan) (passed-found refusal.InputsDiffer _ e) j q))))
+      (λ i l m on. own-same set i on (inputOwners plan) xs ys
+      (λ j q. either-back (inSet set (getD (inputOwners plan) j 0)) (getD xs j 0) (getD ys j 0)
+      (nothing-passes (λ j. not (inSet set (getD (inputOwners plan) j 0)) || eqb (getD xs j 0) (getD ys j 0)) (inputCount plan) (passed-found refusal.InputsDiffer _ e) j q))))
 
   outs-left : outsAgree plan set (values plan xs) (values plan ys) ≡ Passed → map (granted plan xs) (members set) ≡ map (granted plan ys) (members set)
   unfolding outsAgree granted outWires
@@ -140,9 +133,9 @@ module _ (bytes : List ℕ) (set : ℕ) (first second coins out view view′ : L
   unfolding planChecks pairChecks
   coins-small = firstOver-nothing (planOf bytes .p) (numbers coins) (passed-found refusal.CoinValue _ (each 14))
 
-  out-long : length out ≡ 2 * coinCount (planOf bytes)
+  out-long : length out ≡ width * coinCount (planOf bytes)
   unfolding planChecks pairChecks
-  out-long = eqb-true (length out) (2 * coinCount (planOf bytes)) (passed-need refusal.BufferLength _ (each 15))
+  out-long = eqb-true (length out) (width * coinCount (planOf bytes)) (passed-need refusal.BufferLength _ (each 15))
 
   agreed : inputsAgree (planOf bytes) set (numbers first) (numbers second) ≡ Passed
   unfolding planChecks pairChecks
@@ -171,7 +164,7 @@ module _ (bytes : List ℕ) (set : ℕ) (first second coins out view view′ : L
     grants = outs-left (planOf bytes) set set-passes (numbers first) (numbers second) granted-same;
   }
 
-  both : length view ≡ 2 * viewCount (planOf bytes) (members set) → length view′ ≡ 2 * viewCount (planOf bytes) (members set) → SameBytes bytes set first second coins out view view′
+  both : length view ≡ width * viewCount (planOf bytes) (members set) → length view′ ≡ width * viewCount (planOf bytes) (members set) → SameBytes bytes set first second coins out view view′
   both room room′ =
       subst (λ (a : List ℕ). SameBytes bytes set a second coins out view view′) (whole-bytes (inputCount (planOf bytes)) first b1 first-count)
       (subst (λ (a : List ℕ). SameBytes bytes set (bytesOf (numbers first)) a coins out view view′) (whole-bytes (inputCount (planOf bytes)) second b2 second-count)

@@ -2,10 +2,10 @@
 --     flat-split                                lists of the same lengths, joined to the same, are the same
 --     same-pieces                               the claim
 -- Assumes nothing.
-use Prim.Native.Nat.{ℕ, suc, _+_, _<_, _≤_, _^_}
+use Prim.Native.Nat.{ℕ, zero, suc, _≤_, _^_}
 use mathlib.Core.Path.{_≡_, refl, sym, ap, ap₂, _∙_}
 use mathlib.Core.Bool.{true}
-use mathlib.Core.List.{List, [], _∷_, _++_, map, flatMap}
+use mathlib.Core.List.{List, [], _∷_, _++_, map, flatMap, append-nil}
 use native.Mathlib.Omega.{arith}
 use borrow.Author.Tests.{ltb-true}
 use lib.Dec.{ltb, leb}
@@ -16,23 +16,22 @@ use Rattle.numbers.proofs.Tables.{length-tab, getD-tab}
 use Rattle.numbers.proofs.Truth.{both-true}
 use Rattle.sharing_laws.specs.Interp.{All}
 use Rattle.sharing_laws.proofs.Alls.{all-tab}
-use Rattle.plan.specs.Plans.{Plan, partyCount, multiplies, ownInputCount, ownCoinCount, ownInputs, ownCoins, outWires, mailCount}
+use Rattle.sharing_laws.proofs.Lists.{getD-map-in}
+use Rattle.plan.specs.Plans.{partyCount, lastCall, ownInputs, ownCoins, mailCount}
 use Rattle.plan.specs.declared.Checked.the-variants.{Passed}
 use Rattle.plan.specs.File.{planCheck, planOf}
-use Rattle.plan.proofs.Valid.{Valid, valid}
+use Rattle.plan.proofs.Valid.{valid}
 use Rattle.plan_coalition.specs.Coalitions.{inSet, members, setOk}
-use Rattle.run_protocol.specs.Rounds.{mailTo, round, results, mails, viewOf, view}
-use Rattle.run_protocol.specs.Ideal.{values, granted}
-use Rattle.run_protocol.proofs.Lists.{length-map, getD-map-in}
-use Rattle.run_protocol.proofs.Counts.{total, total-all, length-flatMap, mail-count}
-use Rattle.run_protocol.proofs.Carried.{results-table}
-use Rattle.run_protocol.proofs.Openings.{results-right}
-use Rattle.run_protocol.proofs.Accepted.{own-inputs-count, own-coins-count}
+use Rattle.run_protocol.specs.Rounds.{mailTo, after, results, mails, viewOf, view, viewCount}
+use Rattle.run_protocol.specs.Ideal.{granted}
+use Rattle.run_protocol.specs.Settings.{Coins}
+use Rattle.run_protocol.proofs.Counts.{mail-count}
 use Rattle.match_privacy.specs.Matching.{matchedCoins}
+use Rattle.match_privacy.specs.Bijections.{Private}
 use Rattle.match_privacy.proofs.SetMembers.{in-below}
-use Rattle.demands.specs.Demands.{Inputs, Coins, Alike}
-use Rattle.demands.specs.Lists.{PrivateRun}
+use Rattle.demands.specs.Demands.{Given, Alike}
 use Rattle.demands.specs.Further.{Pieces, SamePieces}
+use Rattle.demands.proofs.Second.{alone}
 use Rattle.demands.proofs.Third.{each-member, runs-private}
 use Rattle.demands.proofs.Agreeing.{at-member}
 use Rattle.demands.proofs.Bounds.{parties-few}
@@ -51,36 +50,11 @@ flat-split f g (i ∷ is) l e =
     ap₂ (λ (x : List ℕ) (r : List (List ℕ)). x ∷ r) (front-same (f i) (flatMap f is) (g i) (flatMap g is) (l .0) e)
     (flat-split f g is (l .1) (back-same (f i) (flatMap f is) (g i) (flatMap g is) (l .0) e))
 
--- ---- how many numbers each piece has
-module _ (plan : Plan) (v : Valid plan) (xs c : List ℕ) (small : Inputs plan xs) (s : Coins plan c) (i : ℕ) (from1 : 1 ≤ i) (upto : i ≤ partyCount plan) where
-  results-granted : results plan xs c i ≡ granted plan xs i
-  results-granted = results-table plan v xs c (s .count) i from1 upto ∙ results-right plan v xs c (small .small) i
-
-  length-results : length (results plan xs c i) ≡ length (outWires plan i)
-  unfolding granted
-  length-results = ap length results-granted ∙ length-map (λ w. getD (values plan xs) w 0) (outWires plan i)
-
-  pub length-mails : length (mails plan xs c i) ≡ total (λ k. mailCount plan i (suc k)) (tab (λ k. k) (multiplies plan + 2))
-  unfolding mails
-  length-mails =
-      length-flatMap (λ k. mailTo i (round plan xs c k)) (tab (λ k. k) (multiplies plan + 2))
-      ∙ total-all (λ k. length (mailTo i (round plan xs c k))) (λ k. mailCount plan i (suc k)) (tab (λ k. k) (multiplies plan + 2))
-      (all-tab (λ k. length (mailTo i (round plan xs c k)) ≡ mailCount plan i (suc k)) (λ k. k) (multiplies plan + 2) (λ k l. mail-count plan v xs c (s .count) k i (omega arith) from1 upto))
-
-  pub length-view : length (viewOf plan xs c i)
-      ≡ ownInputCount plan i + (ownCoinCount plan i + (total (λ k. mailCount plan i (suc k)) (tab (λ k. k) (multiplies plan + 2)) + length (outWires plan i)))
-  unfolding viewOf
-  length-view =
-      length-append (ownInputs plan i xs) _
-      ∙ ap₂ (λ (a b : ℕ). a + b) (own-inputs-count plan v i xs)
-      (length-append (ownCoins plan i c) _ ∙ ap₂ (λ (a b : ℕ). a + b) (own-coins-count plan v i c from1 (s .count))
-      (length-append (mails plan xs c i) (results plan xs c i) ∙ ap₂ (λ (a b : ℕ). a + b) length-mails length-results))
-
 module _ (bytes : List ℕ) (set : ℕ) (xs ys c : List ℕ) (alike : Alike bytes set xs ys) (s : Coins (planOf bytes) c) (i : ℕ) (from1 : 1 ≤ i) (on : inSet set i ≡ true) where
   passes : planCheck bytes ≡ Passed
   passes = alike .passes
 
-  by-demand : PrivateRun (planOf bytes) (members set) xs ys
+  by-demand : Private (planOf bytes) (members set) xs ys
   by-demand = runs-private bytes set xs ys alike
 
   unfoldable moved : List ℕ
@@ -106,45 +80,65 @@ module _ (bytes : List ℕ) (set : ℕ) (xs ys c : List ℕ) (alike : Alike byte
   unfolding moved
   coins-same = sym (at-i (λ j. ownCoins (planOf bytes) j (matchedCoins (planOf bytes) (members set) xs ys c)) (λ j. ownCoins (planOf bytes) j c) (by-demand .keeps c s))
 
-  results-same : results (planOf bytes) xs c i ≡ results (planOf bytes) ys moved i
-  results-same =
-      results-granted (planOf bytes) (valid bytes passes) xs c (alike .first) s i from1 upto
-      ∙ at-i (granted (planOf bytes) xs) (granted (planOf bytes) ys) (alike .grants)
-      ∙ sym (results-granted (planOf bytes) (valid bytes passes) ys moved (alike .second) moved-coins i from1 upto)
+  first-given : Given bytes xs c
+  first-given = record { passes = passes; inputs = alike .first; settings = s }
 
-  views-split : map (viewOf (planOf bytes) xs c) (members set) ≡ map (viewOf (planOf bytes) ys moved) (members set)
+  second-given : Given bytes ys moved
+  second-given = record { passes = passes; inputs = alike .second; settings = moved-coins }
+
+  results-same : results (planOf bytes) xs c [] i ≡ results (planOf bytes) ys moved [] i
+  results-same =
+      alone bytes xs c first-given .correct i from1 upto
+      ∙ at-i (granted (planOf bytes) xs) (granted (planOf bytes) ys) (alike .grants)
+      ∙ sym (alone bytes ys moved second-given .correct i from1 upto)
+
+  -- a party's view has the plan's count in both runs
+  view-long : (zs d : List ℕ) → Given bytes zs d → (j : ℕ) → 1 ≤ j → j ≤ partyCount (planOf bytes) → length (viewOf (planOf bytes) zs d [] j) ≡ viewCount (planOf bytes) (j ∷ [])
+  unfolding view flatMap
+  view-long zs d g j l m = sym (ap length (append-nil (viewOf (planOf bytes) zs d [] j))) ∙ alone bytes zs d g .seen (j ∷ []) ((l, m), tt)
+
+  views-split : map (viewOf (planOf bytes) xs c []) (members set) ≡ map (viewOf (planOf bytes) ys moved []) (members set)
   unfolding view moved
   views-split =
-      flat-split (viewOf (planOf bytes) xs c) (viewOf (planOf bytes) ys moved) (members set)
-      (each-member (λ j. length (viewOf (planOf bytes) xs c j) ≡ length (viewOf (planOf bytes) ys moved j)) (planOf bytes) set (alike .set-passes)
-      (λ j l m e. length-view (planOf bytes) (valid bytes passes) xs c (alike .first) s j l m ∙ sym (length-view (planOf bytes) (valid bytes passes) ys moved (alike .second) moved-coins j l m)))
+      flat-split (viewOf (planOf bytes) xs c []) (viewOf (planOf bytes) ys moved []) (members set)
+      (each-member (λ j. length (viewOf (planOf bytes) xs c [] j) ≡ length (viewOf (planOf bytes) ys moved [] j)) (planOf bytes) set (alike .set-passes)
+      (λ j l m e. view-long xs c first-given j l m ∙ sym (view-long ys moved second-given j l m)))
       (by-demand .same-view c s)
 
-  mails-same : mails (planOf bytes) xs c i ≡ mails (planOf bytes) ys moved i
+  mails-same : mails (planOf bytes) xs c [] i ≡ mails (planOf bytes) ys moved [] i
   unfolding viewOf
   mails-same =
-      let v : viewOf (planOf bytes) xs c i ≡ viewOf (planOf bytes) ys moved i = at-i (viewOf (planOf bytes) xs c) (viewOf (planOf bytes) ys moved) views-split in
-      front-same (mails (planOf bytes) xs c i) (results (planOf bytes) xs c i) (mails (planOf bytes) ys moved i) (results (planOf bytes) ys moved i)
-      (length-mails (planOf bytes) (valid bytes passes) xs c (alike .first) s i from1 upto ∙ sym (length-mails (planOf bytes) (valid bytes passes) ys moved (alike .second) moved-coins i from1 upto))
-      (back-same (ownCoins (planOf bytes) i c) _ (ownCoins (planOf bytes) i moved) _ (ap length coins-same)
-      (back-same (ownInputs (planOf bytes) i xs) _ (ownInputs (planOf bytes) i ys) _ (ap length inputs-same) v))
+      let v : viewOf (planOf bytes) xs c [] i ≡ viewOf (planOf bytes) ys moved [] i = at-i (viewOf (planOf bytes) xs c []) (viewOf (planOf bytes) ys moved []) views-split in
+      let rest : mails (planOf bytes) xs c [] i ++ results (planOf bytes) xs c [] i ≡ mails (planOf bytes) ys moved [] i ++ results (planOf bytes) ys moved [] i =
+      back-same (ownCoins (planOf bytes) i c) _ (ownCoins (planOf bytes) i moved) _ (ap length coins-same)
+      (back-same (ownInputs (planOf bytes) i xs) _ (ownInputs (planOf bytes) i ys) _ (ap length inputs-same) v) in
+      front-same (mails (planOf bytes) xs c [] i) (results (planOf bytes) xs c [] i) (mails (planOf bytes) ys moved [] i) (results (planOf bytes) ys moved [] i)
+      (omega (
+        arith,
+        ap (λ (l : List ℕ). length l) rest,
+        ap (λ (l : List ℕ). length l) results-same,
+        length-append (mails (planOf bytes) xs c [] i) (results (planOf bytes) xs c [] i),
+        length-append (mails (planOf bytes) ys moved [] i) (results (planOf bytes) ys moved [] i),
+      ))
+      rest
 
-  round-same : (k : ℕ) → k ≤ multiplies (planOf bytes) + 1 → mailTo i (round (planOf bytes) xs c k) ≡ mailTo i (round (planOf bytes) ys moved k)
-  unfolding mails
-  round-same k l =
-      let n : ℕ = multiplies (planOf bytes) + 2 in
-      let f : ℕ → List ℕ = λ k. mailTo i (round (planOf bytes) xs c k) in
-      let g : ℕ → List ℕ = λ k. mailTo i (round (planOf bytes) ys moved k) in
+  mail-long : (zs d : List ℕ) (k : ℕ) → k ≤ lastCall (planOf bytes) → length (mailTo i (after (planOf bytes) zs d [] k)) ≡ mailCount (planOf bytes) i k
+  mail-long zs d k l = mail-count (planOf bytes) (valid bytes passes) zs d [] i from1 upto k l
+
+  round-same : (k : ℕ) → k ≤ lastCall (planOf bytes) → mailTo i (after (planOf bytes) xs c [] k) ≡ mailTo i (after (planOf bytes) ys moved [] k)
+  unfolding mails after
+  round-same zero l = refl
+  round-same (suc k) l =
+      let n : ℕ = lastCall (planOf bytes) in
+      let f : ℕ → List ℕ = λ k. mailTo i (after (planOf bytes) xs c [] (suc k)) in
+      let g : ℕ → List ℕ = λ k. mailTo i (after (planOf bytes) ys moved [] (suc k)) in
       let e : map f (tab (λ k. k) n) ≡ map g (tab (λ k. k) n) =
       flat-split f g (tab (λ k. k) n)
-      (all-tab (λ k. length (f k) ≡ length (g k)) (λ k. k) n
-      (λ k l. mail-count (planOf bytes) (valid bytes passes) xs c (s .count) k i (omega arith) from1 upto
-      ∙ sym (mail-count (planOf bytes) (valid bytes passes) ys moved (moved-coins .count) k i (omega arith) from1 upto)))
+      (all-tab (λ k. length (f k) ≡ length (g k)) (λ k. k) n (λ k l. mail-long xs c (suc k) (omega arith) ∙ sym (mail-long ys moved (suc k) (omega arith))))
       mails-same in
-      let at : k < n = omega arith in
-      sym (getD-map-in f (tab (λ k. k) n) k 0 [] (omega (arith, length-tab {A = ℕ} (λ k. k) n)) ∙ ap f (getD-tab (λ k. k) n k 0 at))
+      sym (getD-map-in f (tab (λ k. k) n) k 0 [] (omega (arith, length-tab {A = ℕ} (λ k. k) n)) ∙ ap f (getD-tab (λ k. k) n k 0 l))
       ∙ ap (λ (r : List (List ℕ)). getD r k []) e
-      ∙ getD-map-in g (tab (λ k. k) n) k 0 [] (omega (arith, length-tab {A = ℕ} (λ k. k) n)) ∙ ap g (getD-tab (λ k. k) n k 0 at)
+      ∙ getD-map-in g (tab (λ k. k) n) k 0 [] (omega (arith, length-tab {A = ℕ} (λ k. k) n)) ∙ ap g (getD-tab (λ k. k) n k 0 l)
 
   all-pieces : Pieces (planOf bytes) i xs c ys moved
   all-pieces = record { inputs = inputs-same; coins = coins-same; mail = round-same; result = results-same }

@@ -1,66 +1,55 @@
 -- On lists: no call of a run is refused, the results are the plan's own arithmetic, and the elements sent are counted.
-use Prim.Native.Nat.{ℕ, _+_, _*_, _≤_, _<_}
-use mathlib.Core.Path.{_≡_, refl, ap, _∙_}
-use mathlib.Core.Bool.{true}
-use mathlib.Core.List.{List, [], _∷_, map}
+--     alone                    the theory's law of a whole run, for a plan that is read from a file
+--     takes                    what a call of such a run takes
+--     runs-right               the claim
+-- Assumes nothing.
+use Prim.Native.Nat.{ℕ, _≤_, _<_}
+use mathlib.Core.Path.{_≡_, refl}
+use mathlib.Core.List.{List, []}
 use native.Mathlib.Omega.{arith}
-use lib.ListN.{length, getD}
-use Rattle.numbers.specs.Bytes.{wordAt, allBelow}
-use Rattle.numbers.proofs.Counts.{countWhere-le-length}
+use Rattle.numbers.specs.Bytes.{limit, allBelow}
 use Rattle.plan.specs.declared.Checked.the-variants.{Passed}
-use Rattle.plan.specs.Refusals.{firstOf, andThen}
-use Rattle.plan.specs.Plans.{Plan, partyCount, parties, multiplies, isMultiply}
-use Rattle.plan.specs.File.{planChecks, planCheck, planOf, pAt, headerOf}
-use Rattle.plan.proofs.Refusals.{firstOf-append, andThen-passed}
-use Rattle.plan.specs.Planned.{Planned}
-use Rattle.plan.proofs.Planned.{planned, plan-p, plan-gates}
-use Rattle.plan.proofs.Valid.{Valid, valid}
-use Rattle.seat_messages.specs.Calls.{partyChecks, callChecks, callAnswer}
-use Rattle.run_protocol.specs.Rounds.{results}
-use Rattle.run_protocol.specs.Ideal.{granted}
-use Rattle.run_protocol.proofs.Lists.{map-all}
-use Rattle.run_protocol.proofs.Sound.{input-below}
-use Rattle.run_protocol.proofs.Carried.{each-party, results-table}
-use Rattle.run_protocol.proofs.Openings.{results-right}
-use Rattle.run_protocol.proofs.Counts.{sent-all}
-use Rattle.run_protocol.proofs.Accepted.{run-accepted}
-use Rattle.demands.specs.Lists.{RightRun, RunsRight}
+use Rattle.plan.specs.Plans.{Plan, partyCount, kindCount, lastCall}
+use Rattle.plan.specs.File.{planChecks, planCheck, planOf}
+use Rattle.plan.proofs.Valid.{Valid, valid, sized, plain, plain-no-7}
+use Rattle.seat_messages.specs.Calls.{callChecks, callAnswer}
+use Rattle.run_protocol.specs.Rounds.{callOf, mailTo, after}
+use Rattle.run_protocol.proofs.Given.{tabled-none}
+use Rattle.run_protocol.proofs.Sound.{no-triples, none-off}
+use Rattle.plan.proofs.Refusals.{both-pass}
+use Rattle.run_protocol.proofs.Accepted.{steps-few, Taken, run-taken}
+use Rattle.run_protocol.proofs.Whole.{Whole, whole-alone}
+use Rattle.demands.specs.Demands.{Given}
+use Rattle.demands.specs.Lists.{RunsRight}
 
--- the plan's checks, then the party's
-answer-passed : (bs : List ℕ) (i : ℕ) (inputs coins state mail : List ℕ) (room : ℕ) → planCheck bs ≡ Passed
-    → firstOf (partyChecks (planOf bs) i inputs coins state mail room) ≡ Passed → callAnswer bs i inputs coins state mail room ≡ Passed
-unfolding callAnswer callChecks planCheck
-answer-passed bs i inputs coins state mail room e f =
-    firstOf-append (planChecks bs) (partyChecks (planOf bs) i inputs coins state mail room) ∙ andThen-passed _ _ e ∙ f
+-- ---- a plan that is read from a file spends no triple
+pub spends-none : (bytes : List ℕ) → planCheck bytes ≡ Passed → kindCount (planOf bytes) 7 ≡ 0
+spends-none bytes passes = plain-no-7 (planOf bytes) (plain bytes passes)
 
--- a number of two bytes
-pub word-small : (bs : List ℕ) (at : ℕ) → allBelow 256 bs ≡ true → wordAt bs at < 65536
-unfolding wordAt
-word-small bs at b = omega (arith, input-below 256 bs (omega arith) b at, input-below 256 bs (omega arith) b (at + 1))
+pub small-prime : (bytes : List ℕ) → planCheck bytes ≡ Passed → planOf bytes .p ≤ limit
+small-prime bytes passes = sized bytes passes .few
 
-few-multiplies : (plan : Plan) → length (plan .gates) ≤ 1024 → multiplies plan + 3 ≤ 65536
-unfolding multiplies
-few-multiplies plan l = omega (arith, countWhere-le-length isMultiply (plan .gates))
+pub few-calls : (bytes : List ℕ) → planCheck bytes ≡ Passed → lastCall (planOf bytes) < limit
+few-calls bytes passes = omega (arith, sized bytes passes .short, steps-few (planOf bytes))
 
-pub small-prime : (bytes : List ℕ) → allBelow 256 bytes ≡ true → planCheck bytes ≡ Passed → planOf bytes .p ≤ 65536
-small-prime bytes is-bytes passes =
-    let h : Planned bytes (headerOf bytes) = planned bytes (word-small bytes 8 is-bytes) passes in
-    omega (arith, plan-p h, h .p-high)
+pub alone : (bytes xs coins : List ℕ) → Given bytes xs coins → Whole (planOf bytes) xs coins []
+alone bytes xs coins given =
+    whole-alone (planOf bytes) (valid bytes (given .passes)) (sized bytes (given .passes)) xs coins (given .inputs) (given .settings) (spends-none bytes (given .passes))
 
-pub few : (bytes : List ℕ) → allBelow 256 bytes ≡ true → planCheck bytes ≡ Passed → multiplies (planOf bytes) + 3 ≤ 65536
-few bytes is-bytes passes =
-    let h : Planned bytes (headerOf bytes) = planned bytes (word-small bytes 8 is-bytes) passes in
-    few-multiplies (planOf bytes) (omega (arith, plan-gates h, h .gates-high))
+pub takes :
+    (bytes xs coins : List ℕ) → Given bytes xs coins → (i k : ℕ) → 1 ≤ i → i ≤ partyCount (planOf bytes) → k ≤ lastCall (planOf bytes)
+    → Taken (planOf bytes) i k (callOf i (after (planOf bytes) xs coins [] k) .triples) (callOf i (after (planOf bytes) xs coins [] k) .state)
+    (mailTo i (after (planOf bytes) xs coins [] k))
+takes bytes xs coins given i k from1 upto l =
+    let plan : Plan = planOf bytes in
+    let v : Valid plan = valid bytes (given .passes) in
+    run-taken plan v (sized bytes (given .passes)) xs coins [] [] (given .settings .count) (tabled-none plan [] (spends-none bytes (given .passes))) (unfold allBelow in refl)
+    (λ w h. none-off plan v xs coins [] [] (no-triples plan) (given .inputs .small) w) i from1 upto k l
 
 pub runs-right : RunsRight
+unfolding callAnswer callChecks planCheck
 runs-right bytes xs coins is-bytes given = record {
-  accepted = λ k i l from1 upto room fits. answer-passed bytes i _ _ _ _ room (given .passes)
-      (run-accepted (planOf bytes) v (small-prime bytes is-bytes (given .passes)) (few bytes is-bytes (given .passes)) xs coins (given .inputs .small) (given .settings .count) (given .settings .small) k i l from1 upto room fits);
-  correct = map-all (results (planOf bytes) xs coins) (granted (planOf bytes) xs) (parties (planOf bytes))
-      (each-party (planOf bytes) (λ i. results (planOf bytes) xs coins i ≡ granted (planOf bytes) xs i)
-      (λ i from1 upto. results-table (planOf bytes) v xs coins (given .settings .count) i from1 upto ∙ results-right (planOf bytes) v xs coins (given .inputs .small) i));
-  sent = sent-all (planOf bytes) v xs coins;
+  accepted = λ k i l from1 upto room fits. both-pass (planChecks bytes) _ (given .passes) (alone bytes xs coins given .accepted k i l from1 upto room fits);
+  correct = alone bytes xs coins given .correct;
+  sent = alone bytes xs coins given .sent;
 }
-  where
-    v : Valid (planOf bytes)
-    v = valid bytes (given .passes)

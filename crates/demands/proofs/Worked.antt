@@ -1,29 +1,30 @@
 -- The table of sums holds, by computation.
 use mathlib.Core.Path.{_≡_, refl}
 use mathlib.Core.List.{flatMap}
-use Rattle.numbers.specs.Tables.{tab, firstFrom, firstFailing, countWhere}
-use Rattle.numbers.specs.Bytes.{wordAt, numbers, bytesOf, holdsCount, firstOver, allBelow}
+use Rattle.numbers.specs.Tables.{tab, firstFrom, firstFailing, countWhere, total}
+use Rattle.numbers.specs.Bytes.{numberAt, bytesFrom, wordAt, numbers, bytesOf, holdsCount, firstOver, allBelow}
 use Rattle.field.specs.Mod.{add, mul, sub}
-use Rattle.field.specs.Prime.{isPrime, divisorFrom, divisorOf, inv, invert}
+use Rattle.field.specs.Prime.{divisorFrom, divisorOf, isPrime, invert, inv}
 use Rattle.sharing_laws.specs.Poly.{eval, sumOf, scale, linear}
 use Rattle.sharing_laws.specs.Interp.{factor, weight, weights, dot, interpolate, delta}
-use Rattle.sharing_laws.specs.Sharing.{matched, opened, firstOff}
+use Rattle.sharing_laws.specs.Sharing.{opened, firstOff, mixture, matched}
+use Rattle.sharing_laws.specs.Basis.{sumAll, basis, fitted, entry, row, matchedZero}
 use Rattle.plan.specs.Refusals.{numberOf, placeOf, codeOf, andThen, firstOf, need, unlessFound}
-use Rattle.plan.specs.Plans.{partyCount, parties, pointOf, dealerCount, dealerPoints, openingPoints, isInput, isInputOf, isMultiply, dealersOf, deals, dealings, wiresFrom, wiresWhere, multiplies, multiplyWire, inputWires, outWiresOf, outWires, inputCount, ownInputCount, coinCount, dealingsBelow, ownCoinCount, ownOutCount, ownInputsOf, ownInputs, ownBlocks, ownCoins, coinsAt, mailCount, writtenCount}
+use Rattle.plan.specs.Plans.{partyCount, parties, pointOf, dealerCount, dealerPoints, kindOf, isKind, kindCount, operandsOf, isInputOf, wiresFrom, inputWires, outWiresOf, outWires, inputOwnersAt, firstDealings, multiplyDealings, dealingsAt, coinOwnersAt, inputOwners, coinOwners, ownOf, ownInputs, ownCoins, inputAt, coinsAt, tripleNumbers, tripleAt, ownTriples, multiplySteps, stepsAt, stepsFrom, steps, stepAt, lastCall, inputCount, ownInputCount, coinCount, ownCoinCount, ownOutCount, received, sentBy, mailCount, writtenCount}
 use Rattle.plan.specs.File.{magic, sameBytes, between, gateOf, gateAt, outAt, gateOk, outOk, gateKept, outKept, layoutOk, planChecks, planCheck, planOf}
 use Rattle.plan_coalition.specs.Coalitions.{inSet, membersFrom, members, setOk}
-use Rattle.seat_messages.specs.Messages.{setAll, wiresByParty, reduced, workGate, workFrom, learn, dealTo, nothing, inputPolys, sendInputs, productAt, sendProduct, sendOuts, send, sharesOfOut, resultsOf, callWith, call}
+use Rattle.seat_messages.specs.Messages.{setAll, fromEach, wiresByParty, openedAt, spentShare, learnt, resumeAt, workGate, workFrom, learnFrom, spendFrom, learn, spend, dealTo, nothing, productAt, sendAt, callWith, call}
 use Rattle.seat_messages.specs.Calls.{onPolynomial, outsCheck, openingCheck, partyChecks, callChecks, callAnswer}
-use Rattle.run_protocol.specs.Rounds.{fresh, noCall, callOf, mailTo, round, results, mails, viewOf, view}
+use Rattle.run_protocol.specs.Rounds.{fresh, noCall, callOf, mailTo, nextCall, nextRound, after, atEnd, results, mails, viewOf, view, viewCountOf, viewCount}
 use Rattle.run_protocol.specs.Ideal.{inputsTaken, gateValue, valuesFrom, values, granted}
-use Rattle.run_protocol.specs.Shares.{wireAt, dealtAt, sharings, piecesAt, gateShare, coinsTaken, sharesFrom, shareTable}
-use Rattle.run_views.specs.ViewCounts.{viewCountOf, viewCount}
+use Rattle.run_protocol.specs.Shares.{wireAt, productOf, zeroPieces, maskedAt, multiplyDealt, dealtAt, sharings, piecesAt, truncatedAt, multiplyShare, differenceAt, differenceOf, gateShare, triplesTaken, past, pastAll, startOf, shareTable}
+use Rattle.run_protocol.specs.Tables.{beforeGate}
 use Rattle.run_bench.specs.BenchCalls.{runChecks, benchAnswer}
-use Rattle.match_privacy.specs.Matching.{isMember, matchedBlocks, matchedAt, matchFrom, matchedCoins}
+use Rattle.match_privacy.specs.Matching.{isMember, matchedBlocks, lowestOf, lowest, changeOf, zeroMatched, absorbedBy, absorbed, withCoins, matchedAt, matchFrom, matchedWith, matchedCoins}
 use Rattle.demands.specs.Sums.{contents, bodies, likeK, K, single, sharesOf, benchOf, lastCallOf, Sums}
 
 pub sums : Sums
-unfolding contents bodies likeK K single sharesOf benchOf lastCallOf tab firstFrom firstFailing countWhere wordAt numbers bytesOf holdsCount firstOver allBelow add mul sub isPrime divisorFrom divisorOf inv invert eval sumOf scale linear factor weight weights dot interpolate delta matched opened firstOff numberOf placeOf codeOf andThen firstOf need unlessFound partyCount parties pointOf dealerCount dealerPoints openingPoints isInput isInputOf isMultiply dealersOf deals dealings wiresFrom wiresWhere multiplies multiplyWire inputWires outWiresOf outWires inputCount ownInputCount coinCount dealingsBelow ownCoinCount ownOutCount ownInputsOf ownInputs ownBlocks ownCoins coinsAt magic sameBytes between gateOf gateAt outAt gateOk outOk gateKept outKept layoutOk planChecks planCheck planOf inSet membersFrom members setOk setAll wiresByParty reduced workGate workFrom learn dealTo nothing inputPolys sendInputs productAt sendProduct sendOuts send sharesOfOut resultsOf callWith call onPolynomial outsCheck openingCheck partyChecks callChecks callAnswer mailCount writtenCount fresh noCall callOf mailTo round results mails viewOf view inputsTaken gateValue valuesFrom values granted wireAt dealtAt sharings piecesAt gateShare coinsTaken sharesFrom shareTable viewCountOf viewCount runChecks benchAnswer isMember matchedBlocks matchedAt matchFrom matchedCoins flatMap
+unfolding contents bodies likeK K single sharesOf benchOf lastCallOf tab firstFrom firstFailing countWhere numberAt bytesFrom wordAt numbers bytesOf holdsCount firstOver allBelow add mul sub divisorFrom divisorOf isPrime invert inv eval sumOf scale linear factor weight weights dot interpolate delta opened firstOff mixture matched sumAll basis fitted entry row matchedZero numberOf placeOf codeOf andThen firstOf need unlessFound partyCount parties pointOf dealerCount dealerPoints kindOf isKind kindCount operandsOf isInputOf wiresFrom inputWires outWiresOf outWires inputOwnersAt firstDealings multiplyDealings dealingsAt coinOwnersAt inputOwners coinOwners ownOf ownInputs ownCoins inputAt coinsAt tripleNumbers tripleAt ownTriples multiplySteps stepsAt stepsFrom steps stepAt lastCall inputCount ownInputCount coinCount ownCoinCount ownOutCount received sentBy mailCount writtenCount magic sameBytes between gateOf gateAt outAt gateOk outOk gateKept outKept layoutOk planChecks planCheck planOf inSet membersFrom members setOk setAll fromEach wiresByParty openedAt spentShare learnt resumeAt workGate workFrom learnFrom spendFrom learn spend dealTo nothing productAt sendAt callWith call onPolynomial outsCheck openingCheck partyChecks callChecks callAnswer fresh noCall callOf mailTo nextCall nextRound after atEnd results mails viewOf view total viewCountOf viewCount inputsTaken gateValue valuesFrom values granted wireAt productOf zeroPieces maskedAt multiplyDealt dealtAt sharings piecesAt truncatedAt multiplyShare differenceAt differenceOf gateShare triplesTaken past pastAll startOf shareTable beforeGate runChecks benchAnswer isMember matchedBlocks lowestOf lowest changeOf zeroMatched absorbedBy absorbed withCoins matchedAt matchFrom matchedWith matchedCoins flatMap
 sums = record {
   p1 = refl;
   p2-weights = refl;

@@ -20,14 +20,14 @@ use Rattle.field.proofs.Primes.{prime-sound}
 use Rattle.plan.specs.declared.Checked.the-variants.{Passed, Refused}
 use Rattle.plan.specs.declared.Refusal.the-variants as refusal
 use Rattle.plan.specs.Refusals.{firstOf, unlessFound}
-use Rattle.plan.specs.Plans.{Plan, partyCount, multiplies, writtenCount}
+use Rattle.plan.specs.Plans.{Plan, partyCount, lastCall, writtenCount}
 use Rattle.plan.specs.File.{modulusOk, planCheck, planOf}
 use Rattle.plan.proofs.Refusals.{passed-both}
 use Rattle.plan.proofs.Planned.{between-true, modulus-prime, modulus-small, Passing, passing}
 use Rattle.plan_file.specs.Bodies.{Bodies, planWith, planFile, contentChecks, outMade}
 use Rattle.plan_file.proofs.Files.{Wired, Sound, n-back, t-back, p-back, plan-back, sound-room, file-check-outs, file-bytes}
 use Rattle.run_protocol.specs.Ideal.{granted}
-use Rattle.demands.specs.Demands.{Inputs, Coins}
+use Rattle.run_protocol.specs.Settings.{Inputs, Coins}
 use Rattle.demands.specs.Apart as apart
 use Rattle.demands.proofs.Apart.{demand2}
 
@@ -62,7 +62,7 @@ module _ (n t p : ℕ) (b : Bodies) (few-gates : length (b .gates) ≤ 1024) (fe
       let both = passed-both (firstOf (contentChecks n t p (length (b .gates)) (length (b .outs)))) (unlessFound refusal.OutputRule (firstFailing (outMade n b) (length (b .outs))))
       (sym (file-check-outs n t p b few-gates few-outs (λ e f. kept)) ∙ passes) in
       let none = not-found (firstFailing (outMade n b) (length (b .outs))) (both .1) in
-      record { gates = kept .gates; outs = λ o l. nothing-passes (outMade n b) (length (b .outs)) none o l }
+      record { low = kept .low; gates = kept .gates; outs = λ o l. nothing-passes (outMade n b) (length (b .outs)) none o l }
 
   pub plan-is : planOf (planFile n t p b) ≡ planWith n t p b
   plan-is = plan-back n t p b few-gates few-outs (sound-room n p b (parties .1) (omega (arith, modulus-small n p modulus)) few-gates sound)
@@ -76,6 +76,6 @@ module _ (n t p : ℕ) (b : Bodies) (few-gates : length (b .gates) ≤ 1024) (fe
 
   pub results : (i : ℕ) (xs coins : List ℕ) (lent : ℕ → ℕ → List ℕ) → 1 ≤ i → i ≤ n → Inputs (planOf (planFile n t p b)) xs → Coins (planOf (planFile n t p b)) coins
       → ((j k : ℕ) → length (lent j k) ≡ width * writtenCount (planOf (planFile n t p b)) j k)
-      → apart.answerOf i (apart.run (planFile n t p b) xs coins lent (multiplies (planOf (planFile n t p b)) + 2)) .out ≡ bytesOf (granted (planOf (planFile n t p b)) xs i)
+      → apart.answerOf i (apart.run (planFile n t p b) xs coins lent (lastCall (planOf (planFile n t p b)))) .out ≡ bytesOf (granted (planOf (planFile n t p b)) xs i)
   results i xs coins lent l u inputs settings room =
       demand2 (planFile n t p b) xs coins lent is-bytes (record { passes = passes; inputs = inputs; settings = settings }) room .results i l (omega (arith, parties-are))

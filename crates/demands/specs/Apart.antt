@@ -2,21 +2,32 @@
 use Prim.Native.Nat.{ℕ, zero, suc, _+_, _-_, _*_}
 use mathlib.Core.Bool.{cond}
 use mathlib.Core.List.{List, [], _∷_, _++_, map, flatMap}
-use lib.Dec.{leb, ltb}
+use lib.Dec.{leb}
 use lib.ListN.{length, take, drop, getD, replicate}
 use Rattle.numbers.specs.Tables.{tab}
 use Rattle.numbers.specs.Bytes.{width, bytesOf}
+use Rattle.plan.specs.declared.Step.{Step}
+use Rattle.plan.specs.declared.Step.the-variants.{DealInputs, DealProduct, DealZero, DealMasked, SendTruncated, DealDraws, OpenSpent, SendOuts}
 use Rattle.plan.specs.declared.Checked.{Checked}
 use Rattle.plan.specs.declared.Checked.the-variants.{Passed}
-use Rattle.plan.specs.Plans.{Plan, parties, dealerCount, multiplies, ownInputCount, ownOutCount, ownInputs, ownCoins}
+use Rattle.plan.specs.Plans.{Plan, parties, dealerCount, inputWires, ownOutCount, ownInputs, ownCoins, stepAt, lastCall}
 use Rattle.plan.specs.File.{planOf}
 use Rattle.seat_messages.specs.Calls.{callAnswer, stateAfter, outAfter}
 
 -- ---- mail carried by hand (include/pool.h: of what a call sends each party gets a part, one after the other)
--- the numbers of what party j's call number k sends that go to party i
+-- the numbers of what party j sends in a step that go to party i, and of what its call number k sends
+unfoldable pub partIn : Plan → ℕ → Step → ℕ → ℕ
+partIn plan j DealInputs i = length (inputWires plan j)
+partIn plan j (DealProduct g a b) i = cond (leb j (dealerCount plan)) 1 0
+partIn plan j (DealZero g) i = 1
+partIn plan j (DealMasked g a b) i = 1
+partIn plan j (SendTruncated g) i = 1
+partIn plan j (DealDraws g) i = 1
+partIn plan j (OpenSpent g a b) i = 2
+partIn plan j SendOuts i = ownOutCount plan i
+
 unfoldable pub partCount : Plan → ℕ → ℕ → ℕ → ℕ
-partCount plan j zero i = ownInputCount plan j
-partCount plan j (suc k) i = cond (ltb k (multiplies plan)) (cond (leb j (dealerCount plan)) 1 0) (ownOutCount plan i)
+partCount plan j k i = partIn plan j (stepAt plan k) i
 
 -- of bytes with a part for party i, one for party i + 1 and so on: the part r parties on
 unfoldable pub partFrom : (ℕ → ℕ) → ℕ → ℕ → List ℕ → List ℕ
@@ -68,8 +79,8 @@ run bytes xs coins lent k =
 unfoldable pub heldBy : List ℕ → List ℕ → List ℕ → (ℕ → ℕ → List ℕ) → ℕ → List ℕ
 heldBy bytes xs coins lent i =
     bytesOf (ownInputs (planOf bytes) i xs) ++ (bytesOf (ownCoins (planOf bytes) i coins)
-    ++ (flatMap (λ k. mailFrom (planOf bytes) k (run bytes xs coins lent k) i) (tab (λ k. k) (multiplies (planOf bytes) + 2))
-    ++ answerOf i (run bytes xs coins lent (multiplies (planOf bytes) + 2)) .out))
+    ++ (flatMap (λ k. mailFrom (planOf bytes) k (run bytes xs coins lent k) i) (tab (λ k. k) (lastCall (planOf bytes)))
+    ++ answerOf i (run bytes xs coins lent (lastCall (planOf bytes))) .out))
 
 -- the bytes that the calls of one number wrote, and those below number k
 unfoldable pub wroteIn : List Answered → ℕ

@@ -5,11 +5,12 @@ use mathlib.Core.Path.{_≡_}
 use mathlib.Core.Logic.{_⊎_}
 use mathlib.Core.List.{List, [], _∷_}
 use lib.ListN.{length, getD, replicate}
+use Rattle.numbers.specs.Tables.{total}
 use Rattle.plan.specs.declared.Checked.the-variants.{Passed}
 use Rattle.plan.specs.Refusals.{codeOf}
 use Rattle.plan.specs.Plans.{Plan, partyCount, sentCount}
 use Rattle.plan.specs.File.{planOf}
-use Rattle.charge_laws.specs.Charges.{total, elements, floorAt, remainderAt, billOf, chargeOf, partBytes}
+use Rattle.charge_laws.specs.Charges.{elements, floorAt, remainderAt, billOf, chargeOf, partBytes}
 use Rattle.charge_call.specs.ChargeCalls.{chargeAnswer, chargeAfter}
 use Rattle.demands.specs.Sums.{likeK}
 

@@ -1,29 +1,28 @@
 -- What is claimed of an imported circuit (document 02, R-1): "For figures of 0 and 1 the plan's results equal the circuit's bits." And the
 -- worked example, as one table.
-use Prim.Native.Nat.{ℕ, suc, _+_, _*_}
+use Prim.Native.Nat.{ℕ, suc, _*_}
 use Prim.Native.Char.{code}
 use Prim.Native.String.{String}
 use Prim.Native.String as string
 use mathlib.Core.Path.{_≡_}
 use mathlib.Core.Bool.{true}
-use mathlib.Core.List.{List, [], _∷_, _++_}
+use mathlib.Core.List.{List, [], _∷_}
 use lib.ListN.{length, getD, take, drop}
 use Rattle.numbers.specs.Bytes.{width, bytesOf, allBelow}
 use Rattle.plan.specs.declared.Gate.{Gate}
-use Rattle.plan.specs.declared.Gate.the-variants.{Input, Add, Scale, Offset, Multiply}
-use Rattle.plan.specs.declared.Output.{Output}
+use Rattle.plan.specs.declared.Gate.the-variants.{Input, Add, Scale, Multiply}
 use Rattle.plan.specs.declared.Checked.the-variants.{Passed}
 use Rattle.plan.specs.Refusals.{codeOf}
-use Rattle.plan.specs.Plans.{Plan, multiplies, ownInputs, writtenCount}
+use Rattle.plan.specs.Plans.{lastCall, ownInputs, writtenCount}
 use Rattle.plan.specs.File.{planCheck, planOf}
 use Rattle.run_protocol.specs.Ideal.{granted}
+use Rattle.run_protocol.specs.Settings.{Inputs, Coins}
 use Rattle.import_lines.specs.Places.{sumOf}
 use Rattle.import_text.specs.Circuits.{Circuit, circuitOf}
 use Rattle.import_circuit.specs.Wires.{inputWires}
 use Rattle.import_circuit.specs.Bits.{circuitBits}
 use Rattle.import_call.specs.Importing.{importBodies, importFile, importAnswer, importAfter}
 use Rattle.pool_answers.specs.Sizes.{importSize}
-use Rattle.demands.specs.Demands.{Inputs, Coins}
 use Rattle.demands.specs.Apart as apart
 
 -- ---- the plan that was written for a circuit, with figures that are a bit for each input wire
@@ -40,7 +39,7 @@ pub record SameBits (c : Circuit) (bytes xs : List ℕ) : Type 0 where
   pub results :
       (coins : List ℕ) (lent : ℕ → ℕ → List ℕ) → Coins (planOf bytes) coins
       → ((i k : ℕ) → length (lent i k) ≡ width * writtenCount (planOf bytes) i k)
-      → apart.answerOf 1 (apart.run bytes xs coins lent (multiplies (planOf bytes) + 2)) .out ≡ bytesOf (circuitBits c xs)
+      → apart.answerOf 1 (apart.run bytes xs coins lent (lastCall (planOf bytes))) .out ≡ bytesOf (circuitBits c xs)
 
 -- for every text that imports, and every list of figures of 0 and 1 with its count
 abbrev pub Imported : Type 0

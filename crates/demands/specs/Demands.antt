@@ -1,5 +1,5 @@
 -- The three demands, on what the C functions answer and write: the definitions are those that their contracts cite.
-use Prim.Native.Nat.{ℕ, _+_, _*_, _/_, _%_, _≤_, _<_}
+use Prim.Native.Nat.{ℕ, _*_, _/_, _%_, _≤_, _<_}
 use mathlib.Core.Path.{_≡_}
 use mathlib.Core.Bool.{true}
 use mathlib.Core.List.{List, _++_, map, flatMap}
@@ -9,12 +9,13 @@ use Rattle.plan.specs.declared.Refusal.{Refusal}
 use Rattle.plan.specs.declared.Checked.{Checked}
 use Rattle.plan.specs.declared.Checked.the-variants.{Passed, Refused}
 use Rattle.plan.specs.Refusals.{numberOf, placeOf, codeOf}
-use Rattle.plan.specs.Plans.{Plan, partyCount, multiplies, inputCount, coinCount, ownInputs, ownCoins, writtenCount, sentCount}
+use Rattle.plan.specs.Plans.{partyCount, lastCall, coinCount, ownInputs, ownCoins, writtenCount, sentCount}
 use Rattle.plan.specs.File.{planChecks, planCheck, planOf}
 use Rattle.plan_coalition.specs.Coalitions.{members, setOk}
 use Rattle.seat_messages.specs.Calls.{callChecks, callAnswer, stateAfter, outAfter}
+use Rattle.run_protocol.specs.Rounds.{viewCount}
 use Rattle.run_protocol.specs.Ideal.{granted}
-use Rattle.run_views.specs.ViewCounts.{viewCount}
+use Rattle.run_protocol.specs.Settings.{Inputs, Coins}
 use Rattle.run_bench.specs.BenchCalls.{runChecks, benchAnswer, benchedOf, viewAfter}
 use Rattle.match_privacy.specs.Matching.{matchedCoins}
 use Rattle.match_agreement.specs.MatchCalls.{pairChecks, matchAnswer, matchedAfter}
@@ -25,17 +26,6 @@ use Rattle.charge_call.specs.ChargeCalls.{priceChecks, chargeAnswer, chargedOf,
 use Rattle.pool_answers.specs.Sizes.{answerOf, billedOf}
 use Rattle.demands.specs.Order.{rankOf}
 use Rattle.demands.specs.Apart as apart
-
--- a list with its full count and each number below p: inputs (document 01: figures), or a setting of coins
-pub record Full (p k : ℕ) (xs : List ℕ) : Type 0 where
-  pub count : length xs ≡ k
-  pub small : allBelow p xs ≡ true
-
-abbrev pub Inputs : Plan → List ℕ → Type 0
-Inputs plan xs = Full (plan .p) (inputCount plan) xs
-
-abbrev pub Coins : Plan → List ℕ → Type 0
-Coins plan cs = Full (plan .p) (coinCount plan) cs
 
 -- ---- demand 1: the answer to a call on which these checks are made is the first refusal in checking order; C reads its number and its
 -- place, both whole; and where there is one, what is written stays as it was
@@ -95,19 +85,19 @@ pub record Given (bytes xs coins : List ℕ) : Type 0 where
 pub record Right (bytes xs coins : List ℕ) (lent : ℕ → ℕ → List ℕ) : Type 0 where
   -- no call of a run is refused
   pub accepted :
-      (k i : ℕ) → k ≤ multiplies (planOf bytes) + 2 → 1 ≤ i → i ≤ partyCount (planOf bytes)
+      (k i : ℕ) → k ≤ lastCall (planOf bytes) → 1 ≤ i → i ≤ partyCount (planOf bytes)
       → apart.answerOf i (apart.run bytes xs coins lent k) .answer ≡ Passed
   -- the last call's buffer has the results: the plan's own arithmetic
   pub results :
       (i : ℕ) → 1 ≤ i → i ≤ partyCount (planOf bytes)
-      → apart.answerOf i (apart.run bytes xs coins lent (multiplies (planOf bytes) + 2)) .out ≡ bytesOf (granted (planOf bytes) xs i)
+      → apart.answerOf i (apart.run bytes xs coins lent (lastCall (planOf bytes))) .out ≡ bytesOf (granted (planOf bytes) xs i)
   -- the bench answers, and writes byte for byte what the members of a coalition held and received apart
   pub bench :
       (set : ℕ) (view : List ℕ) → setOk (planOf bytes) set ≡ true → length view ≡ width * viewCount (planOf bytes) (members set)
       → (benchAnswer bytes set (bytesOf xs) (bytesOf coins) (length view) ≡ Passed)
       × (viewAfter bytes set (bytesOf xs) (bytesOf coins) view ≡ flatMap (apart.heldBy bytes xs coins lent) (members set))
   -- the elements that it counts are those that the calls sent
-  pub sent : apart.wroteBefore (apart.run bytes xs coins lent) (multiplies (planOf bytes) + 2) ≡ width * sentCount (planOf bytes)
+  pub sent : apart.wroteBefore (apart.run bytes xs coins lent) (lastCall (planOf bytes)) ≡ width * sentCount (planOf bytes)
 
 abbrev pub Demand2 : Type 0
 Demand2 =

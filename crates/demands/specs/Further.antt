@@ -3,23 +3,23 @@
 use Prim.Native.Nat.{ℕ, suc, _+_, _*_, _≤_, _<_}
 use mathlib.Core.Path.{_≡_}
 use mathlib.Core.Bool.{true}
-use mathlib.Core.List.{List}
+use mathlib.Core.List.{List, []}
 use lib.ListN.{length}
 use Rattle.numbers.specs.Bytes.{width, numbers, allBelow}
 use Rattle.sharing_laws.specs.OffLine.{OnOne, OffAt}
 use Rattle.plan.specs.declared.Checked.the-variants.{Passed, Refused}
 use Rattle.plan.specs.declared.Refusal.the-variants as refusal
-use Rattle.plan.specs.Plans.{Plan, partyCount, multiplies, ownInputs, ownCoins, ownOutCount, mailCount, writtenCount}
+use Rattle.plan.specs.Plans.{Plan, partyCount, lastCall, ownInputs, ownCoins, ownOutCount, mailCount, writtenCount}
 use Rattle.plan.specs.File.{planOf}
 use Rattle.plan_coalition.specs.Coalitions.{inSet, members}
-use Rattle.seat_messages.specs.Messages.{sharesOfOut}
+use Rattle.seat_messages.specs.Messages.{fromEach}
 use Rattle.seat_messages.specs.Calls.{callAnswer}
-use Rattle.run_protocol.specs.Rounds.{mailTo, round, results}
-use Rattle.run_views.specs.ViewCounts.{viewCount}
+use Rattle.run_protocol.specs.Rounds.{mailTo, after, results, viewCount}
+use Rattle.run_protocol.specs.Settings.{Coins}
 use Rattle.match_privacy.specs.Matching.{matchedCoins}
 use Rattle.match_agreement.specs.MatchCalls.{matchAnswer}
 use Rattle.demands.specs.Apart.{partCount}
-use Rattle.demands.specs.Demands.{Coins, Alike, SameBytes}
+use Rattle.demands.specs.Demands.{Alike, SameBytes}
 
 -- ---- for any lent bytes: where the matching refuses nothing, the bench refuses neither run, and writes the same bytes for both
 abbrev pub MatchedBytes : Type 0
@@ -34,8 +34,8 @@ MatchedBytes =
 pub record Pieces (plan : Plan) (i : ℕ) (xs c ys d : List ℕ) : Type 0 where
   pub inputs : ownInputs plan i xs ≡ ownInputs plan i ys
   pub coins : ownCoins plan i c ≡ ownCoins plan i d
-  pub mail : (k : ℕ) → k ≤ multiplies plan + 1 → mailTo i (round plan xs c k) ≡ mailTo i (round plan ys d k)
-  pub result : results plan xs c i ≡ results plan ys d i
+  pub mail : (k : ℕ) → k ≤ lastCall plan → mailTo i (after plan xs c [] k) ≡ mailTo i (after plan ys d [] k)
+  pub result : results plan xs c [] i ≡ results plan ys d [] i
 
 abbrev pub SamePieces : Type 0
 SamePieces =
@@ -45,14 +45,14 @@ SamePieces =
 
 -- ---- the sizes that a host cuts by, from those that the library answers (writtenCount: what a call writes; mailCount: what it takes)
 pub record Cut (plan : Plan) : Type 0 where
-  -- calls 0 to M: all parts of what a call writes have the same size
-  pub dealt : (j k i : ℕ) → k ≤ multiplies plan → partyCount plan * partCount plan j k i ≡ writtenCount plan j k
-  -- call M + 1: party i's part is one of the equal parts of the mail that it takes next
-  pub outs : (j i : ℕ) → partyCount plan * partCount plan j (suc (multiplies plan)) i ≡ mailCount plan i (suc (suc (multiplies plan)))
+  -- where a later call sends too, all parts of what a call writes have the same size
+  pub dealt : (j k i : ℕ) → suc k < lastCall plan → partyCount plan * partCount plan j k i ≡ writtenCount plan j k
+  -- the last that sends: party i's part is one of the equal parts of the mail that it takes next
+  pub outs : (j k i : ℕ) → suc k ≡ lastCall plan → partyCount plan * partCount plan j k i ≡ mailCount plan i (suc k)
 
 -- ---- the n shares of party i's own out j, in the mail of the last round
 abbrev pub sharesIn : Plan → ℕ → List ℕ → ℕ → List ℕ
-sharesIn plan i mail j = sharesOfOut (partyCount plan) (ownOutCount plan i) j mail
+sharesIn plan i mail j = fromEach (partyCount plan) (ownOutCount plan i) j mail
 
 -- an out of party i breaks at a party, counted from 1: the shares of every own out before it lie on one polynomial of degree t or less; in this
 -- one the shares of the parties before that party do, and with its share they do not

@@ -13,14 +13,14 @@ use Rattle.plan.specs.declared.Gate.the-variants.{Input, Add, Scale, Offset, Mu
 use Rattle.plan.specs.declared.Output.{Output}
 use Rattle.plan.specs.declared.Checked.the-variants.{Passed}
 use Rattle.plan.specs.Refusals.{codeOf}
-use Rattle.plan.specs.Plans.{Plan, multiplies, ownInputs, writtenCount}
+use Rattle.plan.specs.Plans.{Plan, lastCall, ownInputs, writtenCount}
 use Rattle.plan.specs.File.{planCheck, planOf}
 use Rattle.run_protocol.specs.Ideal.{granted}
+use Rattle.run_protocol.specs.Settings.{Inputs, Coins}
 use Rattle.sheet_text.specs.Trees.{Tree, partyOf, namesOf, formulaValue}
 use Rattle.sheet_text.specs.Making.{sheetTree}
 use Rattle.sheet_call.specs.Compiling.{sheetBodies, sheetFile, sheetAnswer, sheetAfter}
 use Rattle.pool_answers.specs.Sizes.{sheetSize}
-use Rattle.demands.specs.Demands.{Inputs, Coins}
 use Rattle.demands.specs.Circuits.{ascii}
 use Rattle.demands.specs.Apart as apart
 
@@ -44,7 +44,7 @@ pub record SameValue (x : Tree) (p i : ℕ) (bytes xs : List ℕ) : Type 0 where
   pub results :
       (coins : List ℕ) (lent : ℕ → ℕ → List ℕ) → Coins (planOf bytes) coins
       → ((j k : ℕ) → length (lent j k) ≡ width * writtenCount (planOf bytes) j k)
-      → apart.answerOf i (apart.run bytes xs coins lent (multiplies (planOf bytes) + 2)) .out ≡ bytesOf (formulaValue p (namesOf x) xs x ∷ [])
+      → apart.answerOf i (apart.run bytes xs coins lent (lastCall (planOf bytes))) .out ≡ bytesOf (formulaValue p (namesOf x) xs x ∷ [])
 
 -- for every sheet that compiles, and all figures
 abbrev pub Compiled : Type 0

@@ -3,7 +3,6 @@ use Prim.Native.Nat.{ℕ, _+_, _*_}
 use mathlib.Core.Path.{_≡_}
 use mathlib.Core.Bool.{true}
 use mathlib.Core.List.{List, [], _∷_, _++_, map}
-use lib.ListN.{length}
 use Rattle.numbers.specs.Bytes.{bytesOf, allBelow}
 use Rattle.sharing_laws.specs.Interp.{weights, interpolate, delta}
 use Rattle.plan.specs.Refusals.{codeOf, firstOf}
@@ -13,6 +12,7 @@ use Rattle.plan.specs.File.{planCheck, planOf}
 use Rattle.seat_messages.specs.Calls.{onPolynomial, callAnswer}
 use Rattle.run_protocol.specs.Rounds.{results, view}
 use Rattle.run_protocol.specs.Shares.{wireAt, dealtAt, shareTable}
+use Rattle.run_protocol.specs.Tables.{beforeGate}
 use Rattle.run_bench.specs.BenchCalls.{benchAnswer}
 use Rattle.match_privacy.specs.Matching.{matchedCoins}
 use Rattle.demands.specs.Demands.{Given, Alike}
@@ -50,7 +50,7 @@ coins1 = 2 ∷ 3 ∷ 1 ∷ 5 ∷ 7 ∷ []
 
 -- wire w's shares in P1's run of K
 unfoldable pub sharesOf : ℕ → List ℕ
-sharesOf w = map (wireAt (shareTable K inputs1 coins1) w) (K .points)
+sharesOf w = map (wireAt (shareTable K inputs1 coins1 []) w) (K .points)
 
 -- the bench's answer for K, a set, figures and P1's coins, with a buffer of so many numbers
 unfoldable pub benchOf : ℕ → List ℕ → ℕ → ℕ
@@ -67,14 +67,14 @@ inputs5 = 1 ∷ 1 ∷ []
 pub record Sums : Type 0 where
   pub p1 : map sharesOf (0 ∷ 1 ∷ []) ≡ (6 ∷ 8 ∷ 10 ∷ []) ∷ (8 ∷ 0 ∷ 3 ∷ []) ∷ []
   pub p2-weights : weights 11 0 (1 ∷ 2 ∷ 3 ∷ []) ≡ 3 ∷ 8 ∷ 1 ∷ []
-  pub p2-products : dealtAt K (Multiply 0 1) (shareTable K inputs1 coins1) 0 ≡ 4 ∷ 0 ∷ 8 ∷ []
+  pub p2-products : dealtAt K (Multiply 0 1) (beforeGate K inputs1 coins1 [] 2) ≡ 4 ∷ 0 ∷ 8 ∷ []
   pub p2-value : interpolate 11 0 (1 ∷ 2 ∷ 3 ∷ []) (4 ∷ 0 ∷ 8 ∷ []) ≡ 9
   pub p3-shares : map sharesOf (2 ∷ 3 ∷ []) ≡ (4 ∷ 10 ∷ 5 ∷ []) ∷ (10 ∷ 7 ∷ 4 ∷ []) ∷ []
-  pub p3-result : results K inputs1 coins1 3 ≡ 2 ∷ []
+  pub p3-result : results K inputs1 coins1 [] 3 ≡ 2 ∷ []
   pub p4 : delta 11 (3 ∷ []) ≡ 1 ∷ 7 ∷ []
   pub p5-coins : matchedCoins K (3 ∷ []) inputs1 inputs5 coins1 ≡ 3 ∷ 8 ∷ 5 ∷ 2 ∷ 7 ∷ []
-  pub p5-first-view : view K (3 ∷ []) inputs1 coins1 ≡ 7 ∷ 10 ∷ 3 ∷ 7 ∷ 4 ∷ 7 ∷ 10 ∷ 7 ∷ 4 ∷ 2 ∷ []
-  pub p5-view : view K (3 ∷ []) inputs5 (3 ∷ 8 ∷ 5 ∷ 2 ∷ 7 ∷ []) ≡ view K (3 ∷ []) inputs1 coins1
+  pub p5-first-view : view K (3 ∷ []) inputs1 coins1 [] ≡ 7 ∷ 10 ∷ 3 ∷ 7 ∷ 4 ∷ 7 ∷ 10 ∷ 7 ∷ 4 ∷ 2 ∷ []
+  pub p5-view : view K (3 ∷ []) inputs5 (3 ∷ 8 ∷ 5 ∷ 2 ∷ 7 ∷ []) [] ≡ view K (3 ∷ []) inputs1 coins1 []
   pub p6-refused : codeOf (planCheck (likeK 2 1 11 0)) ≡ 4
   pub p6-passes : codeOf (planCheck (likeK 15 7 17 0)) ≡ 0
   pub p7-not-above : codeOf (planCheck (likeK 3 1 3 0)) ≡ 5
@@ -84,7 +84,7 @@ pub record Sums : Type 0 where
   pub p8-passes : benchOf 0 (10 ∷ 5 ∷ []) 0 ≡ 0
   pub p8-refused : benchOf 0 (11 ∷ 5 ∷ []) 0 ≡ 11
   pub p9-passes : codeOf (planCheck single) ≡ 0
-  pub p9-result : results (planOf single) (1 ∷ []) [] 1 ≡ 1 ∷ []
+  pub p9-result : results (planOf single) (1 ∷ []) [] [] 1 ≡ 1 ∷ []
   pub p10 : benchOf 3 inputs1 0 ≡ 9
   -- R-9: seat 3's last call in P1's run, its shares 10 7 4 as they came and with the last wrong; and three openings of five shares, of which the
   -- second breaks at seats 4 and 5, the third at seat 3

@@ -18,7 +18,7 @@ use Rattle.numbers.proofs.Truth.{both-true}
 use Rattle.field.specs.Mod.{add, mul}
 use Rattle.plan.specs.declared.Gate.{Gate}
 use Rattle.plan.specs.declared.Gate.the-variants.{Input, Add, Scale, Offset, Multiply}
-use Rattle.plan.specs.Plans.{outWiresOf, outWires}
+use Rattle.plan.specs.Plans.{Plan, inputOwnersAt, outWiresOf, outWires}
 use Rattle.plan_file.specs.Bodies.{planWith}
 use Rattle.run_protocol.specs.Ideal.{inputsTaken, gateValue, valuesFrom, values, granted}
 use Rattle.import_lines.specs.Places.{sumOf}
@@ -76,48 +76,6 @@ module _ (p : ℕ) (some : 2 ≤ p) where
   bit-and (suc zero) y l m = let z : 1 * y ≡ y = omega arith in rw z m
   bit-and (suc (suc x)) y l m = absurd (omega arith)
 
-  -- ---- gates in a row
-  -- the wires' values after one gate that takes no input
-  step : (x : Gate) (xs : List Gate) (env vs : List ℕ) (v : ℕ) (ys : List ℕ) → inputsTaken x ≡ 0 → gateValue p x (env ++ vs) (getD ys 0 0) ≡ v
-      → valuesFrom p (x ∷ xs) (env ++ vs) ys ≡ valuesFrom p xs (env ++ (vs ++ (v ∷ []))) ys
-  unfolding valuesFrom
-  step x xs env vs v ys t e = rw (t, e, append-assoc env vs (v ∷ []))
-
-  at-front : (env vs : List ℕ) (w : ℕ) → w < length env → getD (env ++ vs) w 0 ≡ getD env w 0
-  at-front env vs w l = List·getD-append env vs 0 w l
-
-  at-new : (env vs : List ℕ) (i g : ℕ) → g ≡ length env + i → getD (env ++ vs) g 0 ≡ getD vs i 0
-  at-new env vs i g e = rw e (getD-append-add env vs i 0)
-
-  module _ (env : List ℕ) (a b x y : ℕ) (la : a < length env) (lb : b < length env) (ea : getD env a 0 ≡ x) (eb : getD env b 0 ≡ y) where
-    two : (vs : List ℕ) → (getD (env ++ vs) a 0 ≡ x) × (getD (env ++ vs) b 0 ≡ y)
-    two vs = (at-front env vs a la ∙ ea, at-front env vs b lb ∙ eb)
-
-    xor-values : (xs : List Gate) (ys : List ℕ)
-        → valuesFrom p (Multiply a b ∷ Scale (length env) (p - 2) ∷ Add a b ∷ Add (length env + 2) (length env + 1) ∷ xs) (env ++ []) ys
-        ≡ valuesFrom p xs (env ++ (mul p x y ∷ mul p (mul p x y) (p - 2) ∷ add p x y ∷ add p (add p x y) (mul p (mul p x y) (p - 2)) ∷ [])) ys
-    unfolding inputsTaken gateValue
-    xor-values xs ys =
-        step (Multiply a b) (Scale (length env) (p - 2) ∷ Add a b ∷ Add (length env + 2) (length env + 1) ∷ xs) env [] (mul p x y) ys refl
-        (ap₂ (mul p) (two [] .0) (two [] .1))
-        ∙ step (Scale (length env) (p - 2)) (Add a b ∷ Add (length env + 2) (length env + 1) ∷ xs) env (mul p x y ∷ []) (mul p (mul p x y) (p - 2)) ys refl
-        (ap (λ (k : ℕ). mul p k (p - 2)) (at-new env (mul p x y ∷ []) 0 (length env) (omega arith)))
-        ∙ step (Add a b) (Add (length env + 2) (length env + 1) ∷ xs) env (mul p x y ∷ mul p (mul p x y) (p - 2) ∷ []) (add p x y) ys refl
-        (ap₂ (add p) (two (mul p x y ∷ mul p (mul p x y) (p - 2) ∷ []) .0) (two (mul p x y ∷ mul p (mul p x y) (p - 2) ∷ []) .1))
-        ∙ step (Add (length env + 2) (length env + 1)) xs env (mul p x y ∷ mul p (mul p x y) (p - 2) ∷ add p x y ∷ []) (add p (add p x y) (mul p (mul p x y) (p - 2))) ys refl
-        (ap₂ (add p) (at-new env (mul p x y ∷ mul p (mul p x y) (p - 2) ∷ add p x y ∷ []) 2 (length env + 2) refl) (at-new env (mul p x y ∷ mul p (mul p x y) (p - 2) ∷ add p x y ∷ []) 1 (length env + 1) refl))
-
-    and-values : (xs : List Gate) (ys : List ℕ) → valuesFrom p (Multiply a b ∷ xs) (env ++ []) ys ≡ valuesFrom p xs (env ++ (mul p x y ∷ [])) ys
-    unfolding inputsTaken gateValue
-    and-values xs ys = step (Multiply a b) xs env [] (mul p x y) ys refl (ap₂ (mul p) (two [] .0) (two [] .1))
-
-  inv-values : (env : List ℕ) (a x : ℕ) → a < length env → getD env a 0 ≡ x → (xs : List Gate) (ys : List ℕ)
-      → valuesFrom p (Scale a (p - 1) ∷ Offset (length env) 1 ∷ xs) (env ++ []) ys ≡ valuesFrom p xs (env ++ (mul p x (p - 1) ∷ add p (mul p x (p - 1)) 1 ∷ [])) ys
-  unfolding inputsTaken gateValue
-  inv-values env a x la ea xs ys =
-      step (Scale a (p - 1)) (Offset (length env) 1 ∷ xs) env [] (mul p x (p - 1)) ys refl (ap (λ (k : ℕ). mul p k (p - 1)) (at-front env [] a la ∙ ea))
-      ∙ step (Offset (length env) 1) xs env (mul p x (p - 1) ∷ []) (add p (mul p x (p - 1)) 1) ys refl (ap (λ (k : ℕ). add p k 1) (at-new env (mul p x (p - 1) ∷ []) 0 (length env) (omega arith)))
-
 -- ---- wires that are held
 -- a wire of the circuit with its bit, held by wire h of the plan
 record Holds (env bits : List ℕ) (w h : ℕ) : Type 0 where
@@ -149,18 +107,64 @@ held-more marks held bits env vs c h r k l place value bit = record {
       });
 }
 
-module _ (p : ℕ) (some : 2 ≤ p) where
+-- ---- gates in a row
+module _ (plan : Plan) (some : 2 ≤ plan .p) where
+  abbrev p : ℕ
+  p = plan .p
+
+  -- the wires' values after one gate that takes no input
+  step : (x : Gate) (xs : List Gate) (env vs : List ℕ) (v : ℕ) (ys : List ℕ) → inputsTaken plan x ≡ 0 → gateValue plan x (env ++ vs) ys ≡ v
+      → valuesFrom plan (x ∷ xs) (env ++ vs) ys ≡ valuesFrom plan xs (env ++ (vs ++ (v ∷ []))) ys
+  unfolding valuesFrom
+  step x xs env vs v ys t e = rw (t, e, append-assoc env vs (v ∷ []))
+
+  at-front : (env vs : List ℕ) (w : ℕ) → w < length env → getD (env ++ vs) w 0 ≡ getD env w 0
+  at-front env vs w l = List·getD-append env vs 0 w l
+
+  at-new : (env vs : List ℕ) (i g : ℕ) → g ≡ length env + i → getD (env ++ vs) g 0 ≡ getD vs i 0
+  at-new env vs i g e = rw e (getD-append-add env vs i 0)
+
+  module _ (env : List ℕ) (a b x y : ℕ) (la : a < length env) (lb : b < length env) (ea : getD env a 0 ≡ x) (eb : getD env b 0 ≡ y) where
+    two : (vs : List ℕ) → (getD (env ++ vs) a 0 ≡ x) × (getD (env ++ vs) b 0 ≡ y)
+    two vs = (at-front env vs a la ∙ ea, at-front env vs b lb ∙ eb)
+
+    xor-values : (xs : List Gate) (ys : List ℕ)
+        → valuesFrom plan (Multiply a b ∷ Scale (length env) (p - 2) ∷ Add a b ∷ Add (length env + 2) (length env + 1) ∷ xs) (env ++ []) ys
+        ≡ valuesFrom plan xs (env ++ (mul p x y ∷ mul p (mul p x y) (p - 2) ∷ add p x y ∷ add p (add p x y) (mul p (mul p x y) (p - 2)) ∷ [])) ys
+    unfolding inputsTaken inputOwnersAt gateValue
+    xor-values xs ys =
+        step (Multiply a b) (Scale (length env) (p - 2) ∷ Add a b ∷ Add (length env + 2) (length env + 1) ∷ xs) env [] (mul p x y) ys refl
+        (ap₂ (mul p) (two [] .0) (two [] .1))
+        ∙ step (Scale (length env) (p - 2)) (Add a b ∷ Add (length env + 2) (length env + 1) ∷ xs) env (mul p x y ∷ []) (mul p (mul p x y) (p - 2)) ys refl
+        (ap (λ (k : ℕ). mul p k (p - 2)) (at-new env (mul p x y ∷ []) 0 (length env) (omega arith)))
+        ∙ step (Add a b) (Add (length env + 2) (length env + 1) ∷ xs) env (mul p x y ∷ mul p (mul p x y) (p - 2) ∷ []) (add p x y) ys refl
+        (ap₂ (add p) (two (mul p x y ∷ mul p (mul p x y) (p - 2) ∷ []) .0) (two (mul p x y ∷ mul p (mul p x y) (p - 2) ∷ []) .1))
+        ∙ step (Add (length env + 2) (length env + 1)) xs env (mul p x y ∷ mul p (mul p x y) (p - 2) ∷ add p x y ∷ []) (add p (add p x y) (mul p (mul p x y) (p - 2))) ys refl
+        (ap₂ (add p) (at-new env (mul p x y ∷ mul p (mul p x y) (p - 2) ∷ add p x y ∷ []) 2 (length env + 2) refl) (at-new env (mul p x y ∷ mul p (mul p x y) (p - 2) ∷ add p x y ∷ []) 1 (length env + 1) refl))
+
+    and-values : (xs : List Gate) (ys : List ℕ) → valuesFrom plan (Multiply a b ∷ xs) (env ++ []) ys ≡ valuesFrom plan xs (env ++ (mul p x y ∷ [])) ys
+    unfolding inputsTaken inputOwnersAt gateValue
+    and-values xs ys = step (Multiply a b) xs env [] (mul p x y) ys refl (ap₂ (mul p) (two [] .0) (two [] .1))
+
+  inv-values : (env : List ℕ) (a x : ℕ) → a < length env → getD env a 0 ≡ x → (xs : List Gate) (ys : List ℕ)
+      → valuesFrom plan (Scale a (p - 1) ∷ Offset (length env) 1 ∷ xs) (env ++ []) ys ≡ valuesFrom plan xs (env ++ (mul p x (p - 1) ∷ add p (mul p x (p - 1)) 1 ∷ [])) ys
+  unfolding inputsTaken inputOwnersAt gateValue
+  inv-values env a x la ea xs ys =
+      step (Scale a (p - 1)) (Offset (length env) 1 ∷ xs) env [] (mul p x (p - 1)) ys refl (ap (λ (k : ℕ). mul p k (p - 1)) (at-front env [] a la ∙ ea))
+      ∙ step (Offset (length env) 1) xs env (mul p x (p - 1) ∷ []) (add p (mul p x (p - 1)) 1) ys refl (ap (λ (k : ℕ). add p k 1) (at-new env (mul p x (p - 1) ∷ []) 0 (length env) (omega arith)))
+
+  -- ---- a circuit's gate
   record Stepped (marks held bits env : List ℕ) (x : LogicGate) : Type 0 where
     new : List ℕ
     long : length (env ++ new) ≡ length env + gateSize x
-    values : (xs : List Gate) (ys : List ℕ) → valuesFrom p (madeBy p (length env) held x ++ xs) env ys ≡ valuesFrom p xs (env ++ new) ys
+    values : (xs : List Gate) (ys : List ℕ) → valuesFrom plan (madeBy p (length env) held x ++ xs) env ys ≡ valuesFrom plan xs (env ++ new) ys
     holds : Holding (marked marks x) (heldBy (length env) held x) (bitsBy bits x) (env ++ new)
 
   long-new : (env vs : List ℕ) (k : ℕ) → length vs ≡ k → length (env ++ vs) ≡ length env + k
   long-new env vs k e = length-append env vs ∙ ap (λ (m : ℕ). length env + m) e
 
-  from-none : (xs : List Gate) (env ys : List ℕ) → valuesFrom p xs env ys ≡ valuesFrom p xs (env ++ []) ys
-  from-none xs env ys = ap (λ (e : List ℕ). valuesFrom p xs e ys) (sym (append-nil env))
+  from-none : (xs : List Gate) (env ys : List ℕ) → valuesFrom plan xs env ys ≡ valuesFrom plan xs (env ++ []) ys
+  from-none xs env ys = ap (λ (e : List ℕ). valuesFrom plan xs e ys) (sym (append-nil env))
 
   step-right : (marks held bits env : List ℕ) (x : LogicGate) → Holding marks held bits env → gateFits marks x ≡ true → Stepped marks held bits env x
   unfolding madeBy xorGates marked heldBy bitsBy setBy gateSize
@@ -175,10 +179,10 @@ module _ (p : ℕ) (some : 2 ≤ p) where
       record {
         new = vs;
         long = long-new env vs 4 refl;
-        values = λ xs ys. from-none _ env ys ∙ xor-values p some env (getD held a 0) (getD held b 0) x y (oa .place) (ob .place) (oa .value) (ob .value) xs ys;
+        values = λ xs ys. from-none _ env ys ∙ xor-values env (getD held a 0) (getD held b 0) x y (oa .place) (ob .place) (oa .value) (ob .value) xs ys;
         holds = held-more marks held bits env vs c (length env + 4 - 1) ((x + y) % 2) k (can-set marks c (fits-set marks (Xor a b c) e) .0)
             (omega (arith, long-new env vs 4 refl))
-            (at-new p some env vs 3 (length env + 4 - 1) here ∙ xor-value p some x y (oa .bit) (ob .bit))
+            (at-new env vs 3 (length env + 4 - 1) here ∙ xor-value p some x y (oa .bit) (ob .bit))
             (mod-lt (x + y) (omega arith));
       }
   step-right marks held bits env (And a b c) k e =
@@ -191,10 +195,10 @@ module _ (p : ℕ) (some : 2 ≤ p) where
       record {
         new = mul p x y ∷ [];
         long = long-new env (mul p x y ∷ []) 1 refl;
-        values = λ xs ys. from-none _ env ys ∙ and-values p some env (getD held a 0) (getD held b 0) x y (oa .place) (ob .place) (oa .value) (ob .value) xs ys;
+        values = λ xs ys. from-none _ env ys ∙ and-values env (getD held a 0) (getD held b 0) x y (oa .place) (ob .place) (oa .value) (ob .value) xs ys;
         holds = held-more marks held bits env (mul p x y ∷ []) c (length env + 1 - 1) (x * y) k (can-set marks c (fits-set marks (And a b c) e) .0)
             (omega (arith, long-new env (mul p x y ∷ []) 1 refl))
-            (at-new p some env (mul p x y ∷ []) 0 (length env + 1 - 1) here ∙ and-value p some x y (oa .bit) (ob .bit))
+            (at-new env (mul p x y ∷ []) 0 (length env + 1 - 1) here ∙ and-value p some x y (oa .bit) (ob .bit))
             (bit-and p some x y (oa .bit) (ob .bit));
       }
   step-right marks held bits env (Inv a c) k e =
@@ -205,16 +209,16 @@ module _ (p : ℕ) (some : 2 ≤ p) where
       record {
         new = vs;
         long = long-new env vs 2 refl;
-        values = λ xs ys. from-none _ env ys ∙ inv-values p some env (getD held a 0) x (oa .place) (oa .value) xs ys;
+        values = λ xs ys. from-none _ env ys ∙ inv-values env (getD held a 0) x (oa .place) (oa .value) xs ys;
         holds = held-more marks held bits env vs c (length env + 2 - 1) (1 - x) k (can-set marks c (fits-set marks (Inv a c) e) .0)
             (omega (arith, long-new env vs 2 refl))
-            (at-new p some env vs 1 (length env + 2 - 1) here ∙ inv-value p some x (oa .bit))
+            (at-new env vs 1 (length env + 2 - 1) here ∙ inv-value p some x (oa .bit))
             (omega arith);
       }
 
   record Ran (marks held bits env : List ℕ) (xs : List LogicGate) (ys : List ℕ) : Type 0 where
     end : List ℕ
-    values : valuesFrom p (gatesFrom p (length env) held xs) env ys ≡ end
+    values : valuesFrom plan (gatesFrom p (length env) held xs) env ys ≡ end
     holds : Holding (lastMarks marks xs) (heldAfter (length env) held xs) (bitsAfter bits xs) end
 
   run-right : (marks held bits env : List ℕ) (xs : List LogicGate) (ys : List ℕ) → Holding marks held bits env → gatesFit marks xs ≡ true → Ran marks held bits env xs ys
@@ -228,30 +232,30 @@ module _ (p : ℕ) (some : 2 ≤ p) where
       record {
         end = r .end;
         values = s .values (gatesFrom p (length env + gateSize x) (heldBy (length env) held x) xs) ys
-            ∙ ap (λ (g : ℕ). valuesFrom p (gatesFrom p g (heldBy (length env) held x) xs) (env ++ s .new) ys) (sym (s .long)) ∙ r .values;
+            ∙ ap (λ (g : ℕ). valuesFrom plan (gatesFrom p g (heldBy (length env) held x) xs) (env ++ s .new) ys) (sym (s .long)) ∙ r .values;
         holds = rw (← s .long) (r .holds);
       }
 
   -- ---- the input gates
-  party-values : (k w : ℕ) (xs ys env : List ℕ) (rest : List Gate) → length xs ≡ w → valuesFrom p (replicate w (Input k) ++ rest) env (xs ++ ys) ≡ valuesFrom p rest (env ++ xs) ys
-  unfolding valuesFrom gateValue inputsTaken
-  party-values k zero [] ys env rest l = ap (λ (e : List ℕ). valuesFrom p rest e ys) (sym (append-nil env))
+  party-values : (k w : ℕ) (xs ys env : List ℕ) (rest : List Gate) → length xs ≡ w → valuesFrom plan (replicate w (Input k) ++ rest) env (xs ++ ys) ≡ valuesFrom plan rest (env ++ xs) ys
+  unfolding valuesFrom gateValue inputsTaken inputOwnersAt
+  party-values k zero [] ys env rest l = ap (λ (e : List ℕ). valuesFrom plan rest e ys) (sym (append-nil env))
   party-values k zero (x ∷ xs) ys env rest l = absurd (omega (arith, l))
   party-values k (suc w) [] ys env rest l = absurd (omega (arith, l))
   party-values k (suc w) (x ∷ xs) ys env rest l =
-      party-values k w xs ys (env ++ (x ∷ [])) rest (omega (arith, l)) ∙ ap (λ (e : List ℕ). valuesFrom p rest e ys) (append-assoc env (x ∷ []) xs)
+      party-values k w xs ys (env ++ (x ∷ [])) rest (omega (arith, l)) ∙ ap (λ (e : List ℕ). valuesFrom plan rest e ys) (append-assoc env (x ∷ []) xs)
 
-  inputs-values : (k : ℕ) (ws xs ys env : List ℕ) (rest : List Gate) → length xs ≡ sumOf ws → valuesFrom p (inputGates k ws ++ rest) env (xs ++ ys) ≡ valuesFrom p rest (env ++ xs) ys
+  inputs-values : (k : ℕ) (ws xs ys env : List ℕ) (rest : List Gate) → length xs ≡ sumOf ws → valuesFrom plan (inputGates k ws ++ rest) env (xs ++ ys) ≡ valuesFrom plan rest (env ++ xs) ys
   unfolding inputGates sumOf
-  inputs-values k [] [] ys env rest l = ap (λ (e : List ℕ). valuesFrom p rest e ys) (sym (append-nil env))
+  inputs-values k [] [] ys env rest l = ap (λ (e : List ℕ). valuesFrom plan rest e ys) (sym (append-nil env))
   inputs-values k [] (x ∷ xs) ys env rest l = absurd (omega (arith, l))
   inputs-values k (w ∷ ws) xs ys env rest l =
       let cut : take w xs ++ drop w xs ≡ xs = take-append-drop w xs in
-      ap₂ (λ (gs : List Gate) (zs : List ℕ). valuesFrom p gs env zs) (append-assoc (replicate w (Input k)) (inputGates (suc k) ws) rest)
+      ap₂ (λ (gs : List Gate) (zs : List ℕ). valuesFrom plan gs env zs) (append-assoc (replicate w (Input k)) (inputGates (suc k) ws) rest)
       (ap (λ (zs : List ℕ). zs ++ ys) (sym cut) ∙ append-assoc (take w xs) (drop w xs) ys)
       ∙ party-values k w (take w xs) (drop w xs ++ ys) env (inputGates (suc k) ws ++ rest) (length-take-le w xs (omega (arith, l)))
       ∙ inputs-values (suc k) ws (drop w xs) ys (env ++ take w xs) rest (length-drop w xs ∙ omega (arith, l))
-      ∙ ap (λ (e : List ℕ). valuesFrom p rest e ys) (append-assoc env (take w xs) (drop w xs) ∙ ap (λ (zs : List ℕ). env ++ zs) cut)
+      ∙ ap (λ (e : List ℕ). valuesFrom plan rest e ys) (append-assoc env (take w xs) (drop w xs) ∙ ap (λ (zs : List ℕ). env ++ zs) cut)
 
   -- ---- the whole circuit
   module _ (n : ℕ) (c : Circuit) (ok : circuitOk n c ≡ true) (xs : List ℕ) (long : length xs ≡ inputWires c) (bits : allBelow 2 xs ≡ true) where
@@ -273,12 +277,12 @@ module _ (p : ℕ) (some : 2 ≤ p) where
     ran : Ran (inputMarks c) (firstHolders c) first-bits xs (c .gates) []
     ran = run-right (inputMarks c) (firstHolders c) first-bits xs (c .gates) [] first-holding (kept n c ok .fit)
 
-    all-values : valuesFrom p (circuitGates p c) [] xs ≡ ran .end
+    all-values : valuesFrom plan (circuitGates p c) [] xs ≡ ran .end
     unfolding circuitGates
     all-values =
-        ap (λ (zs : List ℕ). valuesFrom p (circuitGates p c) [] zs) (sym (append-nil xs))
+        ap (λ (zs : List ℕ). valuesFrom plan (circuitGates p c) [] zs) (sym (append-nil xs))
         ∙ (unfold circuitGates in inputs-values 1 (c .inputs) xs [] [] (gatesFrom p (inputWires c) (firstHolders c) (c .gates)) long)
-        ∙ ap (λ (g : ℕ). valuesFrom p (gatesFrom p g (firstHolders c) (c .gates)) xs []) (sym long)
+        ∙ ap (λ (g : ℕ). valuesFrom plan (gatesFrom p g (firstHolders c) (c .gates)) xs []) (sym long)
         ∙ ran .values
 
     abbrev held : List ℕ
@@ -304,16 +308,23 @@ module _ (p : ℕ) (some : 2 ≤ p) where
         ∙ drop-tab (λ i. getD last-bits i 0) (length last-bits) (c .wires - outputWires c)
         ∙ ap (tab (λ i. getD last-bits (c .wires - outputWires c + i) 0)) e
 
-    out-wires : (f : ℕ → ℕ) (k : ℕ) → outWiresOf 1 (tab (λ i. record { party = 1; wire = f i }) k) ≡ tab f k
-    unfolding outWiresOf tab
-    out-wires f zero = refl
-    out-wires f (suc k) = ap (λ (l : List ℕ). f 0 ∷ l) (out-wires (λ i. f (suc i)) k)
+out-wires : (f : ℕ → ℕ) (k : ℕ) → outWiresOf 1 (tab (λ i. record { party = 1; wire = f i }) k) ≡ tab f k
+unfolding outWiresOf tab
+out-wires f zero = refl
+out-wires f (suc k) = ap (λ (l : List ℕ). f 0 ∷ l) (out-wires (λ i. f (suc i)) k)
 
-    -- what the plan grants to party 1 is the circuit's output bits
-    pub made-right : (t : ℕ) → granted (planWith n t p (circuitBodies p c)) xs 1 ≡ circuitBits c xs
-    unfolding granted outWires values planWith circuitBodies circuitOuts outsOf
-    made-right t =
-        ap₂ (λ (v ws : List ℕ). map (λ w. getD v w 0) ws) all-values (out-wires (λ i. getD (heldAfter (inputWires c) (firstHolders c) (c .gates)) (c .wires - outputWires c + i) 0) (outputWires c))
-        ∙ tab-map (λ w. getD (ran .end) w 0) (λ i. getD (heldAfter (inputWires c) (firstHolders c) (c .gates)) (c .wires - outputWires c + i) 0) (outputWires c)
-        ∙ tab-ext _ _ (outputWires c) (λ i l. wire-right (c .wires - outputWires c + i) (omega (arith, kept n c ok .outputs)))
-        ∙ sym bits-tab
+-- what the plan grants to party 1 is the circuit's output bits
+module _ (p : ℕ) (some : 2 ≤ p) (n : ℕ) (c : Circuit) (ok : circuitOk n c ≡ true) (xs : List ℕ) (long : length xs ≡ inputWires c) (bits : allBelow 2 xs ≡ true) (t : ℕ) where
+  abbrev made : Plan
+  made = planWith n t p (circuitBodies p c)
+
+  pub made-right : granted made xs 1 ≡ circuitBits c xs
+  unfolding granted outWires values planWith circuitBodies circuitOuts outsOf
+  made-right =
+      let held : List ℕ = heldAfter (inputWires c) (firstHolders c) (c .gates) in
+      let end : List ℕ = ran made some n c ok xs long bits .end in
+      ap₂ (λ (v ws : List ℕ). map (λ w. getD v w 0) ws) (all-values made some n c ok xs long bits)
+      (out-wires (λ i. getD held (c .wires - outputWires c + i) 0) (outputWires c))
+      ∙ tab-map (λ w. getD end w 0) (λ i. getD held (c .wires - outputWires c + i) 0) (outputWires c)
+      ∙ tab-ext _ _ (outputWires c) (λ i l. wire-right made some n c ok xs long bits (c .wires - outputWires c + i) (omega (arith, kept n c ok .outputs)))
+      ∙ sym (bits-tab made some n c ok xs long bits)

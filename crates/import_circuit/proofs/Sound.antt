@@ -7,14 +7,15 @@ use mathlib.Core.Path.{_≡_, refl, sym, ap, _∙_}
 use mathlib.Core.Bool.{Bool, true, false, cond, _&&_}
 use mathlib.Core.List.{List, [], _∷_, _++_}
 use native.Mathlib.Omega.{arith}
-use borrow.Author.Tests.{eqb-true, eqb-false, ltb-true, ltb-false, lt-ltb, le-leb}
-use lib.Dec.{eqb, ltb}
+use borrow.Author.Tests.{eqb-true, eqb-false, ltb-true, ltb-false, lt-ltb, leb-true, le-leb}
+use lib.Dec.{eqb, leb, ltb}
 use lib.ListN.{length, getD, set, replicate, length-set}
 use lib.Seq.{getD-set-same, getD-set-other}
 use Rattle.numbers.proofs.Tables.{length-tab, getD-tab, getD-tab-past}
 use Rattle.numbers.proofs.Truth.{both-true}
 use Rattle.plan.specs.declared.Gate.{Gate}
 use Rattle.plan.specs.declared.Gate.the-variants.{Input}
+use Rattle.plan.specs.Plans.{kindOf}
 use Rattle.plan.specs.File.{between, gateOk, outOk}
 use Rattle.plan_file.proofs.Files.{Sound}
 use Rattle.import_lines.specs.Lines.{every}
@@ -59,29 +60,33 @@ size-some (Inv a c) = omega arith
 
 -- ---- gates in a row
 module _ (n p : ℕ) where
+  -- gate g has a kind of version 1 and keeps its rule
+  madeOk : ℕ → Gate → Bool
+  madeOk g x = leb (kindOf x) 5 && gateOk n p g x
+
   okFrom : ℕ → List Gate → Bool
   okFrom g [] = true
-  okFrom g (x ∷ xs) = gateOk n p g x && okFrom (suc g) xs
+  okFrom g (x ∷ xs) = madeOk g x && okFrom (suc g) xs
 
   ok-append : (g : ℕ) (xs ys : List Gate) → okFrom g xs ≡ true → okFrom (g + length xs) ys ≡ true → okFrom g (xs ++ ys) ≡ true
   unfolding okFrom
   ok-append g [] ys e f = let z : g + 0 ≡ g = omega arith in rw z at f
   ok-append g (x ∷ xs) ys e f =
-      let t = both-true (gateOk n p g x) (okFrom (suc g) xs) e in
+      let t = both-true (madeOk g x) (okFrom (suc g) xs) e in
       let z : g + suc (length xs) ≡ suc g + length xs = omega arith in
       rw (t .0) (ok-append (suc g) xs ys (t .1) (rw z at f))
 
-  ok-at : (g : ℕ) (xs : List Gate) (i : ℕ) → okFrom g xs ≡ true → i < length xs → gateOk n p (g + i) (getD xs i (Input 0)) ≡ true
+  ok-at : (g : ℕ) (xs : List Gate) (i : ℕ) → okFrom g xs ≡ true → i < length xs → madeOk (g + i) (getD xs i (Input 0)) ≡ true
   unfolding okFrom
   ok-at g [] i e l = absurd (omega arith)
-  ok-at g (x ∷ xs) zero e l = let z : g + 0 ≡ g = omega arith in rw z (both-true (gateOk n p g x) (okFrom (suc g) xs) e .0)
+  ok-at g (x ∷ xs) zero e l = let z : g + 0 ≡ g = omega arith in rw z (both-true (madeOk g x) (okFrom (suc g) xs) e .0)
   ok-at g (x ∷ xs) (suc i) e l =
       let z : g + suc i ≡ suc g + i = omega arith in
-      rw z (ok-at (suc g) xs i (both-true (gateOk n p g x) (okFrom (suc g) xs) e .1) (omega arith))
+      rw z (ok-at (suc g) xs i (both-true (madeOk g x) (okFrom (suc g) xs) e .1) (omega arith))
 
   -- input gates
   party-ok : (g k w : ℕ) → 1 ≤ k → k ≤ n → okFrom g (replicate w (Input k)) ≡ true
-  unfolding okFrom gateOk between
+  unfolding okFrom madeOk kindOf gateOk between
   party-ok g k zero l m = refl
   party-ok g k (suc w) l m = rw (le-leb 1 k l, le-leb k n m) (party-ok (suc g) k w l m)
 
@@ -98,7 +103,7 @@ module _ (n p : ℕ) where
     Held marks held g = (w : ℕ) → getD marks w 0 ≡ 1 → getD held w 0 < g
 
     made-ok : (marks held : List ℕ) (g : ℕ) (x : LogicGate) → Held marks held g → gateFits marks x ≡ true → okFrom g (madeBy p g held x) ≡ true
-    unfolding okFrom gateOk madeBy xorGates gateFits
+    unfolding okFrom madeOk kindOf gateOk madeBy xorGates gateFits
     made-ok marks held g (Xor a b c) h e =
         let r = reads-two marks a b c e in
         let ha : getD held a 0 < g = h a (r .0) in
@@ -198,10 +203,17 @@ module _ (n p : ℕ) (c : Circuit) (ok : circuitOk n c ≡ true) where
     unfolding circuitOuts outsOf
     out-at o l = getD-tab (λ i. record { party = 1; wire = getD (heldAfter (inputWires c) (firstHolders c) (c .gates)) (c .wires - outputWires c + i) 0 }) (outputWires c) o (record { party = 0; wire = 0 }) l
 
+    gate-made : (g : ℕ) → g < length (circuitGates p c) → (leb (kindOf (getD (circuitGates p c) g (Input 0))) 5 ≡ true) × (gateOk n p g (getD (circuitGates p c) g (Input 0)) ≡ true)
+    unfolding madeOk
+    gate-made g l =
+        let z : 0 + g ≡ g = omega arith in
+        both-true (leb (kindOf (getD (circuitGates p c) g (Input 0))) 5) (gateOk n p g (getD (circuitGates p c) g (Input 0))) (rw z at (ok-at n p 0 (circuitGates p c) g all-ok l))
+
     pub made-sound : Sound n p (circuitBodies p c)
     unfolding circuitBodies outOk between
     made-sound = record {
-      gates = λ g l. let z : 0 + g ≡ g = omega arith in rw z at (ok-at n p 0 (circuitGates p c) g all-ok l);
+      low = λ g l. leb-true (kindOf (getD (circuitGates p c) g (Input 0))) 5 (gate-made g l .0);
+      gates = λ g l. gate-made g l .1;
       outs = λ o l.
           let k : o < outputWires c = omega (arith, l, outs-long) in
           let w : ℕ = c .wires - outputWires c + o in

@@ -7,26 +7,25 @@
 -- Assumes nothing.
 use mathlib.Core.Path.{_≡_, refl, sym, ap, ap₂, _∙_}
 use mathlib.Core.Bool.{Bool, true, false, not, _||_}
-use mathlib.Core.List.{List, [], _∷_, _++_}
-use Prim.Native.Nat.{ℕ, zero, suc, _+_, _*_, _<_, _≤_}
-use native.Mathlib.Nat.{add-zero, mul-le-mul}
+use mathlib.Core.List.{List, _∷_, _++_, flatMap}
+use Prim.Native.Nat.{ℕ, suc, _+_, _*_, _<_, _≤_}
+use native.Mathlib.Nat.{add-zero}
 use native.Mathlib.Omega.{arith}
 use borrow.Author.Needs.{needs}
 use borrow.Author.Tests.{not-true, not-false, eq-eqb, ne-eqb, eqb-true}
 use lib.Dec.{eqb}
-use lib.ListN.{length, getD, take}
-use mir.Syntax.{w64}
-use mir.Val.{Fits}
+use lib.ListN.{length, getD, take, drop, length-append, take-append-drop}
+use lib.Seq.{take-all, drop-cons, getD-append-seam}
 use Rattle.numbers.specs.declared.Found.{Found}
 use Rattle.numbers.specs.declared.Found.the-variants.{At, Nothing}
-use Rattle.numbers.specs.Tables.{countWhere, firstFailing}
-use Rattle.numbers.specs.Bytes.{numbers, holdsCount, firstOver, allBelow}
+use Rattle.numbers.specs.Tables.{firstFailing}
+use Rattle.numbers.specs.Bytes.{width, numbers, holdsCount, firstOver, allBelow}
 use Rattle.numbers.proofs.Bytes.{holds-length}
 use Rattle.numbers.proofs.Below.{firstOver-nothing}
-use Rattle.numbers.proofs.Counts.{countWhere-take-zero, countWhere-take-all}
+use Rattle.sharing_laws.proofs.Lists.{flatMap-append}
 use Rattle.numbers.proofs.Searches.{Seeking, begin, found, passed, nothing}
 use Rattle.plan.specs.declared.Gate.{Gate}
-use Rattle.plan.specs.declared.Gate.the-variants.{Input, Add, Scale, Offset, Multiply}
+use Rattle.plan.specs.declared.Gate.the-variants.{Input, Add, Scale, Offset, Multiply, Random, Spend}
 use Rattle.plan.specs.declared.Output.{Output}
 use Rattle.plan.specs.declared.Header.{Header}
 use Rattle.plan.specs.declared.Checked.{Checked}
@@ -34,17 +33,17 @@ use Rattle.plan.specs.declared.Checked.the-variants.{Passed, Refused}
 use Rattle.plan.specs.declared.Refusal.{Refusal}
 use Rattle.plan.specs.declared.Refusal.the-variants as refusal
 use Rattle.plan.specs.Refusals.{andThen, firstOf, need, unlessFound}
-use Rattle.plan.specs.Plans.{Plan, isInput, inputCount, dealings, coinCount}
+use Rattle.plan.specs.Plans.{Plan, inputOwnersAt, inputOwners, inputCount, coinCount}
 use Rattle.plan.specs.File.{gateAt, outAt, planOf}
 use Rattle.plan.specs.Planned.{Planned}
 use Rattle.plan_coalition.specs.Coalitions.{setFits, setOk, inSet}
 use Rattle.plan.proofs.Planned.{plan-p, plan-n, plan-t, plan-gates, plan-gate, plan-outs, plan-out}
 use Rattle.plan.proofs.Refusals.{andThen-passed, andThen-refused, firstOf-append, passed-both, passed-need, passed-found}
 use Rattle.run_protocol.specs.Ideal.{inputsTaken, values}
-use Rattle.run_protocol.proofs.Wires.{values-length}
-use Rattle.match_agreement.specs.MatchCalls.{inputOwners, inputsAgree, outsAgree, pairChecks}
+use Rattle.run_protocol.proofs.Values.{values-length}
+use Rattle.match_agreement.specs.MatchCalls.{inputsAgree, outsAgree, pairChecks}
 use Rattle.match_agreement.specs.MatchParts.{inputChecks, coinChecks, agreeChecks, inputAgrees, gateAgrees, outAgrees, outAgreesAt, Matchable}
-use Rattle.run_ideal.proofs.IdealLaws.{next-taken}
+use Rattle.run_ideal.proofs.IdealLaws.{no-random, taken-next}
 
 -- ---- the set and the inputs
 module _ (bs : List ℕ) (h : Header) (set : ℕ) (xs ys : List ℕ) (k : Planned bs h) (s : Bool) (es : s ≡ setFits (h .n) (h .t) set) where
@@ -83,39 +82,26 @@ module _ (bs : List ℕ) (h : Header) (set : ℕ) (xs ys : List ℕ) (k : Planne
 pub ruleset inputting = (needs, not-true, not-false, pair-set, pair-first, pair-second, pair-first-over, pair-second-over, pair-inputs)
 
 -- ---- the coins and the buffer
-pub coins-fit : (h : Header) (t d : ℕ) → t ≤ 15 → d ≤ 15360 → t * d ≤ 230400
-coins-fit h t d a b = mul-le-mul {n₁ = t} {m₁ = d} {n₂ = 15} {m₂ = 15360} a b
-
-module _ (bs : List ℕ) (h : Header) (coins : List ℕ) (room : ℕ) (k : Planned bs h) (d : ℕ) (ed : d ≡ length (dealings (planOf bs))) where
-  pub coins-word : d ≤ 15360 → Fits w64 (h .t * d)
-  coins-word l = record { fits = omega (arith, coins-fit h (h .t) d (omega (arith, k .majority, k .n-high)) l) }
-
-  pub room-word : d ≤ 15360 → Fits w64 (2 * (h .t * d))
-  room-word l = record { fits = omega (arith, coins-fit h (h .t) d (omega (arith, k .majority, k .n-high)) l) }
-
-  count-is : coinCount (planOf bs) ≡ h .t * d
-  unfolding coinCount
-  count-is = ap₂ _*_ (plan-t k) (sym ed)
-
-  module _ (a : Bool) (ea : a ≡ holdsCount (h .t * d) coins) where
+module _ (bs : List ℕ) (h : Header) (coins : List ℕ) (room : ℕ) (k : Planned bs h) (d : ℕ) (ed : d ≡ coinCount (planOf bs)) where
+  module _ (a : Bool) (ea : a ≡ holdsCount d coins) where
     pub pair-coins : a ≡ false → Refused refusal.CoinCount ≡ firstOf (coinChecks (planOf bs) coins room)
     unfolding coinChecks firstOf andThen need
-    pair-coins ha = rw (count-is, ← ea, ha)
+    pair-coins ha = rw (← ed, ← ea, ha)
 
     module _ (ha : a ≡ true) (f : Found) (ef : f ≡ firstOver (h .field .p) (numbers coins)) where
       pub pair-coins-over : (i : ℕ) → f ≡ At i → Refused (refusal.CoinValue i) ≡ firstOf (coinChecks (planOf bs) coins room)
       unfolding coinChecks firstOf andThen need unlessFound
-      pair-coins-over i hf = rw (count-is, ← ea, ha, plan-p k, ← ef, hf)
+      pair-coins-over i hf = rw (← ed, ← ea, ha, plan-p k, ← ef, hf)
 
-      pub pair-room : f ≡ Nothing → (room ≡ 2 * (h .t * d) → ⊥) → Refused refusal.BufferLength ≡ firstOf (coinChecks (planOf bs) coins room)
+      pub pair-room : f ≡ Nothing → (room ≡ width * d → ⊥) → Refused refusal.BufferLength ≡ firstOf (coinChecks (planOf bs) coins room)
       unfolding coinChecks firstOf andThen need unlessFound
-      pair-room hf hr = rw (count-is, ← ea, ha, plan-p k, ← ef, hf, ne-eqb room (2 * (h .t * d)) hr)
+      pair-room hf hr = rw (← ed, ← ea, ha, plan-p k, ← ef, hf, ne-eqb room (width * d) hr)
 
-      pub pair-buffer : f ≡ Nothing → room ≡ 2 * (h .t * d) → Passed ≡ firstOf (coinChecks (planOf bs) coins room)
+      pub pair-buffer : f ≡ Nothing → room ≡ width * d → Passed ≡ firstOf (coinChecks (planOf bs) coins room)
       unfolding coinChecks firstOf andThen need unlessFound
-      pair-buffer hf hr = rw (count-is, ← ea, ha, plan-p k, ← ef, hf, eq-eqb room (2 * (h .t * d)) hr)
+      pair-buffer hf hr = rw (← ed, ← ea, ha, plan-p k, ← ef, hf, eq-eqb room (width * d) hr)
 
-pub ruleset coining = (needs, not-true, not-false, coins-word, room-word, pair-coins, pair-coins-over, pair-room, pair-buffer)
+pub ruleset coining = (needs, not-true, not-false, pair-coins, pair-coins-over, pair-room, pair-buffer)
 
 -- ---- one gate's input
 not-or : (a b : Bool) → a ≡ true → (not a || b) ≡ b
@@ -141,6 +127,14 @@ module _ (set : ℕ) (gate : Gate) (x y : ℕ) where
   unfolding gateAgrees
   agrees-multiply a b e = rw e
 
+  pub agrees-random : gate ≡ Random → true ≡ gateAgrees set gate x y
+  unfolding gateAgrees
+  agrees-random e = rw e
+
+  pub agrees-spend : (a b : ℕ) → gate ≡ Spend a b → true ≡ gateAgrees set gate x y
+  unfolding gateAgrees
+  agrees-spend a b e = rw e
+
   pub agrees-input : (s : ℕ) (r : Bool) → gate ≡ Input s → r ≡ gateAgrees set (Input s) x y → r ≡ gateAgrees set gate x y
   agrees-input s r e h = rw e h
 
@@ -153,52 +147,51 @@ module _ (set s x y : ℕ) (m : Bool) (em : m ≡ inSet set s) where
   unfolding gateAgrees
   agrees-other hm = sym (not-in (inSet set s) (eqb x y) (sym em ∙ hm))
 
-pub ruleset agreeing = (needs, agrees-add, agrees-scale, agrees-offset, agrees-multiply, agrees-input, agrees-member, agrees-other)
+pub ruleset agreeing = (needs, agrees-add, agrees-scale, agrees-offset, agrees-multiply, agrees-random, agrees-spend, agrees-input, agrees-member, agrees-other)
 
 -- ---- the search for an input that differs
--- the owner of the input that gate g takes
-owner-at : (gs : List Gate) (g s : ℕ) → g < length gs → getD gs g (Input 0) ≡ Input s → getD (inputOwners gs) (countWhere isInput (take g gs)) 0 ≡ s
-unfolding inputOwners countWhere isInput
-owner-at [] g s l e = absurd (omega arith)
-owner-at (Input r ∷ gs) zero s l e = cc
-owner-at (Add a b ∷ gs) zero s l e = let z : _≡_ {A = ℕ} 0 1 = cc in absurd (omega arith)
-owner-at (Scale a c ∷ gs) zero s l e = let z : _≡_ {A = ℕ} 0 1 = cc in absurd (omega arith)
-owner-at (Offset a c ∷ gs) zero s l e = let z : _≡_ {A = ℕ} 0 1 = cc in absurd (omega arith)
-owner-at (Multiply a b ∷ gs) zero s l e = let z : _≡_ {A = ℕ} 0 1 = cc in absurd (omega arith)
-owner-at (Input r ∷ gs) (suc g) s l e = owner-at gs g s (omega arith) e
-owner-at (Add a b ∷ gs) (suc g) s l e = owner-at gs g s (omega arith) e
-owner-at (Scale a c ∷ gs) (suc g) s l e = owner-at gs g s (omega arith) e
-owner-at (Offset a c ∷ gs) (suc g) s l e = owner-at gs g s (omega arith) e
-owner-at (Multiply a b ∷ gs) (suc g) s l e = owner-at gs g s (omega arith) e
+-- the inputs that gates below gate g take
+abbrev inputsBelow : Plan → ℕ → ℕ
+inputsBelow plan g = length (flatMap (inputOwnersAt plan) (take g (plan .gates)))
 
--- and its number is below their count
-input-within : (gs : List Gate) (g s : ℕ) → g < length gs → getD gs g (Input 0) ≡ Input s → countWhere isInput (take g gs) < countWhere isInput gs
-unfolding countWhere isInput
-input-within [] g s l e = absurd (omega arith)
-input-within (Input r ∷ gs) zero s l e = omega arith
-input-within (Add a b ∷ gs) zero s l e = let z : _≡_ {A = ℕ} 0 1 = cc in absurd (omega arith)
-input-within (Scale a c ∷ gs) zero s l e = let z : _≡_ {A = ℕ} 0 1 = cc in absurd (omega arith)
-input-within (Offset a c ∷ gs) zero s l e = let z : _≡_ {A = ℕ} 0 1 = cc in absurd (omega arith)
-input-within (Multiply a b ∷ gs) zero s l e = let z : _≡_ {A = ℕ} 0 1 = cc in absurd (omega arith)
-input-within (Input r ∷ gs) (suc g) s l e = omega (arith, input-within gs g s (omega arith) e)
-input-within (Add a b ∷ gs) (suc g) s l e = input-within gs g s (omega arith) e
-input-within (Scale a c ∷ gs) (suc g) s l e = input-within gs g s (omega arith) e
-input-within (Offset a c ∷ gs) (suc g) s l e = input-within gs g s (omega arith) e
-input-within (Multiply a b ∷ gs) (suc g) s l e = input-within gs g s (omega arith) e
+-- the owner of the input that gate g takes
+module _ (plan : Plan) (g s : ℕ) (l : g < length (plan .gates)) (e : getD (plan .gates) g (Input 0) ≡ Input s) where
+  owners-split : inputOwners plan ≡ flatMap (inputOwnersAt plan) (take g (plan .gates)) ++ (s ∷ flatMap (inputOwnersAt plan) (drop (suc g) (plan .gates)))
+  unfolding inputOwners flatMap inputOwnersAt
+  owners-split =
+      ap (flatMap (inputOwnersAt plan))
+      (sym (take-append-drop g (plan .gates)) ∙ ap (λ (r : List Gate). take g (plan .gates) ++ r) (drop-cons (plan .gates) g (Input 0) l ∙ ap (λ (x : Gate). x ∷ drop (suc g) (plan .gates)) e))
+      ∙ flatMap-append (inputOwnersAt plan) (take g (plan .gates)) (Input s ∷ drop (suc g) (plan .gates))
+
+  owner-at : getD (inputOwners plan) (inputsBelow plan g) 0 ≡ s
+  owner-at =
+      ap (λ (os : List ℕ). getD os (inputsBelow plan g) 0) owners-split
+      ∙ getD-append-seam (flatMap (inputOwnersAt plan) (take g (plan .gates))) s (flatMap (inputOwnersAt plan) (drop (suc g) (plan .gates))) 0
+
+  -- and its number is below their count
+  input-within : inputsBelow plan g < inputCount plan
+  unfolding inputCount
+  input-within =
+      omega (
+        arith,
+        ap (λ (os : List ℕ). length os) owners-split,
+        length-append (flatMap (inputOwnersAt plan) (take g (plan .gates))) (s ∷ flatMap (inputOwnersAt plan) (drop (suc g) (plan .gates))),
+      )
 
 -- the invariant at gate g, with the next input's number
 pub record Comparing (bs : List ℕ) (gates set : ℕ) (xs ys : List ℕ) (next g : ℕ) : Type 0 where
   pub within : g ≤ gates
-  pub few : next ≤ g
-  pub taken : next ≡ countWhere isInput (take g (planOf bs .gates))
+  pub few : next ≤ 15 * g
+  pub taken : next ≡ length (flatMap (inputOwnersAt (planOf bs)) (take g (planOf bs .gates)))
   pub seek : Seeking (inputAgrees (planOf bs) set xs ys) (inputCount (planOf bs)) next
 
 module _ (bs : List ℕ) (set : ℕ) (xs ys : List ℕ) where
   pub compare-none : (gates : ℕ) → Comparing bs gates set xs ys 0 0
+  unfolding flatMap
   compare-none gates = record {
     within = omega arith;
     few = omega arith;
-    taken = sym (countWhere-take-zero isInput (planOf bs .gates));
+    taken = refl;
     seek = begin (inputAgrees (planOf bs) set xs ys) (inputCount (planOf bs));
   }
 
@@ -212,12 +205,11 @@ module _ (bs : List ℕ) (set : ℕ) (xs ys : List ℕ) where
       gate-in = rw (plan-gates k) l
 
       next-in : next < inputCount (planOf bs)
-      unfolding inputCount
-      next-in = rw (w .taken) (input-within (planOf bs .gates) g s gate-in gate-is)
+      next-in = rw (w .taken) (input-within (planOf bs) g s gate-in gate-is)
 
       test-is : gateAgrees set (Input s) (getD xs next 0) (getD ys next 0) ≡ inputAgrees (planOf bs) set xs ys next
       unfolding gateAgrees inputAgrees
-      test-is = rw (ap (λ (i : ℕ). getD (inputOwners (planOf bs .gates)) i 0) (w .taken) ∙ owner-at (planOf bs .gates) g s gate-in gate-is)
+      test-is = rw (ap (λ (i : ℕ). getD (inputOwners (planOf bs)) i 0) (w .taken) ∙ owner-at (planOf bs) g s gate-in gate-is)
 
     compare-off-at : (gate : Gate) → g < h .gates → gateAt bs g ≡ gate → gateAgrees set gate (getD xs next 0) (getD ys next 0) ≡ false
         → At next ≡ firstFailing (inputAgrees (planOf bs) set xs ys) (inputCount (planOf bs))
@@ -227,18 +219,22 @@ module _ (bs : List ℕ) (set : ℕ) (xs ys : List ℕ) where
     compare-off-at (Scale a c) l e f = let z : _≡_ {A = ℕ} 0 1 = cc in absurd (omega arith)
     compare-off-at (Offset a c) l e f = let z : _≡_ {A = ℕ} 0 1 = cc in absurd (omega arith)
     compare-off-at (Multiply a b) l e f = let z : _≡_ {A = ℕ} 0 1 = cc in absurd (omega arith)
+    compare-off-at Random l e f = let z : _≡_ {A = ℕ} 0 1 = cc in absurd (omega arith)
+    compare-off-at (Spend a b) l e f = let z : _≡_ {A = ℕ} 0 1 = cc in absurd (omega arith)
 
     stay : (next : ℕ) → Seeking (inputAgrees (planOf bs) set xs ys) (inputCount (planOf bs)) next → Seeking (inputAgrees (planOf bs) set xs ys) (inputCount (planOf bs)) (next + 0)
     stay n q = rw add-zero q
 
     compare-on-at : (gate : Gate) → g < h .gates → gateAt bs g ≡ gate → gateAgrees set gate (getD xs next 0) (getD ys next 0) ≡ true
-        → Seeking (inputAgrees (planOf bs) set xs ys) (inputCount (planOf bs)) (next + inputsTaken gate)
-    unfolding inputsTaken
+        → Seeking (inputAgrees (planOf bs) set xs ys) (inputCount (planOf bs)) (next + inputsTaken (planOf bs) gate)
+    unfolding inputsTaken inputOwnersAt
     compare-on-at (Input s) l e f = passed (inputAgrees (planOf bs) set xs ys) (inputCount (planOf bs)) next (w .seek) (next-in s l e) (sym (test-is s l e) ∙ f)
     compare-on-at (Add a b) l e f = stay next (w .seek)
     compare-on-at (Scale a c) l e f = stay next (w .seek)
     compare-on-at (Offset a c) l e f = stay next (w .seek)
     compare-on-at (Multiply a b) l e f = stay next (w .seek)
+    compare-on-at Random l e f = absurd (no-random bs h k g l e)
+    compare-on-at (Spend a b) l e f = stay next (w .seek)
 
     module _ (gate : Gate) (x y : ℕ) (t : Bool) (l : g < h .gates) (eg : gate ≡ gateAt bs g) (ex : x ≡ getD xs next 0) (ey : y ≡ getD ys next 0) (et : t ≡ gateAgrees set gate x y) where
       test-at : gateAgrees set gate (getD xs next 0) (getD ys next 0) ≡ t
@@ -247,19 +243,20 @@ module _ (bs : List ℕ) (set : ℕ) (xs ys : List ℕ) where
       pub compare-off : t ≡ false → At next ≡ firstFailing (inputAgrees (planOf bs) set xs ys) (inputCount (planOf bs))
       compare-off f = compare-off-at gate l (sym eg) (test-at ∙ f)
 
-      pub compare-on : (n : ℕ) → t ≡ true → n ≡ inputsTaken gate → n ≤ 1 → Comparing bs (h .gates) set xs ys (next + n) (g + 1)
+      pub compare-on : (n : ℕ) → t ≡ true → n ≡ inputsTaken (planOf bs) (gateAt bs g) → n ≤ 15 → Comparing bs (h .gates) set xs ys (next + n) (g + 1)
       compare-on n f en few = record {
         within = omega arith;
         few = omega (arith, w .few);
-        taken = next-taken bs h next g n gate k (w .taken) l eg en;
-        seek = rw en (compare-on-at gate l (sym eg) (test-at ∙ f));
+        taken = taken-next (inputOwnersAt (planOf bs)) bs h next g n k (w .taken) l (unfold inputsTaken in en);
+        seek = rw (en, ← eg) (compare-on-at gate l (sym eg) (test-at ∙ f));
       }
 
     pub compare-done : h .gates ≤ g → Nothing ≡ firstFailing (inputAgrees (planOf bs) set xs ys) (inputCount (planOf bs))
-    unfolding inputCount
+    unfolding inputCount inputOwners
     compare-done l =
-        let all : countWhere isInput (take g (planOf bs .gates)) ≡ countWhere isInput (planOf bs .gates) = countWhere-take-all isInput (planOf bs .gates) g (rw (plan-gates k) l) in
-        nothing (inputAgrees (planOf bs) set xs ys) (inputCount (planOf bs)) next (w .seek) (omega (arith, w .taken, all))
+        let all : take g (planOf bs .gates) ≡ planOf bs .gates = take-all g (planOf bs .gates) (rw (plan-gates k) l) in
+        nothing (inputAgrees (planOf bs) set xs ys) (inputCount (planOf bs)) next (w .seek)
+        (omega (arith, w .taken, ap (λ (gs : List Gate). length (flatMap (inputOwnersAt (planOf bs)) gs)) all))
 
 pub ruleset comparing = (needs, not-true, not-false, compare-none, compare-off, compare-on, compare-done)
 
@@ -402,5 +399,5 @@ matchable bs h set xs ys coins room c k e p =
       second-below = rw (← plan-p k) (l .second-below);
       coins-below = rw (← plan-p k) (firstOver-nothing (planOf bs .p) (numbers coins) (passed-found refusal.CoinValue _ (f .0)));
       coins-long = holds-length (coinCount (planOf bs)) coins (passed-need refusal.CoinCount _ (d .0));
-      room-long = eqb-true room (2 * coinCount (planOf bs)) (passed-need refusal.BufferLength _ (g .0));
+      room-long = eqb-true room (width * coinCount (planOf bs)) (passed-need refusal.BufferLength _ (g .0));
     }

@@ -5,33 +5,22 @@ use mathlib.Core.List.{List, [], _∷_, _++_}
 use lib.Dec.{eqb}
 use lib.ListN.{length, getD}
 use Rattle.numbers.specs.Tables.{firstFailing}
-use Rattle.numbers.specs.Bytes.{numbers, bytesOf, holdsCount, firstOver}
-use Rattle.plan.specs.declared.Gate.{Gate}
-use Rattle.plan.specs.declared.Gate.the-variants.{Input, Add, Scale, Offset, Multiply}
+use Rattle.numbers.specs.Bytes.{width, numbers, bytesOf, holdsCount, firstOver}
 use Rattle.plan.specs.declared.Checked.{Checked}
 use Rattle.plan.specs.declared.Refusal.the-variants as refusal
 use Rattle.plan.specs.Refusals.{firstOf, need, unlessFound}
-use Rattle.plan.specs.Plans.{Plan, inputCount, coinCount}
+use Rattle.plan.specs.Plans.{Plan, inputOwners, inputCount, coinCount}
 use Rattle.plan.specs.File.{planChecks, planOf}
 use Rattle.plan_coalition.specs.Coalitions.{members, setOk, inSet}
 use Rattle.seat_messages.specs.Calls.{unlessRefused}
 use Rattle.run_protocol.specs.Ideal.{values}
 use Rattle.match_privacy.specs.Matching.{matchedCoins}
 
--- the party of each input, in gate order
-unfoldable pub inputOwners : List Gate → List ℕ
-inputOwners [] = []
-inputOwners (Input s ∷ gs) = s ∷ inputOwners gs
-inputOwners (Add a b ∷ gs) = inputOwners gs
-inputOwners (Scale a c ∷ gs) = inputOwners gs
-inputOwners (Offset a c ∷ gs) = inputOwners gs
-inputOwners (Multiply a b ∷ gs) = inputOwners gs
-
 -- refusal 21: the first input of a member at which the two lists differ
 unfoldable pub inputsAgree : Plan → ℕ → List ℕ → List ℕ → Checked
 inputsAgree plan set xs ys =
     unlessFound refusal.InputsDiffer
-    (firstFailing (λ i. not (inSet set (getD (inputOwners (plan .gates)) i 0)) || eqb (getD xs i 0) (getD ys i 0)) (inputCount plan))
+    (firstFailing (λ i. not (inSet set (getD (inputOwners plan) i 0)) || eqb (getD xs i 0) (getD ys i 0)) (inputCount plan))
 
 -- refusal 22: the first out of a member at which the plan's values differ
 unfoldable pub outsAgree : Plan → ℕ → List ℕ → List ℕ → Checked
@@ -50,7 +39,7 @@ pairChecks plan set xs ys coins room =
     ∷ unlessFound refusal.InputValue (firstOver (plan .p) (numbers ys))
     ∷ need refusal.CoinCount (holdsCount (coinCount plan) coins)
     ∷ unlessFound refusal.CoinValue (firstOver (plan .p) (numbers coins))
-    ∷ need refusal.BufferLength (eqb room (2 * coinCount plan))
+    ∷ need refusal.BufferLength (eqb room (width * coinCount plan))
     ∷ inputsAgree plan set (numbers xs) (numbers ys)
     ∷ outsAgree plan set (values plan (numbers xs)) (values plan (numbers ys))
     ∷ []

@@ -5,19 +5,19 @@ use mathlib.Core.Bool.{Bool, true, not, _||_}
 use mathlib.Core.List.{List, [], _∷_}
 use lib.Dec.{eqb}
 use lib.ListN.{length, getD}
-use Rattle.numbers.specs.Bytes.{numbers, holdsCount, firstOver, allBelow}
+use Rattle.numbers.specs.Bytes.{width, numbers, holdsCount, firstOver, allBelow}
 use Rattle.plan.specs.declared.Gate.{Gate}
-use Rattle.plan.specs.declared.Gate.the-variants.{Input, Add, Scale, Offset, Multiply}
+use Rattle.plan.specs.declared.Gate.the-variants.{Input, Add, Scale, Offset, Multiply, Random, Spend}
 use Rattle.plan.specs.declared.Header.{Header}
 use Rattle.plan.specs.declared.Output.{Output}
 use Rattle.plan.specs.declared.Checked.{Checked}
 use Rattle.plan.specs.declared.Refusal.the-variants as refusal
 use Rattle.plan.specs.Refusals.{need, unlessFound}
-use Rattle.plan.specs.Plans.{Plan, inputCount, coinCount}
+use Rattle.plan.specs.Plans.{Plan, inputOwners, inputCount, coinCount}
 use Rattle.plan.specs.File.{planOf}
 use Rattle.plan_coalition.specs.Coalitions.{setOk, inSet}
 use Rattle.run_protocol.specs.Ideal.{values}
-use Rattle.match_agreement.specs.MatchCalls.{inputOwners, inputsAgree, outsAgree}
+use Rattle.match_agreement.specs.MatchCalls.{inputsAgree, outsAgree}
 
 -- refusals 9 to 11
 unfoldable pub inputChecks : Plan → ℕ → List ℕ → List ℕ → List Checked
@@ -34,7 +34,7 @@ unfoldable pub coinChecks : Plan → List ℕ → ℕ → List Checked
 coinChecks plan coins room =
     need refusal.CoinCount (holdsCount (coinCount plan) coins)
     ∷ unlessFound refusal.CoinValue (firstOver (plan .p) (numbers coins))
-    ∷ need refusal.BufferLength (eqb room (2 * coinCount plan))
+    ∷ need refusal.BufferLength (eqb room (width * coinCount plan))
     ∷ []
 
 -- refusals 21 and 22
@@ -46,15 +46,17 @@ agreeChecks plan set xs ys =
 
 -- input i is no member's, or the same in both lists
 unfoldable pub inputAgrees : Plan → ℕ → List ℕ → List ℕ → ℕ → Bool
-inputAgrees plan set xs ys i = not (inSet set (getD (inputOwners (plan .gates)) i 0)) || eqb (getD xs i 0) (getD ys i 0)
+inputAgrees plan set xs ys i = not (inSet set (getD (inputOwners plan) i 0)) || eqb (getD xs i 0) (getD ys i 0)
 
--- a gate takes no member's input, or the same in both lists
+-- a gate takes no member's input, or the same in both lists; a plan file has no gate of kinds 6 and 7
 unfoldable pub gateAgrees : ℕ → Gate → ℕ → ℕ → Bool
 gateAgrees set (Input s) x y = not (inSet set s) || eqb x y
 gateAgrees set (Add a b) x y = true
 gateAgrees set (Scale a c) x y = true
 gateAgrees set (Offset a c) x y = true
 gateAgrees set (Multiply a b) x y = true
+gateAgrees set Random x y = true
+gateAgrees set (Spend a b) x y = true
 
 -- an out is no member's, or has the same value in both lists of values
 unfoldable pub outAgrees : ℕ → List ℕ → List ℕ → Output → Bool
@@ -69,5 +71,5 @@ pub record Matchable (bs : List ℕ) (h : Header) (set : ℕ) (xs ys coins : Lis
   pub first-below : allBelow (h .field .p) (numbers xs) ≡ true
   pub second-below : allBelow (h .field .p) (numbers ys) ≡ true
   pub coins-below : allBelow (h .field .p) (numbers coins) ≡ true
-  pub coins-long : length coins ≡ 2 * coinCount (planOf bs)
-  pub room-long : room ≡ 2 * coinCount (planOf bs)
+  pub coins-long : length coins ≡ width * coinCount (planOf bs)
+  pub room-long : room ≡ width * coinCount (planOf bs)

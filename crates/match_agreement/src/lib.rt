@@ -51,7 +51,7 @@ fn check_coins(plan: &[u8], h: Header, coins: &[u8], room: usize) -> Checked
     requires { ⌜ Planned (now plan) h ⌝ }
     ensures { λ r. ⌜ r ≡ firstOf (coinChecks (planOf (now (plan .entry))) (now (coins .entry)) room) ⌝ }
 {
-    let count = h.t * plan_counts::dealing_count(plan, h);
+    let count = plan_counts::coin_count(plan, h);
     if !numbers::count_is(coins, count) {
         return Checked::Refused(Refusal::CoinCount);
     }
@@ -86,6 +86,8 @@ fn gate_agrees(set: u16, gate: Gate, x: u64, y: u64) -> bool
         Gate::Scale(_, _) => true,
         Gate::Offset(_, _) => true,
         Gate::Multiply(_, _) => true,
+        Gate::Random => true,
+        Gate::Spend(_, _) => true,
     }
 }
 
@@ -104,7 +106,7 @@ fn first_input_off(plan: &[u8], h: Header, set: u16, first: &[u8], second: &[u8]
         if !gate_agrees(set, gate, x, y) {
             return Found::At(next);
         }
-        next += run_ideal::inputs_taken(gate);
+        next += run_ideal::inputs_taken(plan, h, g);
         g += 1;
     }
     Found::Nothing

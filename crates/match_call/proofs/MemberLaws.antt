@@ -10,7 +10,7 @@ use mathlib.Core.List.{List, [], _∷_, _++_, map, tail}
 use Prim.Native.Nat.{ℕ, zero, suc, _+_, _-_, _*_, _≤_, _<_}
 use native.Mathlib.Nat.{eq-or-lt-of-le}
 use native.Mathlib.Omega.{arith}
-use borrow.Author.Tests.{eq-eqb, ne-eqb, eqb-true, lt-ltb}
+use borrow.Author.Tests.{eq-eqb, ne-eqb, lt-ltb}
 use lib.Dec.{eqb}
 use lib.ListN.{length, getD, take, drop, replicate, length-append, length-replicate, length-drop, length-map}
 use lib.Seq.{length-take-le}
@@ -27,6 +27,7 @@ use Rattle.sharing_laws.proofs.Deltas.{length-delta}
 use Rattle.sharing_laws.proofs.Elements.{padded-below, delta-below}
 use Rattle.sharing_laws.proofs.Alls.{all-take, all-drop}
 use Rattle.plan.specs.declared.Header.{Header}
+use Rattle.plan.specs.declared.Dealing.{Dealing}
 use Rattle.plan.specs.Plans.{Plan, pointOf}
 use Rattle.plan.specs.File.{planOf}
 use Rattle.plan.specs.Planned.{Planned}
@@ -37,7 +38,11 @@ use Rattle.match_privacy.specs.Matching.{isMember, matchedBlocks}
 use Rattle.match_moves.specs.Moves.{moved, changeOf, movedBlocks}
 use Rattle.match_call.specs.MatchSteps.{deltaTail}
 use Rattle.match_privacy.proofs.Blocks.{matchedBlock, blocks-cons, block-member, block-other}
-use Rattle.match_privacy.proofs.SetMembers.{member-in, set-few, set-parties}
+use Rattle.match_privacy.proofs.SetMembers.{member-in, set-few, set-parties, members-from1}
+
+-- a party's dealing of t coins
+abbrev pub dealingBy : Plan → ℕ → Dealing
+dealingBy plan d = record { dealer = d; coins = plan .t }
 
 -- ---- members by their bits
 in-member : (set k d j : ℕ) → inSet set d ≡ true → j ≤ d → d < j + k → isMember d (membersFrom set j k) ≡ true
@@ -63,18 +68,6 @@ both-ways false false f g = refl
 pub member-is : (set d : ℕ) → 1 ≤ d → d ≤ 16 → isMember d (members set) ≡ inSet set d
 unfolding members
 member-is set d lo hi = both-ways (isMember d (membersFrom set 1 16)) (inSet set d) (member-in set 16 d 1) (λ on. in-member set 16 d 1 on lo (omega arith))
-
-member-low : (set k i j : ℕ) → isMember i (membersFrom set j k) ≡ true → j ≤ i
-unfolding membersFrom isMember
-member-low set zero i j m = let z : _≡_ {A = ℕ} 0 1 = cc in absurd (omega arith)
-member-low set (suc k) i j m = pick (inSet set j) (eqb i j) refl m (member-low set k i (suc j))
-  where
-    pick :
-        (b e : Bool) → eqb i j ≡ e → isMember i (cond b (j ∷ membersFrom set (suc j) k) (membersFrom set (suc j) k)) ≡ true
-        → (isMember i (membersFrom set (suc j) k) ≡ true → suc j ≤ i) → j ≤ i
-    pick true true same h later = omega (arith, eqb-true i j same)
-    pick true false other h later = omega (arith, later (rw other at h))
-    pick false e q h later = omega (arith, later h)
 
 -- ---- what holds of every member
 in-tail : (i m : ℕ) (ms : List ℕ) → isMember i ms ≡ true → isMember i (m ∷ ms) ≡ true
@@ -102,16 +95,12 @@ module _ (bs : List ℕ) (h : Header) (set : ℕ) (k : Planned bs h) (ok : setOk
   member-high : (i : ℕ) → isMember i (members set) ≡ true → i ≤ h .n
   member-high i m = rw (← plan-n k) (set-parties (planOf bs) set ok i m)
 
-  member-first : (i : ℕ) → isMember i (members set) ≡ true → 1 ≤ i
-  unfolding members
-  member-first i m = member-low set 16 i 1 m
-
   pub points-of-members : map (pointOf (planOf bs)) (members set) ≡ members set
   unfolding pointOf
   points-of-members =
       map-same (pointOf (planOf bs)) (members set)
       (λ i m.
-      let lo : 1 ≤ i = member-first i m in
+      let lo : 1 ≤ i = members-from1 set i m in
       let hi : i ≤ h .n = member-high i m in
       let e : suc (i - 1) ≡ i = omega arith in
       rw (plan-points k, getD-tab suc (h .n) (i - 1) 0 (omega arith)) e)
@@ -215,9 +204,10 @@ module _ (plan : Plan) (valid : Valid plan) (set : ℕ) (ok : setOk plan set ≡
           can
           ∙ sym (block-other plan (members set) d s z cs (member-is set d lo hi ∙ q))
 
+  -- the dealings by these parties, of t coins each
   pub blocks-are :
       (ds ss zs cs : List ℕ) → All (λ d. (1 ≤ d) × (d ≤ 16)) ds → plan .t * length ds ≤ length cs → All (Canon (plan .p)) cs
-      → movedBlocks (plan .p) (plan .t) set (deltaTail plan set) ds ss zs cs ≡ matchedBlocks plan (members set) ds ss zs cs
+      → movedBlocks (plan .p) (plan .t) set (deltaTail plan set) ds ss zs cs ≡ matchedBlocks plan (members set) (map (dealingBy plan) ds) ss zs cs
   unfolding movedBlocks matchedBlocks
   blocks-are [] ss zs cs all l can = refl
   blocks-are (d ∷ ds) ss zs cs all l can =
@@ -226,4 +216,4 @@ module _ (plan : Plan) (valid : Valid plan) (set : ℕ) (ok : setOk plan set ≡
       (length-take-le (plan .t) cs (omega arith)) (all-take (Canon (plan .p)) (plan .t) cs can))
       (blocks-are ds (drop 1 ss) (drop 1 zs) (drop (plan .t) cs) (all .1) (omega (arith, length-drop (plan .t) cs))
       (all-drop (Canon (plan .p)) (plan .t) cs can))
-      ∙ sym (blocks-cons plan (members set) d ds ss zs cs)
+      ∙ sym (blocks-cons plan (members set) (dealingBy plan d) (map (dealingBy plan) ds) ss zs cs)

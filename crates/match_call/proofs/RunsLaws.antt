@@ -1,5 +1,5 @@
 -- The loop over the gates of both runs, and what is worked out once.
---     share-small, row-small      a gate's shares are below p
+--     row-small                   a gate's shares are below p
 --     Matching, matching-runs     the loop
 --     equipping                   delta's coefficients
 --     working                     the whole matching
@@ -9,99 +9,84 @@ use mathlib.Core.Bool.{true}
 use mathlib.Core.List.{List, [], _∷_, _++_, map, flatMap, tail, append-assoc, append-nil}
 use Prim.Native.Nat.{ℕ, _+_, _-_, _*_, _<_, _≤_}
 use native.Mathlib.Numerals.{add-one}
-use native.Mathlib.Nat.{add-zero, mul-zero, mul-le-mul}
+use native.Mathlib.Nat.{mul-zero, mul-le-mul}
 use native.Mathlib.Omega.{arith}
 use borrow.Author.Needs.{needs}
 use lib.ListN.{length, getD, take, drop, length-append, drop-of-length-le}
-use lib.Seq.{length-take-le, take-all, take-at, getD-drop, drop-cons, drop-drop}
+use lib.Seq.{length-take-le, take-all, take-at, drop-cons, drop-drop}
 use mir.Syntax.{w8, w64}
 use mir.Val.{Fits}
 use Rattle.numbers.proofs.Tables.{row-room}
-use Rattle.numbers.specs.Tables.{countWhere}
 use Rattle.numbers.specs.Bytes.{numbers, bytesOf, allBelow}
 use Rattle.numbers.proofs.Bytes.{numbers-length, fits-below, bytes-of-numbers}
-use Rattle.numbers.proofs.Counts.{countWhere-take-zero}
-use Rattle.field.specs.Mod.{mul}
-use Rattle.field.proofs.Solve.{canon-lt, add-canon, mul-canon}
+use Rattle.numbers.proofs.Below.{append-below, map-below}
+use Rattle.field.proofs.Solve.{canon-lt}
 use Rattle.field.proofs.Inverse.{pos}
 use Rattle.sharing_laws.specs.Poly.{padded}
-use Rattle.sharing_laws.specs.Interp.{dot, delta}
-use Rattle.sharing_laws.proofs.Polys.{eval-canon}
+use Rattle.sharing_laws.specs.Interp.{delta}
 use Rattle.sharing_laws.proofs.Deltas.{length-delta}
 use Rattle.plan.specs.declared.Gate.{Gate}
-use Rattle.plan.specs.declared.Gate.the-variants.{Input, Add, Scale, Offset, Multiply}
+use Rattle.plan.specs.declared.Gate.the-variants.{Input}
 use Rattle.plan.specs.declared.Header.{Header}
-use Rattle.plan.specs.Plans.{Plan, isInput, coinCount, dealings, pointOf}
+use Rattle.plan.specs.Plans.{Plan, coinOwnersAt, coinOwners, coinCount, pointOf}
 use Rattle.plan.specs.File.{planOf, gateAt}
 use Rattle.plan.specs.Planned.{Planned}
 use Rattle.plan_coalition.specs.Coalitions.{members, setOk}
 use Rattle.plan.proofs.Planned.{plan-t, plan-p, plan-gates, plan-gate}
 use Rattle.plan.proofs.Valid.{valid, planned-ready}
 use Rattle.run_protocol.specs.Ideal.{inputsTaken}
-use Rattle.run_protocol.specs.Shares.{gateShare, coinsTaken, coinsBelow}
-use Rattle.run_dealings.specs.Rows.{rowsOf, Prepared, Standing}
-use Rattle.run_protocol.proofs.Below.{append-below, map-below}
-use Rattle.run_tables.proofs.FillLaws.{rows-snoc, coins-next, coins-within}
+use Rattle.run_protocol.specs.Shares.{Before, gateShare, past, startOf}
+use Rattle.run_protocol.proofs.Below.{gate-canon}
+use Rattle.run_dealings.specs.Rows.{rowsOf, Prepared, Standing, Holds}
+use Rattle.run_tables.proofs.FillLaws.{rows-snoc, taken-within}
 use Rattle.run_tables.proofs.StepLaws.{placing}
-use Rattle.match_privacy.specs.Matching.{matchedAt, matchFrom, matchedCoins}
+use Rattle.match_privacy.specs.Matching.{withCoins, matchedAt, matchFrom, matchedWith, matchedCoins}
 use Rattle.match_agreement.specs.MatchParts.{Matchable}
 use Rattle.match_call.specs.MatchSteps.{deltaTail, Equipped, Turn, Matched}
-use Rattle.match_privacy.proofs.Blocks.{match-cons}
 use Rattle.match_privacy.proofs.SetMembers.{set-few}
-use Rattle.run_ideal.proofs.IdealLaws.{next-taken, input-below}
+use Rattle.run_ideal.proofs.IdealLaws.{taken-next}
 use Rattle.match_call.proofs.MemberLaws.{points-of-members, members-below, length-tail}
 
 -- ---- a gate's shares are below p
-dot-small : (p : ℕ) → 0 < p → (ws vs : List ℕ) → dot p ws vs < p
-unfolding dot
-dot-small p above [] vs = above
-dot-small p above (w ∷ ws) [] = above
-dot-small p above (w ∷ ws) (v ∷ vs) = canon-lt above (add-canon (mul p w v) (dot p ws vs))
-
-share-small : (plan : Plan) → 0 < plan .p → (gate : Gate) (env : List (ℕ → ℕ)) (v : ℕ) (cs : List ℕ) (x : ℕ) → gateShare plan gate env v cs x < plan .p
-unfolding gateShare
-share-small plan above (Input s) env v cs x = canon-lt above (eval-canon _ x)
-share-small plan above (Add a b) env v cs x = canon-lt above (add-canon _ _)
-share-small plan above (Scale a c) env v cs x = canon-lt above (mul-canon _ _)
-share-small plan above (Offset a c) env v cs x = canon-lt above (add-canon _ _)
-share-small plan above (Multiply a b) env v cs x = dot-small (plan .p) above _ _
-
 row-small :
-    (plan : Plan) → 0 < plan .p → (gate : Gate) (env : List (ℕ → ℕ)) (v : ℕ) (cs : List ℕ) → allBelow (plan .p) (rowsOf (plan .points) env) ≡ true
-    → allBelow (plan .p) (rowsOf (plan .points) (env ++ (gateShare plan gate env v cs ∷ []))) ≡ true
-row-small plan above gate env v cs b =
-    ap (allBelow (plan .p)) (rows-snoc (plan .points) env (gateShare plan gate env v cs))
-    ∙ append-below (plan .p) _ _ b (map-below (plan .p) (gateShare plan gate env v cs) (plan .points) (share-small plan above gate env v cs))
+    (plan : Plan) → 0 < plan .p → (gate : Gate) (s : Before) → allBelow (plan .p) (rowsOf (plan .points) (s .env)) ≡ true
+    → allBelow (plan .p) (rowsOf (plan .points) (past plan gate s .env)) ≡ true
+unfolding past
+row-small plan above gate s b =
+    ap (allBelow (plan .p)) (rows-snoc (plan .points) (s .env) (gateShare plan gate s))
+    ∙ append-below (plan .p) _ _ b (map-below (plan .p) (gateShare plan gate s) (plan .points) (λ x. canon-lt above (gate-canon plan gate s x)))
 
 -- ---- the loop
--- the invariant at gate g: the next coins stand at `at`, the next input is number `next`; what is written, and what is left to match from the wires
--- env of the first run and env′ of the matched one
+-- the invariant at gate g: its coins stand from place `at` on, its inputs from place `next` on; what is written, and what is left to match from
+-- what stands before the gate, s in the first run and s′ in the matched one
 pub record Matching (bs : List ℕ) (h : Header) (set : ℕ) (es ps rows ws xs ys coins out₀ before after out : List ℕ) (at next g : ℕ) : Type 0 where
   pub equipped : Equipped bs h set es
   pub prepared : Prepared bs h ps rows ws
   pub given : Matchable bs h set xs ys coins (length out)
   pub within : g ≤ h .gates
-  pub few : next ≤ g
-  pub taken : next ≡ countWhere isInput (take g (planOf bs .gates))
-  pub placed : at ≡ coinsBelow (planOf bs) g
+  pub few : next ≤ 15 * g
+  pub placed : at ≡ length (flatMap (coinOwnersAt (planOf bs)) (take g (planOf bs .gates)))
   pub first-long : length before ≡ 15360
   pub second-long : length after ≡ 15360
   pub out-long : length out ≡ length out₀
-  pub env : List (ℕ → ℕ)
-  pub env′ : List (ℕ → ℕ)
-  pub first : take (h .n * g) before ≡ rowsOf (planOf bs .points) env
-  pub second : take (h .n * g) after ≡ rowsOf (planOf bs .points) env′
-  pub first-below : allBelow (planOf bs .p) (rowsOf (planOf bs .points) env) ≡ true
-  pub second-below : allBelow (planOf bs .p) (rowsOf (planOf bs .points) env′) ≡ true
+  pub s : Before
+  pub s′ : Before
+  pub first : Holds (planOf bs) (h .n) g (drop next (numbers xs)) (drop at (numbers coins)) before s
+  pub second : Holds (planOf bs) (h .n) g (drop next (numbers ys)) (s′ .coins) after s′
+  pub first-below : allBelow (planOf bs .p) (rowsOf (planOf bs .points) (s .env)) ≡ true
+  pub second-below : allBelow (planOf bs .p) (rowsOf (planOf bs .points) (s′ .env)) ≡ true
   pub rest :
-      take at (numbers out) ++ matchFrom (planOf bs) (members set) (drop g (planOf bs .gates)) env env′ (drop next (numbers xs)) (drop next (numbers ys)) (drop at (numbers coins))
+      take at (numbers out) ++ matchFrom (planOf bs) (members set) (drop g (planOf bs .gates)) s s′
       ≡ matchedCoins (planOf bs) (members set) (numbers xs) (numbers ys) (numbers coins)
 
 module _ (bs : List ℕ) (h : Header) (set : ℕ) (es ps rows ws xs ys coins : List ℕ) where
+  abbrev plan : Plan
+  plan = planOf bs
+
   pub match-none :
       (before after out : List ℕ) → Equipped bs h set es → Prepared bs h ps rows ws → Matchable bs h set xs ys coins (length out) → length before ≡ 15360 → length after ≡ 15360
       → Matching bs h set es ps rows ws xs ys coins out before after out 0 0 0
-  unfolding rowsOf coinsBelow matchedCoins allBelow flatMap
+  unfolding rowsOf matchedCoins matchedWith startOf allBelow flatMap
   match-none before after out eq pr gi fl sl =
       let z : h .n * 0 ≡ 0 = mul-zero (h .n) in
       record {
@@ -110,15 +95,14 @@ module _ (bs : List ℕ) (h : Header) (set : ℕ) (es ps rows ws xs ys coins : L
         given = gi;
         within = omega arith;
         few = omega arith;
-        taken = sym (countWhere-take-zero isInput (planOf bs .gates));
-        placed = sym (mul-zero (planOf bs .t));
+        placed = refl;
         first-long = fl;
         second-long = sl;
         out-long = refl;
-        env = [];
-        env′ = [];
-        first = rw z refl;
-        second = rw z refl;
+        s = startOf (numbers xs) (numbers coins) [];
+        s′ = startOf (numbers ys) [] [];
+        first = record { rows = rw z refl; inputs = refl; coins = refl };
+        second = record { rows = rw z refl; inputs = refl; coins = refl };
         first-below = refl;
         second-below = refl;
         rest = refl;
@@ -128,45 +112,52 @@ module _ (bs : List ℕ) (h : Header) (set : ℕ) (es ps rows ws xs ys coins : L
     k : Planned bs h
     k = m .equipped .planned
 
-    above : 0 < planOf bs .p
+    above : 0 < plan .p
     above = pos (valid bs (k .passes) .prime)
 
-    pub match-fits : (t : ℕ) → g < h .gates → t ≤ 1 → Fits w64 (next + t)
+    pub match-fits : (t : ℕ) → g < h .gates → t ≤ 15 → Fits w64 (next + t)
     match-fits t l le = record { fits = omega (arith, m .few, k .gates-high) }
 
     pub match-equipped : Equipped bs h set es
     match-equipped = m .equipped
 
+    pub match-planned : Planned bs h
+    match-planned = m .equipped .planned
+
     pub match-prepared : Prepared bs h ps rows ws
     match-prepared = m .prepared
 
     module _ (l : g < h .gates) where
-      inside : g < length (planOf bs .gates)
+      inside : g < length (plan .gates)
       inside = rw (plan-gates k) l
 
-      coins-end : coinsBelow (planOf bs) (g + 1) ≡ at + coinsTaken (planOf bs) (gateAt bs g)
-      coins-end = rw (m .placed, ← plan-gate k g l) (coins-next (planOf bs) g inside)
+      abbrev taken : ℕ
+      taken = length (coinOwnersAt plan (gateAt bs g))
 
-      coins-room : at + coinsTaken (planOf bs) (gateAt bs g) ≤ coinCount (planOf bs)
-      coins-room = rw (← coins-end) (coins-within (planOf bs) g inside (g + 1))
+      coins-end : at + taken ≡ length (flatMap (coinOwnersAt plan) (take (g + 1) (plan .gates)))
+      coins-end = taken-next (coinOwnersAt plan) bs h at g taken k (m .placed) l refl
+
+      coins-room : at + taken ≤ coinCount plan
+      unfolding coinCount coinOwners
+      coins-room = omega (arith, coins-end, taken-within (coinOwnersAt plan) (plan .gates) (g + 1))
 
       many : h .n * h .gates ≤ 15360
       many = mul-le-mul {n₁ = h .n} {m₁ = h .gates} {n₂ = 15} {m₂ = 1024} (k .n-high) (k .gates-high)
 
-      stands : (table : List ℕ) (wires : List (ℕ → ℕ)) → length table ≡ 15360 → take (h .n * g) table ≡ rowsOf (planOf bs .points) wires
-          → allBelow (planOf bs .p) (rowsOf (planOf bs .points) wires) ≡ true → Standing (h .field .p) (h .n) g table
-      stands table wires long front below = record {
+      stands : (table : List ℕ) (s : Before) → length table ≡ 15360 → take (h .n * g) table ≡ rowsOf (plan .points) (s .env)
+          → allBelow (plan .p) (rowsOf (plan .points) (s .env)) ≡ true → Standing (h .field .p) (h .n) g table
+      stands table s long front below = record {
         room = omega (arith, many, row-room (h .n) g (h .gates) l);
         below = rw (front, ← plan-p k) below;
       }
 
-      pub match-turn : (x y : ℕ) → x ≡ getD (numbers xs) next 0 → y ≡ getD (numbers ys) next 0 → Turn bs h g x y before after at coins out
-      match-turn x y ex ey = record {
+      pub match-turn : Turn bs h g xs ys before after at coins out
+      match-turn = record {
         gate = l;
-        x-below = input-below bs h (numbers xs) next x k (m .given .first-below) ex;
-        y-below = input-below bs h (numbers ys) next y k (m .given .second-below) ey;
-        first = stands before (m .env) (m .first-long) (m .first) (m .first-below);
-        second = stands after (m .env′) (m .second-long) (m .second) (m .second-below);
+        xs-below = m .given .first-below;
+        ys-below = m .given .second-below;
+        first = stands before (m .s) (m .first-long) (m .first .rows) (m .first-below);
+        second = stands after (m .s′) (m .second-long) (m .second .rows) (m .second-below);
         first-room = omega (arith, many, m .first-long);
         second-room = omega (arith, many, m .second-long);
         lent = record {
@@ -176,92 +167,76 @@ module _ (bs : List ℕ) (h : Header) (set : ℕ) (es ps rows ws xs ys coins : L
         };
       }
 
-      module _ (x y : ℕ) (ex : x ≡ getD (numbers xs) next 0) (ey : y ≡ getD (numbers ys) next 0) where
-        new : List ℕ
-        new = matchedAt (planOf bs) (members set) (gateAt bs g) (m .env) (m .env′) x y (drop at (numbers coins))
+      -- what stands before the next gate
+      new : List ℕ
+      new = matchedAt plan (members set) (gateAt bs g) (m .s) (m .s′)
 
-        env-next : List (ℕ → ℕ)
-        env-next = m .env ++ (gateShare (planOf bs) (gateAt bs g) (m .env) x (drop at (numbers coins)) ∷ [])
+      first-next : Before
+      first-next = past plan (gateAt bs g) (m .s)
 
-        env′-next : List (ℕ → ℕ)
-        env′-next = m .env′ ++ (gateShare (planOf bs) (gateAt bs g) (m .env′) y new ∷ [])
+      second-next : Before
+      second-next = past plan (gateAt bs g) (withCoins new (m .s′))
 
-        left : (t r : ℕ) → List ℕ
-        left t r =
-            matchFrom (planOf bs) (members set) (drop (g + 1) (planOf bs .gates)) env-next env′-next (drop (next + t) (numbers xs)) (drop (next + t) (numbers ys)) (drop r (numbers coins))
+      gates-from : drop g (plan .gates) ≡ gateAt bs g ∷ drop (g + 1) (plan .gates)
+      gates-from = drop-cons (plan .gates) g (Input 0) inside ∙ rw (plan-gate k g l, add-one)
 
-        gates-from : drop g (planOf bs .gates) ≡ gateAt bs g ∷ drop (g + 1) (planOf bs .gates)
-        gates-from = drop-cons (planOf bs .gates) g (Input 0) inside ∙ rw (plan-gate k g l, add-one)
+      one-more : matchFrom plan (members set) (drop g (plan .gates)) (m .s) (m .s′) ≡ new ++ matchFrom plan (members set) (drop (g + 1) (plan .gates)) first-next second-next
+      unfolding new first-next second-next matchFrom
+      one-more = ap (λ (gs : List Gate). matchFrom plan (members set) gs (m .s) (m .s′)) gates-from
 
-        x-is : getD (drop next (numbers xs)) 0 0 ≡ x
-        x-is = getD-drop next (numbers xs) 0 0 ∙ rw add-zero (sym ex)
+      past-list : (xs : List ℕ) (a b c : ℕ) (ys : List ℕ) → ys ≡ drop a xs → c ≡ a + b → drop b ys ≡ drop c xs
+      past-list xs a b c ys e f = ap (drop b) e ∙ drop-drop b a xs ∙ ap (λ (n : ℕ). drop n xs) (sym f)
 
-        y-is : getD (drop next (numbers ys)) 0 0 ≡ y
-        y-is = getD-drop next (numbers ys) 0 0 ∙ rw add-zero (sym ey)
+      pub match-next :
+          (before′ after′ out′ : List ℕ) (r t : ℕ)
+          → Matched plan (members set) (h .n) (gateAt bs g) g (drop next (numbers xs)) (drop next (numbers ys)) (drop at (numbers coins)) at before after out before′ after′ out′ r
+          → length before′ ≡ length before → length after′ ≡ length after → length out′ ≡ length out → t ≡ inputsTaken plan (gateAt bs g) → t ≤ 15
+          → Matching bs h set es ps rows ws xs ys coins out₀ before′ after′ out′ r (next + t) (g + 1)
+      unfolding new first-next second-next past withCoins
+      match-next before′ after′ out′ r t w lb la lo et le = record {
+        equipped = m .equipped;
+        prepared = m .prepared;
+        given = rw lo (m .given);
+        within = omega arith;
+        few = omega (arith, m .few);
+        placed = w .place ∙ coins-end;
+        first-long = lb ∙ m .first-long;
+        second-long = la ∙ m .second-long;
+        out-long = lo ∙ m .out-long;
+        s = first-next;
+        s′ = second-next;
+        first = record {
+          rows = w .first (m .s) (m .first);
+          inputs = past-list (numbers xs) next (inputsTaken plan (gateAt bs g)) (next + t) (m .s .inputs) (m .first .inputs) (ap (λ (n : ℕ). next + n) et);
+          coins = past-list (numbers coins) at taken r (m .s .coins) (m .first .coins) (w .place);
+        };
+        second = record {
+          rows = w .second (m .s) (m .s′) (m .first) (m .second);
+          inputs = past-list (numbers ys) next (inputsTaken plan (gateAt bs g)) (next + t) (m .s′ .inputs) (m .second .inputs) (ap (λ (n : ℕ). next + n) et);
+          coins = refl;
+        };
+        first-below = row-small plan above (gateAt bs g) (m .s) (m .first-below);
+        second-below = row-small plan above (gateAt bs g) (withCoins new (m .s′)) (m .second-below);
+        rest =
+            ap (λ (f : List ℕ). f ++ matchFrom plan (members set) (drop (g + 1) (plan .gates)) first-next second-next) (w .coins (m .s) (m .s′) (m .first) (m .second))
+            ∙ append-assoc (take at (numbers out)) new (matchFrom plan (members set) (drop (g + 1) (plan .gates)) first-next second-next)
+            ∙ ap (λ (f : List ℕ). take at (numbers out) ++ f) (sym one-more)
+            ∙ m .rest;
+      }
 
-        one-more :
-            (t r : ℕ) → t ≡ inputsTaken (gateAt bs g) → r ≡ at + coinsTaken (planOf bs) (gateAt bs g)
-            → matchFrom (planOf bs) (members set) (drop g (planOf bs .gates)) (m .env) (m .env′) (drop next (numbers xs)) (drop next (numbers ys)) (drop at (numbers coins))
-            ≡ new ++ left t r
-        unfolding new env-next env′-next left
-        one-more t r et er =
-            ap (λ (gs : List Gate). matchFrom (planOf bs) (members set) gs (m .env) (m .env′) (drop next (numbers xs)) (drop next (numbers ys)) (drop at (numbers coins))) gates-from
-            ∙ match-cons (planOf bs) (members set) (gateAt bs g) (drop (g + 1) (planOf bs .gates)) (m .env) (m .env′) (drop next (numbers xs)) (drop next (numbers ys)) (drop at (numbers coins))
-            ∙ rw (
-              x-is,
-              y-is,
-              drop-drop (inputsTaken (gateAt bs g)) next (numbers xs),
-              drop-drop (inputsTaken (gateAt bs g)) next (numbers ys),
-              drop-drop (coinsTaken (planOf bs) (gateAt bs g)) at (numbers coins),
-              et,
-              er,
-            )
-
-        pub match-next :
-            (before′ after′ out′ : List ℕ) (r t : ℕ) (gate : Gate)
-            → Matched (planOf bs) (members set) (h .n) (gateAt bs g) g x y (numbers coins) at before after out before′ after′ out′ r
-            → length before′ ≡ length before → length after′ ≡ length after → length out′ ≡ length out → gate ≡ gateAt bs g → t ≡ inputsTaken gate → t ≤ 1
-            → Matching bs h set es ps rows ws xs ys coins out₀ before′ after′ out′ r (next + t) (g + 1)
-        unfolding new env-next env′-next left
-        match-next before′ after′ out′ r t gate w lb la lo eg et le =
-            let tt : t ≡ inputsTaken (gateAt bs g) = et ∙ ap inputsTaken eg in
-            record {
-              equipped = m .equipped;
-              prepared = m .prepared;
-              given = rw lo (m .given);
-              within = omega arith;
-              few = omega (arith, m .few);
-              taken = next-taken bs h next g t gate k (m .taken) l eg et;
-              placed = w .place ∙ sym coins-end;
-              first-long = lb ∙ m .first-long;
-              second-long = la ∙ m .second-long;
-              out-long = lo ∙ m .out-long;
-              env = env-next;
-              env′ = env′-next;
-              first = w .first (m .env) (m .first);
-              second = w .second (m .env) (m .env′) (m .first) (m .second);
-              first-below = row-small (planOf bs) above (gateAt bs g) (m .env) x (drop at (numbers coins)) (m .first-below);
-              second-below = row-small (planOf bs) above (gateAt bs g) (m .env′) y new (m .second-below);
-              rest =
-                  ap (λ (f : List ℕ). f ++ left t r) (w .coins (m .env) (m .env′) (m .first) (m .second))
-                  ∙ append-assoc (take at (numbers out)) new (left t r)
-                  ∙ ap (λ (f : List ℕ). take at (numbers out) ++ f) (sym (one-more t r tt (w .place)))
-                  ∙ m .rest;
-            }
-
-    pub match-done : h .gates ≤ g → numbers out ≡ matchedCoins (planOf bs) (members set) (numbers xs) (numbers ys) (numbers coins)
-    unfolding matchFrom coinsBelow coinCount dealings
+    pub match-done : h .gates ≤ g → numbers out ≡ matchedCoins plan (members set) (numbers xs) (numbers ys) (numbers coins)
+    unfolding matchFrom coinCount coinOwners
     match-done l =
-        let none : drop g (planOf bs .gates) ≡ [] = drop-of-length-le (planOf bs .gates) {i = g} (rw (plan-gates k) l) in
-        let all : take g (planOf bs .gates) ≡ planOf bs .gates = take-all g (planOf bs .gates) (rw (plan-gates k) l) in
-        let end : at ≡ coinCount (planOf bs) = m .placed ∙ rw all in
+        let none : drop g (plan .gates) ≡ [] = drop-of-length-le (plan .gates) {i = g} (rw (plan-gates k) l) in
+        let all : take g (plan .gates) ≡ plan .gates = take-all g (plan .gates) (rw (plan-gates k) l) in
+        let end : at ≡ coinCount plan = m .placed ∙ ap (λ (gs : List Gate). length (flatMap (coinOwnersAt plan) gs)) all in
         sym (take-all at (numbers out) (omega (arith, numbers-length out, m .given .room-long)))
         ∙ sym (append-nil (take at (numbers out))) ∙ (rw none at (m .rest))
 
     pub match-same : length out ≡ length out₀
     match-same = m .out-long
 
-pub ruleset matching-runs = (needs, match-none, match-fits, match-equipped, match-prepared, match-turn, match-done, match-same)
+pub ruleset matching-runs = (needs, match-none, match-fits, match-equipped, match-planned, match-prepared, match-turn, match-done, match-same)
 
 -- ---- delta's coefficients
 pub members-count : (set k : ℕ) (room : List ℕ) → take k room ≡ members set → k ≡ length (members set) → k ≡ length (take k room)

@@ -1,13 +1,14 @@
 -- One gate of both runs.
---     dealers-are, dealt-is      who deals at a gate, and what, by the table
+--     dealings-by, dealt-by      who deals at a gate, and what, by the table
 --     new-part, new-coins        the coins that are written, within the list
 --     matching-coins             a gate's new coins
 --     matching-step              one gate of both runs
 -- Assumes nothing.
 use mathlib.Core.Path.{_≡_, refl, sym, ap, ap₂, _∙_}
-use mathlib.Core.Bool.{true}
+use mathlib.Core.Bool.{Bool, true, false, cond}
 use mathlib.Core.List.{List, [], _∷_, _++_, map, append-assoc}
 use Prim.Native.Nat.{ℕ, suc, _+_, _*_, _<_, _≤_}
+use native.Mathlib.Nat.{mul-zero, mul-suc}
 use native.Mathlib.Omega.{arith}
 use borrow.Author.Needs.{needs}
 use borrow.Author.Tests.{ltb-true}
@@ -16,7 +17,7 @@ use lib.ListN.{length, getD, take, drop, length-append, length-drop, take-append
 use lib.Seq.{length-take-le, getD-take, take-at, drop-at}
 use Rattle.numbers.specs.Tables.{tab}
 use Rattle.numbers.specs.Bytes.{numbers, allBelow}
-use Rattle.numbers.proofs.Tables.{tab-ext}
+use Rattle.numbers.proofs.Tables.{tab-ext, tab-map}
 use Rattle.numbers.proofs.Bytes.{numbers-length}
 use Rattle.numbers.proofs.Below.{allBelow-append, allBelow-take, allBelow-drop}
 use Rattle.numbers.proofs.Truth.{both-true}
@@ -26,75 +27,107 @@ use Rattle.sharing_laws.specs.Interp.{All}
 use Rattle.sharing_laws.proofs.Elements.{scale-below, sum-below}
 use Rattle.sharing_laws.proofs.Alls.{all-tab, map-tab}
 use Rattle.plan.specs.declared.Gate.{Gate}
-use Rattle.plan.specs.declared.Gate.the-variants.{Input, Add, Scale, Offset, Multiply}
+use Rattle.plan.specs.declared.Gate.the-variants.{Input, Add, Scale, Offset, Multiply, Random, Spend}
+use Rattle.plan.specs.declared.Rule.{Rule}
+use Rattle.plan.specs.declared.Rule.the-variants.{Reduction}
+use Rattle.plan.specs.declared.Dealing.{Dealing}
 use Rattle.plan.specs.declared.Header.{Header}
-use Rattle.plan.specs.Plans.{Plan, partyCount, dealerCount, dealerPoints, dealersOf}
+use Rattle.plan.specs.Plans.{Plan, dealerCount, dealerPoints, kindOf, isKind, operandsOf, firstDealings, multiplyDealings, dealingsAt, coinOwnersAt}
 use Rattle.plan.specs.File.{planOf, gateAt, gateOk}
 use Rattle.plan.specs.Planned.{Planned}
 use Rattle.plan_coalition.specs.Coalitions.{members}
-use Rattle.plan.proofs.Planned.{between-true, plan-n, plan-t, plan-p, plan-dealers}
-use Rattle.plan.proofs.Valid.{Valid, valid, gate-kept}
-use Rattle.run_protocol.specs.Shares.{wireAt, dealtAt, gateShare, coinsTaken}
-use Rattle.run_dealings.specs.Rows.{rowsOf, productsOf, Sized, Standing, Taking, Stepped}
+use Rattle.plan.proofs.Planned.{between-true, plan-n, plan-t, plan-p, plan-dealers, plan-gate}
+use Rattle.plan.proofs.Valid.{Valid, valid, plain, gate-kept}
+use Rattle.run_protocol.specs.Shares.{Before, productOf, multiplyDealt, dealtAt, gateShare, past}
+use Rattle.run_dealings.specs.Rows.{rowsOf, productsOf, Sized, Standing, Taking, Holds, Stepped}
 use Rattle.run_tables.proofs.StepLaws.{planned-sized}
+use Rattle.seat_messages.proofs.PointLaws.{plan-points-long}
 use Rattle.run_tables.proofs.GateLaws.{entry-of-wire}
-use Rattle.match_privacy.specs.Matching.{matchedBlocks, matchedAt}
+use Rattle.match_privacy.specs.Matching.{matchedBlocks, absorbedBy, absorbed, withCoins, matchedAt}
 use Rattle.match_moves.specs.Moves.{moved, movedBlocks, dealersIn, dealtIn, Lent, Advanced}
-use Rattle.match_call.specs.MatchSteps.{deltaTail, Equipped, Turn, NewCoins, Matched}
+use Rattle.match_call.specs.MatchSteps.{deltaTail, Equipped, Turn, NewCoins, Both, Matched}
 use Rattle.sharing_laws.proofs.Alls.{below-canon}
-use Rattle.match_privacy.proofs.Blocks.{share-prefix}
-use Rattle.match_call.proofs.MemberLaws.{length-tail, tail-below, blocks-are}
+use Rattle.match_privacy.proofs.Blocks.{total}
+use Rattle.match_privacy.proofs.Matches.{taken-is, share-prefix}
+use Rattle.match_call.proofs.MemberLaws.{dealingBy, length-tail, tail-below, blocks-are}
 
 -- ---- who deals at a gate, and what
-dealers-by : (plan : Plan) (t : ℕ) → plan .t ≡ t → (gate : Gate) → dealersIn t gate ≡ dealersOf plan gate
-unfolding dealersIn dealersOf dealerCount
-dealers-by plan t e (Input s) = refl
-dealers-by plan t e (Add a b) = refl
-dealers-by plan t e (Scale a c) = refl
-dealers-by plan t e (Offset a c) = refl
-dealers-by plan t e (Multiply a b) = ap (λ (k : ℕ). tab suc (k + k + 1)) (sym e)
+module _ (plan : Plan) (h : Header) (et : plan .t ≡ h .t) (rule : plan .rule ≡ Reduction) where
+  first-dealings : (k : ℕ) → firstDealings plan k ≡ map (dealingBy plan) (tab suc k)
+  unfolding firstDealings
+  first-dealings k = sym (tab-map (dealingBy plan) suc k)
 
--- they are parties
-dealers-low : (plan : Plan) (n p g : ℕ) → n ≤ 15 → dealerCount plan ≤ n → (gate : Gate) → gateOk n p g gate ≡ true → All (λ d. (1 ≤ d) × (d ≤ 16)) (dealersOf plan gate)
-unfolding dealersOf gateOk
-dealers-low plan n p g le few (Input s) ok = let b = between-true 1 n s ok in ((b .0, omega (arith, b .1)), tt)
-dealers-low plan n p g le few (Add a b) ok = tt
-dealers-low plan n p g le few (Scale a c) ok = tt
-dealers-low plan n p g le few (Offset a c) ok = tt
-dealers-low plan n p g le few (Multiply a b) ok = all-tab (λ d. (1 ≤ d) × (d ≤ 16)) suc (dealerCount plan) (λ i l. (omega arith, omega arith))
+  dealings-by : (gate : Gate) → kindOf gate ≤ 5 → dealingsAt plan gate ≡ map (dealingBy plan) (dealersIn h gate)
+  unfolding dealingsAt dealersIn multiplyDealings kindOf dealerCount
+  dealings-by (Input s) low = refl
+  dealings-by (Add a b) low = refl
+  dealings-by (Scale a c) low = refl
+  dealings-by (Offset a c) low = refl
+  dealings-by (Multiply a b) low = ap (multiplyDealings plan) rule ∙ first-dealings (dealerCount plan) ∙ ap (λ (k : ℕ). map (dealingBy plan) (tab suc (k + k + 1))) et
+  dealings-by Random low = absurd (omega arith)
+  dealings-by (Spend a b) low = refl
 
-module _ (bs : List ℕ) (h : Header) (k : Planned bs h) (g : ℕ) (table : List ℕ) (room : h .n * g ≤ length table) (env : List (ℕ → ℕ)) (front : take (h .n * g) table ≡ rowsOf (planOf bs .points) env) (v : ℕ) where
-  points-long : length (planOf bs .points) ≡ h .n
-  unfolding partyCount
-  points-long = plan-n k
+  total-by : (ds : List ℕ) → total (map (dealingBy plan) ds) ≡ h .t * length ds
+  unfolding total
+  total-by [] = sym (mul-zero (h .t))
+  total-by (d ∷ ds) = omega (arith, et, total-by ds, mul-suc (h .t) (length ds))
 
-  product-at : (a b j : ℕ) → a < g → b < g → j < h .n → mul (h .field .p) (getD table (h .n * a + j) 0) (getD table (h .n * b + j) 0) ≡ mul (planOf bs .p) (wireAt env a (getD (planOf bs .points) j 0)) (wireAt env b (getD (planOf bs .points) j 0))
+  coins-by : (gate : Gate) → kindOf gate ≤ 5 → length (coinOwnersAt plan gate) ≡ h .t * length (dealersIn h gate)
+  coins-by gate low = taken-is plan gate ∙ ap total (dealings-by gate low) ∙ total-by (dealersIn h gate)
+
+  -- where a multiply's dealers deal their products, no dealing of 0 takes up a change
+  none-absorbed : (ms : List ℕ) (gate : Gate) (s s′ : Before) → absorbed plan ms gate s s′ ≡ s .coins
+  unfolding absorbed absorbedBy
+  none-absorbed ms gate s s′ =
+      ap (λ (r : Rule). cond (isKind 5 gate) (absorbedBy plan r ms s s′ (getD (operandsOf gate) 0 0) (getD (operandsOf gate) 1 0)) (s .coins)) rule ∙ either (isKind 5 gate)
+    where
+      either : (b : Bool) → cond b (s .coins) (s .coins) ≡ s .coins
+      either true = refl
+      either false = refl
+
+-- the dealers are parties
+dealers-low : (h : Header) (n p g : ℕ) → n ≤ 15 → h .t + h .t + 1 ≤ n → h .n ≤ n → (gate : Gate) → gateOk n p g gate ≡ true → All (λ d. (1 ≤ d) × (d ≤ 16)) (dealersIn h gate)
+unfolding dealersIn gateOk
+dealers-low h n p g le few upto (Input s) ok = let b = between-true 1 n s ok in ((b .0, omega (arith, b .1)), tt)
+dealers-low h n p g le few upto (Add a b) ok = tt
+dealers-low h n p g le few upto (Scale a c) ok = tt
+dealers-low h n p g le few upto (Offset a c) ok = tt
+dealers-low h n p g le few upto (Multiply a b) ok = all-tab (λ d. (1 ≤ d) × (d ≤ 16)) suc (h .t + h .t + 1) (λ i l. (omega arith, omega arith))
+dealers-low h n p g le few upto Random ok = all-tab (λ d. (1 ≤ d) × (d ≤ 16)) suc (h .n) (λ i l. (omega arith, omega arith))
+dealers-low h n p g le few upto (Spend a b) ok = tt
+
+module _ (bs : List ℕ) (h : Header) (k : Planned bs h) (g : ℕ) (table xs : List ℕ) (room : h .n * g ≤ length table) (s : Before) (front : take (h .n * g) table ≡ rowsOf (planOf bs .points) (s .env)) (inputs : s .inputs ≡ xs) where
+  product-at : (a b j : ℕ) → a < g → b < g → j < h .n → mul (h .field .p) (getD table (h .n * a + j) 0) (getD table (h .n * b + j) 0) ≡ productOf (planOf bs) (s .env) a b (getD (planOf bs .points) j 0)
+  unfolding productOf
   product-at a b j la lb l =
       rw (plan-p k)
-      (ap₂ (mul (h .field .p)) (entry-of-wire (planOf bs .points) (h .n) points-long (k .n-low) table g room env front a j la l)
-      (entry-of-wire (planOf bs .points) (h .n) points-long (k .n-low) table g room env front b j lb l))
+      (ap₂ (mul (h .field .p)) (entry-of-wire (planOf bs .points) (h .n) (plan-points-long bs h k) (k .n-low) table g room (s .env) front a j la l)
+      (entry-of-wire (planOf bs .points) (h .n) (plan-points-long bs h k) (k .n-low) table g room (s .env) front b j lb l))
 
-  products-are : (a b : ℕ) → a < g → b < g → productsOf (h .field .p) (h .n) (h .t + h .t + 1) a b table ≡ dealtAt (planOf bs) (Multiply a b) env v
-  unfolding productsOf dealtAt dealerPoints
+  products-are : (a b : ℕ) → a < g → b < g → productsOf (h .field .p) (h .n) (h .t + h .t + 1) a b table ≡ dealtAt (planOf bs) (Multiply a b) s
+  unfolding productsOf dealtAt multiplyDealt dealerPoints
   products-are a b la lb =
       let m : ℕ = h .t + h .t + 1 in
-      let F : ℕ → ℕ = λ y. mul (planOf bs .p) (wireAt env a y) (wireAt env b y) in
+      let F : ℕ → ℕ = productOf (planOf bs) (s .env) a b in
       let le : m ≤ h .n = omega (arith, k .majority) in
-      let long : length (take m (planOf bs .points)) ≡ m = length-take-le m (planOf bs .points) (rw points-long le) in
+      let long : length (take m (planOf bs .points)) ≡ m = length-take-le m (planOf bs .points) (rw (plan-points-long bs h k) le) in
       tab-ext _ (λ j. F (getD (take m (planOf bs .points)) j 0)) m
       (λ j l. rw (getD-take m (planOf bs .points) j 0 l) (product-at a b j la lb (omega arith)))
       ∙ sym (ap (λ (n : ℕ). map F (take n (planOf bs .points))) (plan-dealers k)
       ∙ map-tab F (take m (planOf bs .points)) ∙ ap (tab (λ j. F (getD (take m (planOf bs .points)) j 0))) long)
+      ∙ sym (ap (λ (r : Rule). multiplyDealt (planOf bs) r s a b) (plain bs (k .passes) .rule))
 
-  dealt-by : (gate : Gate) → gateOk (h .n) (h .field .p) g gate ≡ true → dealtIn h gate table v ≡ dealtAt (planOf bs) gate env v
+  dealt-by : (gate : Gate) → gateOk (h .n) (h .field .p) g gate ≡ true → dealtIn h gate table xs ≡ dealtAt (planOf bs) gate s
   unfolding dealtIn dealtAt gateOk
   dealt-by (Multiply a b) ok =
       let l = both-true (ltb a g) (ltb b g) ok in
       products-are a b (ltb-true a g (l .0)) (ltb-true b g (l .1))
-  dealt-by (Input s) ok = refl
+  dealt-by (Input i) ok = rw inputs
   dealt-by (Add a b) ok = refl
   dealt-by (Scale a c) ok = refl
   dealt-by (Offset a c) ok = refl
+  dealt-by Random ok = rw (plan-n k, inputs)
+  dealt-by (Spend a b) ok = refl
 
 -- ---- what is written, within the list
 module _ (old new block : List ℕ) (at k : ℕ) (le : at ≤ length old) (front : take (at + k) new ≡ take at old ++ block) where
@@ -136,44 +169,49 @@ module _ (bs : List ℕ) (h : Header) (set : ℕ) (es : List ℕ) (w : Equipped 
   pub equipped-sized : Sized h
   equipped-sized = planned-sized bs h (w .planned)
 
+  abbrev plan : Plan
+  plan = planOf bs
+
   module _ (g : ℕ) (gate : Gate) (l : g < h .gates) (eg : gate ≡ gateAt bs g) where
     step-kept : gateOk (h .n) (h .field .p) g gate ≡ true
     step-kept = gate-kept bs h (w .planned) g gate l eg
 
-    dealers-are : dealersIn (h .t) gate ≡ dealersOf (planOf bs) gate
-    dealers-are = dealers-by (planOf bs) (h .t) (plan-t (w .planned)) gate
+    step-low : kindOf gate ≤ 5
+    step-low = rw (eg, ← plan-gate (w .planned) g l) (plain bs (w .planned .passes) .kinds g)
 
-    coins-are : h .t * length (dealersIn (h .t) gate) ≡ coinsTaken (planOf bs) (gateAt bs g)
-    unfolding coinsTaken
-    coins-are = rw (dealers-are, ← plan-t (w .planned), eg)
+    file-rule : plan .rule ≡ Reduction
+    file-rule = plain bs (w .planned .passes) .rule
 
-    module _ (at : ℕ) (coins out : List ℕ) (lent : Lent (h .field .p) at (coinsTaken (planOf bs) (gateAt bs g)) coins out) where
-      step-lent : Lent (h .field .p) at (h .t * length (dealersIn (h .t) gate)) coins out
+    coins-are : h .t * length (dealersIn h gate) ≡ length (coinOwnersAt plan (gateAt bs g))
+    coins-are = sym (coins-by plan h (plan-t (w .planned)) file-rule gate step-low) ∙ ap (λ (x : Gate). length (coinOwnersAt plan x)) eg
+
+    module _ (at : ℕ) (coins out : List ℕ) (lent : Lent (h .field .p) at (length (coinOwnersAt plan (gateAt bs g))) coins out) where
+      step-lent : Lent (h .field .p) at (h .t * length (dealersIn h gate)) coins out
       step-lent = rw coins-are lent
 
-      coins-small : allBelow (planOf bs .p) (drop at (numbers coins)) ≡ true
-      coins-small = allBelow-drop (planOf bs .p) at (numbers coins) (rw (plan-p (w .planned)) (lent .below))
+      coins-small : allBelow (plan .p) (drop at (numbers coins)) ≡ true
+      coins-small = allBelow-drop (plan .p) at (numbers coins) (rw (plan-p (w .planned)) (lent .below))
 
-      first-taking : Taking (planOf bs) (gateAt bs g) at (numbers coins)
+      first-taking : Taking plan (gateAt bs g) at (numbers coins)
       first-taking = record {
         room = rw (numbers-length coins) (lent .here);
-        below = allBelow-take (planOf bs .p) (coinsTaken (planOf bs) (gateAt bs g)) (drop at (numbers coins)) coins-small;
+        below = allBelow-take (plan .p) (length (coinOwnersAt plan (gateAt bs g))) (drop at (numbers coins)) coins-small;
       }
 
-      module _ (x y : ℕ) (before after out′ : List ℕ) (r : ℕ) (same : length out′ ≡ length out)
-          (moves : Advanced at (h .t * length (dealersIn (h .t) gate))
-          (movedBlocks (h .field .p) (h .t) set es (dealersIn (h .t) gate) (dealtIn h gate before x) (dealtIn h gate after y) (drop at (numbers coins))) out out′ r) where
+      module _ (xs ys before after out′ : List ℕ) (r : ℕ) (same : length out′ ≡ length out)
+          (moves : Advanced at (h .t * length (dealersIn h gate))
+          (movedBlocks (h .field .p) (h .t) set es (dealersIn h gate) (dealtIn h gate before xs) (dealtIn h gate after ys) (drop at (numbers coins))) out out′ r) where
         block : List ℕ
-        block = movedBlocks (h .field .p) (h .t) set es (dealersIn (h .t) gate) (dealtIn h gate before x) (dealtIn h gate after y) (drop at (numbers coins))
+        block = movedBlocks (h .field .p) (h .t) set es (dealersIn h gate) (dealtIn h gate before xs) (dealtIn h gate after ys) (drop at (numbers coins))
 
-        written : take (at + coinsTaken (planOf bs) (gateAt bs g)) (numbers out′) ≡ take at (numbers out) ++ block
+        written : take (at + length (coinOwnersAt plan (gateAt bs g))) (numbers out′) ≡ take at (numbers out) ++ block
         unfolding block
         written = rw (← coins-are) (moves .front)
 
         inside : at ≤ length (numbers out)
         inside = rw (numbers-length out) (omega (arith, lent .there))
 
-        fits : at + coinsTaken (planOf bs) (gateAt bs g) ≤ length (numbers out′)
+        fits : at + length (coinOwnersAt plan (gateAt bs g)) ≤ length (numbers out′)
         fits = rw (numbers-length out′, same) (lent .there)
 
         block-small : allBelow (h .field .p) block ≡ true
@@ -181,95 +219,126 @@ module _ (bs : List ℕ) (h : Header) (set : ℕ) (es : List ℕ) (w : Equipped 
         block-small =
             blocks-below (h .field .p) (h .t) set es _ _ _ (drop at (numbers coins)) (pos (equipped-sized .ready .prime)) (allBelow-drop (h .field .p) at (numbers coins) (lent .below))
 
-        second-taking : Taking (planOf bs) (gateAt bs g) at (numbers out′)
+        second-taking : Taking plan (gateAt bs g) at (numbers out′)
         second-taking = record {
           room = fits;
           below =
-              ap (allBelow (planOf bs .p)) (new-block (numbers out) (numbers out′) block at (coinsTaken (planOf bs) (gateAt bs g)) inside written fits)
+              ap (allBelow (plan .p)) (new-block (numbers out) (numbers out′) block at (length (coinOwnersAt plan (gateAt bs g))) inside written fits)
               ∙ rw (plan-p (w .planned)) block-small;
         }
 
-        module _ (sb : Standing (h .field .p) (h .n) g before) (sa : Standing (h .field .p) (h .n) g after) where
-          block-matched :
-              (env env′ : List (ℕ → ℕ)) → take (h .n * g) before ≡ rowsOf (planOf bs .points) env → take (h .n * g) after ≡ rowsOf (planOf bs .points) env′
-              → block ≡ matchedAt (planOf bs) (members set) (gateAt bs g) env env′ x y (drop at (numbers coins))
-          unfolding block matchedAt coinsTaken
-          block-matched env env′ fb fa =
-              let v : Valid (planOf bs) = valid bs (w .planned .passes) in
-              let room : planOf bs .t * length (dealersOf (planOf bs) gate) ≤ length (drop at (numbers coins)) =
-              rw eg (omega (arith, length-drop at (numbers coins), numbers-length coins, lent .here)) in
-              let few : dealerCount (planOf bs) ≤ h .n = rw (plan-dealers (w .planned)) (omega (arith, w .planned .majority)) in
-              let ep : planOf bs .p ≡ h .field .p = plan-p (w .planned) in
-              let et : planOf bs .t ≡ h .t = plan-t (w .planned) in
-              let ed : dealersIn (h .t) gate ≡ dealersOf (planOf bs) gate = dealers-are in
-              let eb : dealtIn h gate before x ≡ dealtAt (planOf bs) gate env x = dealt-by bs h (w .planned) g before (sb .room) env fb x gate step-kept in
-              let ea : dealtIn h gate after y ≡ dealtAt (planOf bs) gate env′ y = dealt-by bs h (w .planned) g after (sa .room) env′ fa y gate step-kept in
-              let ec : es ≡ deltaTail (planOf bs) set = w .coefficients in
+        module _ (sb : Standing (h .field .p) (h .n) g before) (sa : Standing (h .field .p) (h .n) g after) (s s′ : Before)
+            (hb : Holds plan (h .n) g xs (drop at (numbers coins)) before s) (ha : Holds plan (h .n) g ys (s′ .coins) after s′) where
+          -- what is dealt in both runs
+          first-dealt : dealtIn h gate before xs ≡ dealtAt plan gate s
+          first-dealt = dealt-by bs h (w .planned) g before xs (sb .room) s (hb .rows) (hb .inputs) gate step-kept
+
+          second-dealt : dealtIn h gate after ys ≡ dealtAt plan gate (withCoins (s .coins) s′)
+          unfolding withCoins
+          second-dealt = dealt-by bs h (w .planned) g after ys (sa .room) (withCoins (s .coins) s′) (ha .rows) (ha .inputs) gate step-kept
+
+          matched-is : matchedBlocks plan (members set) (dealingsAt plan gate) (dealtAt plan gate s) (dealtAt plan gate (withCoins (s .coins) s′)) (s .coins) ≡ matchedAt plan (members set) gate s s′
+          unfolding matchedAt
+          matched-is =
+              ap (λ (cs : List ℕ). matchedBlocks plan (members set) (dealingsAt plan gate) (dealtAt plan gate s) (dealtAt plan gate (withCoins cs s′)) cs)
+              (sym (none-absorbed plan h (plan-t (w .planned)) file-rule (members set) gate s s′))
+
+          block-matched : block ≡ matchedAt plan (members set) (gateAt bs g) s s′
+          unfolding block
+          block-matched =
+              let v : Valid plan = valid bs (w .planned .passes) in
+              let few : h .t + h .t + 1 ≤ h .n = omega (arith, w .planned .majority) in
+              let ep : plan .p ≡ h .field .p = plan-p (w .planned) in
+              let et : plan .t ≡ h .t = plan-t (w .planned) in
+              let room : plan .t * length (dealersIn h gate) ≤ length (drop at (numbers coins)) =
+              rw (et, coins-are) (omega (arith, length-drop at (numbers coins), numbers-length coins, lent .here)) in
+              let ec : es ≡ deltaTail plan set = w .coefficients in
+              let eb : dealtIn h gate before xs ≡ dealtAt plan gate s = first-dealt in
+              let ea : dealtIn h gate after ys ≡ dealtAt plan gate (withCoins (s .coins) s′) = second-dealt in
               let is :
               block
-              ≡ movedBlocks (planOf bs .p) (planOf bs .t) set (deltaTail (planOf bs) set) (dealersOf (planOf bs) gate) (dealtAt (planOf bs) gate env x)
-              (dealtAt (planOf bs) gate env′ y) (drop at (numbers coins)) = cc in
+              ≡ movedBlocks (plan .p) (plan .t) set (deltaTail plan set) (dealersIn h gate) (dealtAt plan gate s) (dealtAt plan gate (withCoins (s .coins) s′)) (drop at (numbers coins)) =
+              cc in
               is
-              ∙ blocks-are (planOf bs) v set (w .set-ok) (dealersOf (planOf bs) gate) (dealtAt (planOf bs) gate env x) (dealtAt (planOf bs) gate env′ y) (drop at (numbers coins))
-              (dealers-low (planOf bs) (h .n) (h .field .p) g (w .planned .n-high) few gate step-kept) room
-              (below-canon (planOf bs .p) (drop at (numbers coins)) coins-small)
-              ∙ ap (λ (q : Gate). matchedBlocks (planOf bs) (members set) (dealersOf (planOf bs) q) (dealtAt (planOf bs) q env x) (dealtAt (planOf bs) q env′ y) (drop at (numbers coins))) eg
+              ∙ blocks-are plan v set (w .set-ok) (dealersIn h gate) (dealtAt plan gate s) (dealtAt plan gate (withCoins (s .coins) s′)) (drop at (numbers coins))
+              (dealers-low h (h .n) (h .field .p) g (w .planned .n-high) few (omega arith) gate step-kept) room
+              (below-canon (plan .p) (drop at (numbers coins)) coins-small)
+              ∙ ap₂ (λ (ds : List Dealing) (cs : List ℕ). matchedBlocks plan (members set) ds (dealtAt plan gate s) (dealtAt plan gate (withCoins (s .coins) s′)) cs)
+              (sym (dealings-by plan h (plan-t (w .planned)) file-rule gate step-low)) (sym (hb .coins))
+              ∙ matched-is ∙ ap (λ (q : Gate). matchedAt plan (members set) q s s′) eg
 
-          share-is :
-              (env′ : List (ℕ → ℕ)) → gateShare (planOf bs) (gateAt bs g) env′ y (drop at (numbers out′)) ≡ gateShare (planOf bs) (gateAt bs g) env′ y block
-          share-is env′ =
-              ap (gateShare (planOf bs) (gateAt bs g) env′ y) (new-part (numbers out) (numbers out′) block at (coinsTaken (planOf bs) (gateAt bs g)) inside written)
-              ∙ share-prefix (planOf bs) (valid bs (w .planned .passes)) (gateAt bs g) env′ y block _
-              (omega (arith, block-long (numbers out) (numbers out′) block at (coinsTaken (planOf bs) (gateAt bs g)) inside written fits))
+          share-is : gateShare plan (gateAt bs g) (withCoins (drop at (numbers out′)) s′) ≡ gateShare plan (gateAt bs g) (withCoins block s′)
+          share-is =
+              ap (λ (cs : List ℕ). gateShare plan (gateAt bs g) (withCoins cs s′)) (new-part (numbers out) (numbers out′) block at (length (coinOwnersAt plan (gateAt bs g))) inside written)
+              ∙ share-prefix plan (gateAt bs g) s′ block _
+              (omega (arith, block-long (numbers out) (numbers out′) block at (length (coinOwnersAt plan (gateAt bs g))) inside written fits))
 
-          gate-matched : NewCoins (planOf bs) (members set) (h .n) (gateAt bs g) g x y (numbers coins) at before after out out′ r
-          gate-matched =
-              let next : r ≡ at + coinsTaken (planOf bs) (gateAt bs g) = moves .place ∙ ap (λ (k : ℕ). at + k) coins-are in
-              record {
-                place = next;
-                taking = second-taking;
-                coins =
-                    λ env env′ fb fa.
-                    ap (λ (k : ℕ). take k (numbers out′)) next ∙ written ∙ ap (λ (b : List ℕ). take at (numbers out) ++ b) (block-matched env env′ fb fa);
-                shares = λ env env′ fb fa. share-is env′ ∙ ap (gateShare (planOf bs) (gateAt bs g) env′ y) (block-matched env env′ fb fa);
-              }
+        gate-matched :
+            Standing (h .field .p) (h .n) g before → Standing (h .field .p) (h .n) g after
+            → NewCoins plan (members set) (h .n) (gateAt bs g) g xs ys (drop at (numbers coins)) at before after out out′ r
+        gate-matched sb sa =
+            let next : r ≡ at + length (coinOwnersAt plan (gateAt bs g)) = moves .place ∙ ap (λ (k : ℕ). at + k) coins-are in
+            record {
+              place = next;
+              taking = second-taking;
+              coins =
+                  λ s s′ hb ha.
+                  ap (λ (k : ℕ). take k (numbers out′)) next ∙ written ∙ ap (λ (b : List ℕ). take at (numbers out) ++ b) (block-matched sb sa s s′ hb ha);
+              shares = λ s s′ hb ha. share-is sb sa s s′ hb ha ∙ ap (λ (cs : List ℕ). gateShare plan (gateAt bs g) (withCoins cs s′)) (block-matched sb sa s s′ hb ha);
+            }
 
 -- of the turn of gate g
-module _ (bs : List ℕ) (h : Header) (set : ℕ) (es : List ℕ) (w : Equipped bs h set es) (g x y : ℕ) (before after : List ℕ) (at : ℕ) (coins out : List ℕ) (turn : Turn bs h g x y before after at coins out) (gate : Gate) (eg : gate ≡ gateAt bs g) where
+module _ (bs : List ℕ) (h : Header) (set : ℕ) (es : List ℕ) (w : Equipped bs h set es) (g : ℕ) (xs ys before after : List ℕ) (at : ℕ) (coins out : List ℕ) (turn : Turn bs h g xs ys before after at coins out) (gate : Gate) (eg : gate ≡ gateAt bs g) where
   pub turn-kept : gateOk (h .n) (h .field .p) g gate ≡ true
   turn-kept = step-kept bs h set es w g gate (turn .gate) eg
 
-  pub turn-lent : Lent (h .field .p) at (h .t * length (dealersIn (h .t) gate)) coins out
+  pub turn-low : kindOf gate ≤ 5
+  turn-low = step-low bs h set es w g gate (turn .gate) eg
+
+  pub turn-lent : Lent (h .field .p) at (h .t * length (dealersIn h gate)) coins out
   turn-lent = step-lent bs h set es w g gate (turn .gate) eg at coins out (turn .lent)
 
   pub turn-matched :
-      (out′ : List ℕ) (r : ℕ) → length out′ ≡ length out
-      → Advanced at (h .t * length (dealersIn (h .t) gate))
-      (movedBlocks (h .field .p) (h .t) set es (dealersIn (h .t) gate) (dealtIn h gate before x) (dealtIn h gate after y) (drop at (numbers coins))) out out′ r
-      → NewCoins (planOf bs) (members set) (h .n) (gateAt bs g) g x y (numbers coins) at before after out out′ r
-  turn-matched out′ r same moves =
-      gate-matched bs h set es w g gate (turn .gate) eg at coins out (turn .lent) x y before after out′ r same moves (turn .first) (turn .second)
+      (next : ℕ) (out′ : List ℕ) (r : ℕ) → length out′ ≡ length out
+      → Advanced at (h .t * length (dealersIn h gate))
+      (movedBlocks (h .field .p) (h .t) set es (dealersIn h gate) (dealtIn h gate before (drop next (numbers xs))) (dealtIn h gate after (drop next (numbers ys))) (drop at (numbers coins))) out out′ r
+      → NewCoins (planOf bs) (members set) (h .n) (gateAt bs g) g (drop next (numbers xs)) (drop next (numbers ys)) (drop at (numbers coins)) at before after out out′ r
+  turn-matched next out′ r same moves =
+      gate-matched bs h set es w g gate (turn .gate) eg at coins out (turn .lent) (drop next (numbers xs)) (drop next (numbers ys)) before after out′ r same moves (turn .first) (turn .second)
 
-pub ruleset matching-coins = (needs, es-long, es-below, equipped-sized, turn-kept, turn-lent, turn-matched)
+pub ruleset matching-coins = (needs, es-long, es-below, equipped-sized, turn-kept, turn-low, turn-lent, turn-matched)
 
 -- ---- both runs
-module _ (bs : List ℕ) (h : Header) (set : ℕ) (es : List ℕ) (w : Equipped bs h set es) (g x y : ℕ) (before after : List ℕ) (at : ℕ) (coins out : List ℕ) (turn : Turn bs h g x y before after at coins out) where
-  pub turn-taking : Taking (planOf bs) (gateAt bs g) at (numbers coins)
-  turn-taking = first-taking bs h set es w g (gateAt bs g) (turn .gate) refl at coins out (turn .lent)
+module _ (bs : List ℕ) (h : Header) (set : ℕ) (es : List ℕ) (w : Equipped bs h set es) (g : ℕ) (xs ys before after : List ℕ) (at : ℕ) (coins out : List ℕ) (turn : Turn bs h g xs ys before after at coins out) where
+  pub turn-both : (new : List ℕ) → Taking (planOf bs) (gateAt bs g) at (numbers new) → Both bs h g xs ys before after at coins new
+  turn-both new taking = record {
+    planned = w .planned;
+    gate = turn .gate;
+    xs-below = turn .xs-below;
+    ys-below = turn .ys-below;
+    first = turn .first;
+    second = turn .second;
+    first-room = turn .first-room;
+    second-room = turn .second-room;
+    first-coins = first-taking bs h set es w g (gateAt bs g) (turn .gate) refl at coins out (turn .lent);
+    second-coins = taking;
+  }
 
 pub step-matched :
-    (plan : Plan) (ms : List ℕ) (n : ℕ) (gate : Gate) (g x y : ℕ) (cs : List ℕ) (at : ℕ) (before after out before′ after′ out′ : List ℕ) (r : ℕ)
-    → NewCoins plan ms n gate g x y cs at before after out out′ r
-    → Stepped plan n gate g x (drop at cs) before before′
-    → Stepped plan n gate g y (drop at (numbers out′)) after after′
-    → Matched plan ms n gate g x y cs at before after out before′ after′ out′ r
-step-matched plan ms n gate g x y cs at before after out before′ after′ out′ r new s1 s2 = record {
+    (plan : Plan) (ms : List ℕ) (n : ℕ) (gate : Gate) (g : ℕ) (xs ys cs : List ℕ) (at : ℕ) (before after out before′ after′ out′ : List ℕ) (r : ℕ)
+    → NewCoins plan ms n gate g xs ys cs at before after out out′ r
+    → Stepped plan n gate g xs cs before before′
+    → Stepped plan n gate g ys (drop at (numbers out′)) after after′
+    → Matched plan ms n gate g xs ys cs at before after out before′ after′ out′ r
+unfolding past withCoins
+step-matched plan ms n gate g xs ys cs at before after out before′ after′ out′ r new s1 s2 = record {
   place = new .place;
-  first = λ env fb. s1 .next env fb;
+  first = λ s hb. s1 .next s hb;
   second =
-      λ env env′ fb fa.
-      s2 .next env′ fa ∙ ap (λ (s : ℕ → ℕ). rowsOf (plan .points) (env′ ++ (s ∷ []))) (new .shares env env′ fb fa);
+      λ s s′ hb ha.
+      s2 .next (withCoins (drop at (numbers out′)) s′) (record { rows = ha .rows; inputs = ha .inputs; coins = refl })
+      ∙ ap (λ (f : ℕ → ℕ). rowsOf (plan .points) (s′ .env ++ (f ∷ []))) (new .shares s s′ hb ha);
   coins = new .coins;
 }
 
-pub ruleset matching-step = (needs, turn-taking, step-matched)
+pub ruleset matching-step = (needs, step-matched)

@@ -4,26 +4,27 @@ ghost use mathlib.Core.Path.{_≡_};
 ghost use mathlib.Core.Bool.{true};
 ghost use Prim.Native.Nat.{_+_, _-_, _*_, _<_, _≤_};
 ghost use lib.ListN.{length, take, drop};
-ghost use Rattle.numbers.specs.Bytes.{numbers, bytesOf};
+ghost use Rattle.numbers.specs.Bytes.{numbers, bytesOf, allBelow};
 ghost use Rattle.plan.specs.File.{planOf, gateAt};
 ghost use Rattle.plan.specs.Planned.{Planned};
 ghost use Rattle.plan_coalition.specs.Coalitions.{members, setOk};
-ghost use Rattle.run_dealings.specs.Rows.{Prepared, Standing, Taking, Stepped};
+ghost use Rattle.run_dealings.specs.Rows.{Prepared, Stepped};
 ghost use Rattle.match_privacy.specs.Matching.{matchedCoins};
 ghost use Rattle.match_agreement.specs.MatchParts.{Matchable};
-ghost use Rattle.match_call.specs.MatchSteps.{deltaTail, Equipped, Turn, NewCoins, Matched};
+ghost use Rattle.match_call.specs.MatchSteps.{deltaTail, Equipped, Turn, NewCoins, Both, Matched};
 
 // ---- the coins of one gate
 
-// The new coins of gate g, which takes the input x in the first run and y in the second; the place after them.
+// The new coins of gate g, which takes its inputs from place `next` of both lists on; the place after them.
 fn match_coins(
     plan: &[u8],
     h: Header,
     set: u16,
     delta: &[u64],
     g: usize,
-    x: u64,
-    y: u64,
+    first: &[u8],
+    second: &[u8],
+    next: usize,
     before: &[u64],
     after: &[u64],
     coins: &[u8],
@@ -31,11 +32,25 @@ fn match_coins(
     out: &mut [u8],
 ) -> usize
     requires { ⌜ Equipped (now plan) h set (now delta) ⌝ }
-    requires { ⌜ Turn (now plan) h g x y (now before) (now after) at (now coins) (now out) ⌝ }
-    ensures { λ r. ⌜ NewCoins (planOf (now (plan .entry))) (members set) (h .n) (gateAt (now (plan .entry)) g) g x y (numbers (now (coins .entry))) at (now (before .entry)) (now (after .entry)) (now (out .entry)) (now (out .exit)) r ⌝ }
+    requires { ⌜ Turn (now plan) h g (now first) (now second) (now before) (now after) at (now coins) (now out) ⌝ }
+    ensures { λ r. ⌜ NewCoins (planOf (now (plan .entry))) (members set) (h .n) (gateAt (now (plan .entry)) g) g (drop next (numbers (now (first .entry)))) (drop next (numbers (now (second .entry)))) (drop at (numbers (now (coins .entry)))) at (now (before .entry)) (now (after .entry)) (now (out .entry)) (now (out .exit)) r ⌝ }
 {
     let gate = plan::gate_at(plan, g);
-    match_moves::match_gate(h, set, g, gate, x, y, delta, before, after, coins, at, out)
+    match_moves::match_gate(
+        h,
+        set,
+        g,
+        gate,
+        first,
+        second,
+        next,
+        delta,
+        before,
+        after,
+        coins,
+        at,
+        out,
+    )
 }
 
 // ---- both runs
@@ -48,27 +63,46 @@ fn step_both(
     rows: &[u64],
     weights: &[u64],
     g: usize,
-    x: u64,
-    y: u64,
+    first: &[u8],
+    second: &[u8],
+    next: usize,
     coins: &[u8],
     new: &[u8],
     at: usize,
     before: &mut [u64],
     after: &mut [u64],
 )
-    requires { ⌜ Planned (now plan) h ⌝ }
-    requires { ⌜ (Standing (h .field .p) (h .n) g (now after)) × (h .n * h .gates ≤ length (now after)) ⌝ }
-    requires { ⌜ g < h .gates ⌝ }
+    requires { ⌜ Both (now plan) h g (now first) (now second) (now before) (now after) at (now coins) (now new) ⌝ }
     requires { ⌜ Prepared (now plan) h (now points) (now rows) (now weights) ⌝ }
-    requires { ⌜ (x < h .field .p) × (y < h .field .p) ⌝ }
-    requires { ⌜ Taking (planOf (now plan)) (gateAt (now plan) g) at (numbers (now coins)) ⌝ }
-    requires { ⌜ Taking (planOf (now plan)) (gateAt (now plan) g) at (numbers (now new)) ⌝ }
-    requires { ⌜ (Standing (h .field .p) (h .n) g (now before)) × (h .n * h .gates ≤ length (now before)) ⌝ }
-    ensures { λ _. ⌜ Stepped (planOf (now (plan .entry))) (h .n) (gateAt (now (plan .entry)) g) g x (drop at (numbers (now (coins .entry)))) (now (before .entry)) (now (before .exit)) ⌝ }
-    ensures { λ _. ⌜ Stepped (planOf (now (plan .entry))) (h .n) (gateAt (now (plan .entry)) g) g y (drop at (numbers (now (new .entry)))) (now (after .entry)) (now (after .exit)) ⌝ }
+    ensures { λ _. ⌜ Stepped (planOf (now (plan .entry))) (h .n) (gateAt (now (plan .entry)) g) g (drop next (numbers (now (first .entry)))) (drop at (numbers (now (coins .entry)))) (now (before .entry)) (now (before .exit)) ⌝ }
+    ensures { λ _. ⌜ Stepped (planOf (now (plan .entry))) (h .n) (gateAt (now (plan .entry)) g) g (drop next (numbers (now (second .entry)))) (drop at (numbers (now (new .entry)))) (now (after .entry)) (now (after .exit)) ⌝ }
 {
-    run_tables::step(plan, h, points, rows, weights, g, x, coins, at, before);
-    run_tables::step(plan, h, points, rows, weights, g, y, new, at, after);
+    run_tables::step(
+        plan,
+        h,
+        points,
+        rows,
+        weights,
+        g,
+        first,
+        next,
+        coins,
+        at,
+        before,
+    );
+    run_tables::step(
+        plan,
+        h,
+        points,
+        rows,
+        weights,
+        g,
+        second,
+        next,
+        new,
+        at,
+        after,
+    );
 }
 
 // Gate g of both runs: its new coins, and its row in both tables. Answers the place after the coins.
@@ -81,8 +115,9 @@ fn match_step(
     rows: &[u64],
     weights: &[u64],
     g: usize,
-    x: u64,
-    y: u64,
+    first: &[u8],
+    second: &[u8],
+    next: usize,
     coins: &[u8],
     at: usize,
     before: &mut [u64],
@@ -91,10 +126,24 @@ fn match_step(
 ) -> usize
     requires { ⌜ Equipped (now plan) h set (now delta) ⌝ }
     requires { ⌜ Prepared (now plan) h (now points) (now rows) (now weights) ⌝ }
-    requires { ⌜ Turn (now plan) h g x y (now before) (now after) at (now coins) (now out) ⌝ }
-    ensures { λ r. ⌜ Matched (planOf (now (plan .entry))) (members set) (h .n) (gateAt (now (plan .entry)) g) g x y (numbers (now (coins .entry))) at (now (before .entry)) (now (after .entry)) (now (out .entry)) (now (before .exit)) (now (after .exit)) (now (out .exit)) r ⌝ }
+    requires { ⌜ Turn (now plan) h g (now first) (now second) (now before) (now after) at (now coins) (now out) ⌝ }
+    ensures { λ r. ⌜ Matched (planOf (now (plan .entry))) (members set) (h .n) (gateAt (now (plan .entry)) g) g (drop next (numbers (now (first .entry)))) (drop next (numbers (now (second .entry)))) (drop at (numbers (now (coins .entry)))) at (now (before .entry)) (now (after .entry)) (now (out .entry)) (now (before .exit)) (now (after .exit)) (now (out .exit)) r ⌝ }
 {
-    let next = match_coins(plan, h, set, delta, g, x, y, before, after, coins, at, out);
+    let end = match_coins(
+        plan,
+        h,
+        set,
+        delta,
+        g,
+        first,
+        second,
+        next,
+        before,
+        after,
+        coins,
+        at,
+        out,
+    );
     step_both(
         plan,
         h,
@@ -102,15 +151,16 @@ fn match_step(
         rows,
         weights,
         g,
-        x,
-        y,
+        first,
+        second,
+        next,
         coins,
         out,
         at,
         before,
         after,
     );
-    next
+    end
 }
 
 // The coins of the matched run, by the tables of both runs, which are worked gate by gate.
@@ -139,8 +189,6 @@ fn match_runs(
     let mut next: usize = 0;
     let mut g: usize = 0;
     while g < h.gates {
-        let x = numbers::read(first, next);
-        let y = numbers::read(second, next);
         at = match_step(
             plan,
             h,
@@ -150,15 +198,16 @@ fn match_runs(
             rows,
             weights,
             g,
-            x,
-            y,
+            first,
+            second,
+            next,
             coins,
             at,
             before,
             after,
             out,
         );
-        next += run_ideal::inputs_taken(plan::gate_at(plan, g));
+        next += run_ideal::inputs_taken(plan, h, g);
         g += 1;
     }
 }
@@ -183,7 +232,7 @@ fn match_with(
     let mut before = [0u64; 15360];
     let mut after = [0u64; 15360];
     let n = h.n;
-    let points = seat_messages::points();
+    let points = seat_messages::points_of(plan, h);
     run_dealings::prepare(h.field, h.t, &points[..n], &mut rows, &mut weights);
     match_runs(
         plan,

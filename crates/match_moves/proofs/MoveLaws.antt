@@ -16,7 +16,7 @@ use lib.Seq.{take-nil, take-suc-set, take-set-le, length-take-le, getD-take, get
 use mir.Syntax.{w64}
 use mir.Val.{Fits}
 use Rattle.numbers.specs.Tables.{tab}
-use Rattle.numbers.specs.Bytes.{numbers, stored, allBelow}
+use Rattle.numbers.specs.Bytes.{width, limit, numbers, stored, allBelow}
 use Rattle.numbers.proofs.Tables.{tab-zero, tab-next, tab-ext, length-tab, getD-tab}
 use Rattle.numbers.proofs.Bytes.{numbers-length, numbers-stored, length-stored}
 use Rattle.field.specs.Mod.{add, mul, sub}
@@ -109,7 +109,7 @@ moved-tab p d es cs at l =
 -- the invariant at coin j
 pub record Moving (p d : ℕ) (es cs : List ℕ) (at : ℕ) (old new : List ℕ) (j : ℕ) : Type 0 where
   pub within : j ≤ length es
-  pub room : at + length es ≤ length new / 2
+  pub room : at + length es ≤ length new / width
   pub long : length new ≡ length old
   pub front : take (at + j) (numbers new) ≡ take at (numbers old) ++ tab (movedAt p d es cs at) j
 
@@ -123,7 +123,7 @@ module _ (p d : ℕ) (es : List ℕ) (at : ℕ) (coins old : List ℕ) where
   }
 
   module _ (new : List ℕ) (j : ℕ) (w : Moving p d es (numbers coins) at old new j) where
-    pub move-place : j < length es → length coins * 1 < 2 ^ 63 → at + length es ≤ length coins / 2 → Fits w64 (at + j)
+    pub move-place : j < length es → length coins * 1 < 2 ^ 63 → at + length es ≤ length coins / width → Fits w64 (at + j)
     move-place l f m = record { fits = omega arith }
 
     pub move-next :
@@ -131,7 +131,7 @@ module _ (p d : ℕ) (es : List ℕ) (at : ℕ) (coins old : List ℕ) where
         → Moving p d es (numbers coins) at old new′ (j + 1)
     move-next c new′ r l ec en =
         let v : ℕ = (c + d * getD es j 0) % p in
-        let small : v < 65536 = omega (arith, mod-lt (c + d * getD es j 0) {m = p} (omega (arith, r .prime .above)), r .small) in
+        let small : v < limit = omega (arith, mod-lt (c + d * getD es j 0) {m = p} (omega (arith, r .prime .above)), r .small) in
         let e : at + (j + 1) ≡ suc (at + j) = omega arith in
         let is : v ≡ movedAt p d es (numbers coins) at j = step-value p c d (getD es j 0) ∙ ap (λ (x : ℕ). add p x (mul p d (getD es j 0))) ec in
         record {
@@ -142,7 +142,7 @@ module _ (p d : ℕ) (es : List ℕ) (at : ℕ) (coins old : List ℕ) where
               rw (en, numbers-stored new (at + j) v small, e, take-suc-set (numbers new) (at + j) v (omega (arith, w .room, numbers-length new)), w .front, append-assoc, tab-next, is);
         }
 
-    pub move-done : length es ≤ j → at + length es ≤ length coins / 2 → Written at (length es) (moved p d es (take (length es) (drop at (numbers coins)))) old new
+    pub move-done : length es ≤ j → at + length es ≤ length coins / width → Written at (length es) (moved p d es (take (length es) (drop at (numbers coins)))) old new
     move-done l m =
         let e : j ≡ length es = omega (arith, w .within) in
         record {
@@ -152,7 +152,7 @@ module _ (p d : ℕ) (es : List ℕ) (at : ℕ) (coins old : List ℕ) where
               ∙ ap (λ (b : List ℕ). take at (numbers old) ++ b) (moved-tab p d es (numbers coins) at (omega (arith, numbers-length coins)));
         }
 
-pub coin-fits : (p d c e : ℕ) → Ready p → d < p → c < 65536 → e < p → c + d * e < 2 ^ 64
+pub coin-fits : (p d c e : ℕ) → Ready p → d < p → c < limit → e < p → c + d * e < 2 ^ 64
 coin-fits p d c e r ld lc le = omega (arith, r .small, word d e (omega (arith, r .small)) (omega (arith, r .small)))
 
 pub product-fits : (p d e : ℕ) → Ready p → d < p → e < p → d * e < 2 ^ 64

@@ -5,11 +5,11 @@ use mathlib.Core.Bool.{Bool, true, cond}
 use mathlib.Core.List.{List, [], _∷_, _++_}
 use lib.ListN.{length, take, drop, getD}
 use Rattle.numbers.specs.Tables.{tab}
-use Rattle.numbers.specs.Bytes.{numbers, allBelow}
+use Rattle.numbers.specs.Bytes.{width, numbers, allBelow}
 use Rattle.field.specs.Mod.{sub}
 use Rattle.sharing_laws.specs.Poly.{sumOf, scale}
 use Rattle.plan.specs.declared.Gate.{Gate}
-use Rattle.plan.specs.declared.Gate.the-variants.{Input, Add, Scale, Offset, Multiply}
+use Rattle.plan.specs.declared.Gate.the-variants.{Input, Add, Scale, Offset, Multiply, Random, Spend}
 use Rattle.plan.specs.declared.Header.{Header}
 use Rattle.plan_coalition.specs.Coalitions.{inSet}
 use Rattle.run_dealings.specs.Rows.{productsOf}
@@ -32,8 +32,8 @@ movedBlocks p t set es (d ∷ ds) ss zs cs =
 -- the coins lent and the room for the new ones, k from place `at` on
 pub record Lent (p at k : ℕ) (coins out : List ℕ) : Type 0 where
   pub below : allBelow p (numbers coins) ≡ true
-  pub here : at + k ≤ length coins / 2
-  pub there : at + k ≤ length out / 2
+  pub here : at + k ≤ length coins / width
+  pub there : at + k ≤ length out / width
 
 -- k numbers are written from place `at` on, and those before it stay
 pub record Written (at k : ℕ) (block old new : List ℕ) : Type 0 where
@@ -44,19 +44,22 @@ pub record Advanced (at k : ℕ) (block old new : List ℕ) (next : ℕ) : Type 
   pub front : take (at + k) (numbers new) ≡ take at (numbers old) ++ block
   pub place : next ≡ at + k
 
--- who deals at a gate
-unfoldable pub dealersIn : ℕ → Gate → List ℕ
-dealersIn t (Input s) = s ∷ []
-dealersIn t (Add a b) = []
-dealersIn t (Scale a c) = []
-dealersIn t (Offset a c) = []
-dealersIn t (Multiply a b) = tab suc (t + t + 1)
+-- who deals at a gate, t coins each
+unfoldable pub dealersIn : Header → Gate → List ℕ
+dealersIn h (Input s) = s ∷ []
+dealersIn h (Add a b) = []
+dealersIn h (Scale a c) = []
+dealersIn h (Offset a c) = []
+dealersIn h (Multiply a b) = tab suc (h .t + h .t + 1)
+dealersIn h Random = tab suc (h .n)
+dealersIn h (Spend a b) = []
 
--- what they deal, by a table of shares
-unfoldable pub dealtIn : Header → Gate → List ℕ → ℕ → List ℕ
-dealtIn h (Input s) table v = v ∷ []
-dealtIn h (Add a b) table v = []
-dealtIn h (Scale a c) table v = []
-dealtIn h (Offset a c) table v = []
-dealtIn h (Multiply a b) table v =
-    productsOf (h .field .p) (h .n) (h .t + h .t + 1) a b table
+-- what they deal, by a table of shares and the inputs from this gate on
+unfoldable pub dealtIn : Header → Gate → List ℕ → List ℕ → List ℕ
+dealtIn h (Input s) table xs = getD xs 0 0 ∷ []
+dealtIn h (Add a b) table xs = []
+dealtIn h (Scale a c) table xs = []
+dealtIn h (Offset a c) table xs = []
+dealtIn h (Multiply a b) table xs = productsOf (h .field .p) (h .n) (h .t + h .t + 1) a b table
+dealtIn h Random table xs = take (h .n) xs
+dealtIn h (Spend a b) table xs = []

@@ -10,6 +10,7 @@ ghost use lib.ListN.{length, take, drop};
 ghost use Rattle.numbers.specs.Tables.{tab};
 ghost use Rattle.numbers.specs.Bytes.{numbers, allBelow};
 ghost use Rattle.field.specs.Field.{Below2, Is, Ready};
+ghost use Rattle.plan.specs.Plans.{kindOf};
 ghost use Rattle.plan.specs.File.{gateOk};
 ghost use Rattle.plan_coalition.specs.Coalitions.{members};
 ghost use Rattle.run_dealings.specs.Rows.{productsOf, Sized, Rowed, Standing};
@@ -160,14 +161,15 @@ fn match_multiply(
     match_products(h.field, set, m, first, second, delta, coins, at, out)
 }
 
-// Those of a gate, which takes the input x in the first run and y in the second.
+// Those of a gate, which takes its inputs from place `next` of both lists on. No plan file has a gate of the last two kinds.
 pub fn match_gate(
     h: Header,
     set: u16,
     g: usize,
     gate: Gate,
-    x: u64,
-    y: u64,
+    first: &[u8],
+    second: &[u8],
+    next: usize,
     delta: &[u64],
     before: &[u64],
     after: &[u64],
@@ -175,22 +177,28 @@ pub fn match_gate(
     at: usize,
     out: &mut [u8],
 ) -> usize
+    requires { ⌜ (length (now delta) ≡ h .t) × (allBelow (h .field .p) (now delta) ≡ true) ⌝ }
     requires { ⌜ Sized h ⌝ }
-    requires { ⌜ gateOk (h .n) (h .field .p) g gate ≡ true ⌝ }
-    requires { ⌜ (x < h .field .p) × (y < h .field .p) ⌝ }
+    requires { ⌜ (gateOk (h .n) (h .field .p) g gate ≡ true) × (kindOf gate ≤ 5) ⌝ }
+    requires { ⌜ (allBelow (h .field .p) (numbers (now first)) ≡ true) × (allBelow (h .field .p) (numbers (now second)) ≡ true) ⌝ }
     requires { ⌜ Standing (h .field .p) (h .n) g (now before) ⌝ }
     requires { ⌜ Standing (h .field .p) (h .n) g (now after) ⌝ }
-    requires { ⌜ (length (now delta) ≡ h .t) × (allBelow (h .field .p) (now delta) ≡ true) ⌝ }
-    requires { ⌜ Lent (h .field .p) at (h .t * length (dealersIn (h .t) gate)) (now coins) (now out) ⌝ }
-    ensures { λ r. ⌜ Advanced at (h .t * length (dealersIn (h .t) gate)) (movedBlocks (h .field .p) (h .t) set (now (delta .entry)) (dealersIn (h .t) gate) (dealtIn h gate (now (before .entry)) x) (dealtIn h gate (now (after .entry)) y) (drop at (numbers (now (coins .entry))))) (now (out .entry)) (now (out .exit)) r ⌝ }
+    requires { ⌜ Lent (h .field .p) at (h .t * length (dealersIn h gate)) (now coins) (now out) ⌝ }
+    ensures { λ r. ⌜ Advanced at (h .t * length (dealersIn h gate)) (movedBlocks (h .field .p) (h .t) set (now (delta .entry)) (dealersIn h gate) (dealtIn h gate (now (before .entry)) (drop next (numbers (now (first .entry))))) (dealtIn h gate (now (after .entry)) (drop next (numbers (now (second .entry))))) (drop at (numbers (now (coins .entry))))) (now (out .entry)) (now (out .exit)) r ⌝ }
 {
     match gate {
-        Gate::Input(party) => match_input(h.field, set, party, x, y, delta, coins, at, out),
+        Gate::Input(party) => {
+            let x = numbers::read(first, next);
+            let y = numbers::read(second, next);
+            match_input(h.field, set, party, x, y, delta, coins, at, out)
+        }
         Gate::Add(_, _) => at,
         Gate::Scale(_, _) => at,
         Gate::Offset(_, _) => at,
         Gate::Multiply(a, b) => {
             match_multiply(h, set, a, b, delta, before, after, coins, at, out)
         }
+        Gate::Random => at,
+        Gate::Spend(_, _) => at,
     }
 }

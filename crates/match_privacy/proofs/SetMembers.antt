@@ -1,5 +1,5 @@
 -- The members that a set names are parties, and few, if the set passes.
---     set-few, set-parties     what the laws of this crate ask of the list of members
+--     set-few, set-parties, members-from1     what the laws of this crate ask of the list of members
 -- Assumes nothing.
 use mathlib.Core.Path.{_≡_, refl, ap, _∙_}
 use mathlib.Core.Bool.{Bool, true, false, cond}
@@ -55,3 +55,19 @@ set-parties plan set ok i m =
     in-below set (partyCount plan) i
     (ltb-true set (2 ^ partyCount plan) (both-true (ltb set (2 ^ partyCount plan)) (leb (length (members set)) (plan .t)) ok .0))
     (member-in set 16 i 1 m)
+
+member-from : (set k i j : ℕ) → isMember i (membersFrom set j k) ≡ true → j ≤ i
+unfolding membersFrom isMember
+member-from set zero i j m = let z : _≡_ {A = ℕ} 0 1 = cc in absurd (omega arith)
+member-from set (suc k) i j m = pick (inSet set j) (eqb i j) refl m (member-from set k i (suc j))
+  where
+    pick :
+        (b e : Bool) → eqb i j ≡ e → isMember i (cond b (j ∷ membersFrom set (suc j) k) (membersFrom set (suc j) k)) ≡ true
+        → (isMember i (membersFrom set (suc j) k) ≡ true → suc j ≤ i) → j ≤ i
+    pick true true same h later = let q : i ≡ j = eqb-true i j same in omega arith
+    pick true false other h later = let q : suc j ≤ i = later (rw other at h) in omega arith
+    pick false e q h later = let r : suc j ≤ i = later h in omega arith
+
+pub members-from1 : (set i : ℕ) → isMember i (members set) ≡ true → 1 ≤ i
+unfolding members
+members-from1 set i m = member-from set 16 i 1 m

@@ -1,19 +1,22 @@
 -- Lists whose numbers are below p.
 --     allBelow-at, at-allBelow                          all are below p exactly where each is
 --     allBelow-append, -take, -drop, -set, -tab, -more  of other lists and bounds
+--     append-below, map-below, flatMap-below            lists in parts
+--     input-below                                       a number of a list wherever one reads it
 --     allBelow-next, -over, -end                        what a loop over the numbers learns
 --     firstOver-nothing, nothing-firstOver              none is found exactly where all are below p
 --     firstOver-at, at-firstOver                        the one that is found
 -- Assumes nothing.
-use mathlib.Core.Path.{_≡_, refl}
+use mathlib.Core.Path.{_≡_, refl, _∙_}
 use mathlib.Core.Bool.{Bool, true, false, cond, _&&_}
-use mathlib.Core.List.{List, [], _∷_, _++_}
+use mathlib.Core.List.{List, [], _∷_, _++_, map, flatMap}
 use Prim.Native.Nat.{ℕ, zero, suc, _+_, _<_, _≤_}
+use native.Mathlib.Decide.{decLe}
 use native.Mathlib.Numerals.{add-one}
 use native.Mathlib.Omega.{arith}
 use borrow.Author.Tests.{ltb-true, ltb-false, lt-ltb, le-ltb}
 use lib.Dec.{ltb}
-use lib.ListN.{length, getD, take, drop, set, drop-of-length-le}
+use lib.ListN.{length, getD, take, drop, set, drop-of-length-le, List·getD-eq-default}
 use lib.Seq.{drop-cons}
 use Rattle.numbers.specs.Tables.{tab}
 use Rattle.numbers.specs.Bytes.{firstOver, allBelow}
@@ -71,6 +74,29 @@ pub allBelow-tab : (p : ℕ) (f : ℕ → ℕ) (n : ℕ) → ((i : ℕ) → i < 
 unfolding allBelow tab
 allBelow-tab p f zero h = refl
 allBelow-tab p f (suc n) h = rw (lt-ltb (f 0) p (h 0 (omega arith)), allBelow-tab p (λ k. f (suc k)) n (λ i l. h (suc i) (omega arith)))
+
+-- ---- lists in parts
+pub append-below : (p : ℕ) (xs ys : List ℕ) → allBelow p xs ≡ true → allBelow p ys ≡ true → allBelow p (xs ++ ys) ≡ true
+append-below p xs ys hx hy = allBelow-append p xs ys ∙ rw (hx, hy)
+
+module _ {A : Type 0} (p : ℕ) where
+  pub map-below : (f : A → ℕ) (l : List A) → ((a : A) → f a < p) → allBelow p (map f l) ≡ true
+  unfolding allBelow
+  map-below f [] h = refl
+  map-below f (a ∷ l) h = rw (lt-ltb (f a) p (h a), map-below f l h)
+
+  pub flatMap-below : (f : A → List ℕ) (l : List A) → ((a : A) → allBelow p (f a) ≡ true) → allBelow p (flatMap f l) ≡ true
+  unfolding flatMap allBelow
+  flatMap-below f [] h = refl
+  flatMap-below f (a ∷ l) h = append-below p (f a) (flatMap f l) (h a) (flatMap-below f l h)
+
+-- a number below p is below it wherever one reads it
+pub input-below : (p : ℕ) (xs : List ℕ) → 0 < p → allBelow p xs ≡ true → (k : ℕ) → getD xs k 0 < p
+input-below p xs above small k = at (decLe (length xs) k)
+  where
+    at : Dec (length xs ≤ k) → getD xs k 0 < p
+    at (yes past) = rw (List·getD-eq-default xs 0 past) above
+    at (no within) = allBelow-at p xs k small (omega arith)
 
 -- a greater bound
 pub allBelow-more : (p q : ℕ) (xs : List ℕ) → p ≤ q → allBelow p xs ≡ true → allBelow q xs ≡ true

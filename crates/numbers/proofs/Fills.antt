@@ -11,7 +11,7 @@ use borrow.Author.Needs.{needs}
 use lib.ListN.{length, take, drop, set, take-append-drop}
 use lib.Seq.{take-suc-set, take-all, drop-set-lt, drop-drop}
 use Rattle.numbers.specs.Tables.{tab}
-use Rattle.numbers.specs.Bytes.{numbers, bytesOf, stored}
+use Rattle.numbers.specs.Bytes.{width, limit, numbers, bytesOf, stored}
 use Rattle.numbers.proofs.Tables.{tab-next}
 use Rattle.numbers.proofs.Bytes.{numbers-length, length-stored, numbers-stored, take-stored, drop-stored, bytesOf-append}
 
@@ -46,17 +46,17 @@ later k d d₀ i h =
 -- the invariant of a loop that stores n numbers, f 0, f 1, .., in d, which was d₀
 pub record Stored (f : ℕ → ℕ) (n : ℕ) (d₀ d : List ℕ) (i : ℕ) : Type 0 where
   pub within : i ≤ n
-  pub room : 2 * n ≤ length d₀
+  pub room : width * n ≤ length d₀
   pub long : length d ≡ length d₀
-  pub front : take (2 * i) d ≡ bytesOf (tab f i)
-  pub rest : drop (2 * i) d ≡ drop (2 * i) d₀
+  pub front : take (width * i) d ≡ bytesOf (tab f i)
+  pub rest : drop (width * i) d ≡ drop (width * i) d₀
 
 module _ (f : ℕ → ℕ) where
-  pub store-none : (n : ℕ) (d : List ℕ) → 2 * n ≤ length d → Stored f n d d 0
+  pub store-none : (n : ℕ) (d : List ℕ) → width * n ≤ length d → Stored f n d d 0
   unfolding tab bytesOf
   store-none n d l = record { within = omega arith; room = l; long = refl; front = refl; rest = refl }
 
-  pub store-none-whole : (n : ℕ) (d : List ℕ) → length d ≡ 2 * n → Stored f n d d 0
+  pub store-none-whole : (n : ℕ) (d : List ℕ) → length d ≡ width * n → Stored f n d d 0
   store-none-whole n d e = store-none n d (omega arith)
 
   module _ (n : ℕ) (d₀ d : List ℕ) (i : ℕ) (h : Stored f n d₀ d i) where
@@ -66,43 +66,43 @@ module _ (f : ℕ → ℕ) where
       room = h .room;
       long = ap length to ∙ length-stored d i v ∙ h .long;
       front = rw (to, take-stored d i v (omega (arith, h .room, h .long)), h .front, is, tab-next, bytesOf-append);
-      rest = rw (to, drop-stored) (later 2 d d₀ i (h .rest));
+      rest = rw (to, drop-stored) (later width d d₀ i (h .rest));
     }
 
     stood : n ≤ i → i ≡ n
     stood l = omega (arith, h .within)
 
     -- the whole list, and a list of which a part is left as it was
-    pub stored-all : n ≤ i → length d₀ ≡ 2 * n → d ≡ bytesOf (tab f n)
-    stored-all l e = sym (take-all (2 * i) d (omega (arith, h .long))) ∙ h .front ∙ ap (λ (k : ℕ). bytesOf (tab f k)) (stood l)
+    pub stored-all : n ≤ i → length d₀ ≡ width * n → d ≡ bytesOf (tab f n)
+    stored-all l e = sym (take-all (width * i) d (omega (arith, h .long))) ∙ h .front ∙ ap (λ (k : ℕ). bytesOf (tab f k)) (stood l)
 
-    pub stored-part : n ≤ i → d ≡ bytesOf (tab f n) ++ drop (2 * n) d₀
-    stored-part l = sym (take-append-drop (2 * i) d) ∙ rw (h .front, h .rest, stood l)
+    pub stored-part : n ≤ i → d ≡ bytesOf (tab f n) ++ drop (width * n) d₀
+    stored-part l = sym (take-append-drop (width * i) d) ∙ rw (h .front, h .rest, stood l)
 
 -- what closes each need of such a loop
 pub ruleset storing = (needs, store-none, store-none-whole, store-next, stored-all, stored-part)
 
--- the same of the numbers, where each is below 65536
+-- the same of the numbers, where each is below limit
 pub record Numbered (f : ℕ → ℕ) (n : ℕ) (d₀ d : List ℕ) (i : ℕ) : Type 0 where
   pub within : i ≤ n
-  pub room : n ≤ length d₀ / 2
+  pub room : n ≤ length d₀ / width
   pub long : length d ≡ length d₀
   pub front : take i (numbers d) ≡ tab f i
   pub rest : drop i (numbers d) ≡ drop i (numbers d₀)
 
 module _ (f : ℕ → ℕ) where
-  pub number-none : (n : ℕ) (d : List ℕ) → n ≤ length d / 2 → Numbered f n d d 0
+  pub number-none : (n : ℕ) (d : List ℕ) → n ≤ length d / width → Numbered f n d d 0
   unfolding tab
   number-none n d l = record { within = omega arith; room = l; long = refl; front = refl; rest = refl }
 
-  pub number-none-whole : (n : ℕ) (d : List ℕ) → length d ≡ 2 * n → Numbered f n d d 0
+  pub number-none-whole : (n : ℕ) (d : List ℕ) → length d ≡ width * n → Numbered f n d d 0
   number-none-whole n d e = number-none n d (omega arith)
 
   module _ (n : ℕ) (d₀ d : List ℕ) (i : ℕ) (h : Numbered f n d₀ d i) where
     behind : drop (i + 1) (numbers d) ≡ drop (i + 1) (numbers d₀)
     behind = rw (← drop-drop 1 i (numbers d), ← drop-drop 1 i (numbers d₀), h .rest)
 
-    pub number-next : (v : ℕ) (e : List ℕ) → i < n → v ≡ f i → v < 65536 → e ≡ stored d i v → Numbered f n d₀ e (i + 1)
+    pub number-next : (v : ℕ) (e : List ℕ) → i < n → v ≡ f i → v < limit → e ≡ stored d i v → Numbered f n d₀ e (i + 1)
     number-next v e l is m to =
         let w : i < length (numbers d) = omega (arith, h .room, h .long, numbers-length d) in
         record {
@@ -116,10 +116,10 @@ module _ (f : ℕ → ℕ) where
     reached : n ≤ i → i ≡ n
     reached l = omega (arith, h .within)
 
-    pub numbered-all : n ≤ i → length d₀ / 2 ≡ n → numbers d ≡ tab f n
+    pub numbered-all : n ≤ i → length d₀ / width ≡ n → numbers d ≡ tab f n
     numbered-all l e = sym (take-all i (numbers d) (omega (arith, h .long, numbers-length d))) ∙ h .front ∙ ap (tab f) (reached l)
 
-    pub numbered-whole : n ≤ i → length d₀ ≡ 2 * n → numbers d ≡ tab f n
+    pub numbered-whole : n ≤ i → length d₀ ≡ width * n → numbers d ≡ tab f n
     numbered-whole l e = numbered-all l (omega arith)
 
     pub numbered-part : n ≤ i → numbers d ≡ tab f n ++ drop n (numbers d₀)

@@ -4,15 +4,15 @@
 use mathlib.Core.Path.{_≡_, refl, sym, _∙_}
 use mathlib.Core.Bool.{Bool, true, false}
 use mathlib.Core.List.{List}
-use Prim.Native.Nat.{ℕ, _+_, _*_, _/_, _%_, _<_, _≤_}
+use Prim.Native.Nat.{ℕ, suc, _+_, _*_, _/_, _%_, _<_, _≤_}
 use native.Mathlib.Omega.{arith}
 use borrow.Author.Needs.{needs}
 use borrow.Author.Tests.{eqb-true, eqb-false, eq-eqb, ne-eqb, lt-ltb, le-ltb}
 use lib.Dec.{eqb, ltb}
 use lib.ListN.{length, getD, drop, set, length-set, List·getD-eq-default}
-use Rattle.numbers.specs.Bytes.{wordAt, numbers, holdsCount, stored, firstOver, allBelow}
+use Rattle.numbers.specs.Bytes.{bytesFrom, wordAt, numbers, holdsCount, stored, firstOver, allBelow}
 use Rattle.numbers.specs.declared.Found.the-variants.{At, Nothing}
-use Rattle.numbers.proofs.Bytes.{numbers-length, getD-numbers, getD-numbers-past, word-past, stored-in, stored-past}
+use Rattle.numbers.proofs.Bytes.{numbers-length, getD-numbers, getD-numbers-past, word-past, word-number, stored-in, stored-past}
 use Rattle.numbers.proofs.Searches.{Seeking, begin, found, passed, nothing}
 use Rattle.numbers.proofs.Below.{allBelow-next, allBelow-over, allBelow-end}
 
@@ -28,14 +28,15 @@ pub word-none : (s : List ℕ) (at : ℕ) → length s ≤ at → 0 ≡ wordAt s
 word-none s at l = sym (word-past s at l)
 
 pub number-some : (s : List ℕ) (i x : ℕ) → i < length s / 2 → x ≡ wordAt s (2 * i) → x ≡ getD (numbers s) i 0
-number-some s i x l e = e ∙ sym (getD-numbers s i l)
+number-some s i x l e = e ∙ word-number s (2 * i) ∙ sym (getD-numbers s i l)
 
 pub number-none : (s : List ℕ) (i : ℕ) → length s / 2 ≤ i → 0 ≡ getD (numbers s) i 0
 number-none s i l = sym (getD-numbers-past s i l)
 
 -- ---- a write
 pub write-some : (s : List ℕ) (i v : ℕ) → i < length s / 2 → set (set s (2 * i) (v % 256)) (2 * i + 1) (v / 256 % 256) ≡ stored s i v
-write-some s i v l = stored-in s i v (omega arith)
+unfolding bytesFrom
+write-some s i v l = let e : 2 * i + 1 ≡ suc (2 * i) = omega arith in rw e (stored-in s i v (omega arith))
 
 pub high-in : (s : List ℕ) (i v : ℕ) → i < length s / 2 → 2 * i + 1 < length (set s (2 * i) v)
 high-in s i v l = rw length-set (omega arith)

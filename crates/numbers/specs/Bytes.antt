@@ -1,11 +1,22 @@
--- Numbers in bytes (document 01: two-byte numbers are unsigned, low byte first).
-use Prim.Native.Nat.{ℕ, _+_, _*_, _/_, _%_}
+-- Numbers in bytes, the low byte first (document 01: two-byte numbers are unsigned, low byte first).
+use Prim.Native.Nat.{ℕ, zero, suc, _+_, _*_, _/_, _%_}
 use mathlib.Core.Bool.{Bool, true, false, cond}
-use mathlib.Core.List.{List, [], _∷_}
+use mathlib.Core.List.{List, [], _∷_, _++_}
 use lib.Dec.{eqb, leb, ltb}
-use lib.ListN.{length, getD, set}
+use lib.ListN.{length, getD}
+use lib.Seq.{sets}
 use Rattle.numbers.specs.Tables.{tab, firstFailing}
 use Rattle.numbers.specs.declared.Found.{Found}
+
+-- the number of w bytes at an offset
+unfoldable pub numberAt : ℕ → List ℕ → ℕ → ℕ
+numberAt zero bs at = 0
+numberAt (suc w) bs at = getD bs at 0 + 256 * numberAt w bs (suc at)
+
+-- a number's w low bytes
+unfoldable pub bytesFrom : ℕ → ℕ → List ℕ
+bytesFrom zero x = []
+bytesFrom (suc w) x = x % 256 ∷ bytesFrom w (x / 256)
 
 -- the two-byte number at an offset
 unfoldable pub wordAt : List ℕ → ℕ → ℕ
@@ -19,14 +30,14 @@ width = 2
 abbrev pub limit : ℕ
 limit = 65536
 
--- the numbers of a list that is lent as bytes; an odd byte at the end is none
+-- the numbers of a list that is lent as bytes; bytes left over at the end are none
 unfoldable pub numbers : List ℕ → List ℕ
-numbers bs = tab (λ i. wordAt bs (width * i)) (length bs / width)
+numbers bs = tab (λ i. numberAt width bs (width * i)) (length bs / width)
 
 -- a list of numbers as bytes
 unfoldable pub bytesOf : List ℕ → List ℕ
 bytesOf [] = []
-bytesOf (x ∷ xs) = x % 256 ∷ x / 256 % 256 ∷ bytesOf xs
+bytesOf (x ∷ xs) = bytesFrom width x ++ bytesOf xs
 
 -- whether these bytes are a list of k numbers
 unfoldable pub holdsCount : ℕ → List ℕ → Bool
@@ -34,7 +45,7 @@ holdsCount k bs = eqb (length bs) (width * k)
 
 -- the bytes after number i is set to v; past the end nothing changes
 unfoldable pub stored : List ℕ → ℕ → ℕ → List ℕ
-stored bs i v = cond (leb (width * i + width) (length bs)) (set (set bs (width * i) (v % 256)) (width * i + 1) (v / 256 % 256)) bs
+stored bs i v = cond (leb (width * i + width) (length bs)) (sets bs (width * i) (bytesFrom width v)) bs
 
 -- the first number of a list that isn't below p
 unfoldable pub firstOver : ℕ → List ℕ → Found

@@ -1,5 +1,5 @@
--- Lists by a rule, and the first index at which a test fails.
-use Prim.Native.Nat.{ℕ, zero, suc}
+-- Lists by a rule, the first index at which a test fails, counts and sums.
+use Prim.Native.Nat.{ℕ, zero, suc, _+_}
 use mathlib.Core.Bool.{Bool, cond}
 use mathlib.Core.List.{List, [], _∷_}
 use Rattle.numbers.specs.declared.Found.{Found}
@@ -23,3 +23,7 @@ firstFailing ok n = firstFrom ok n 0
 unfoldable pub countWhere : {A : Type 0} → (A → Bool) → List A → ℕ
 countWhere f [] = 0
 countWhere f (x ∷ xs) = cond (f x) (suc (countWhere f xs)) (countWhere f xs)
+
+unfoldable pub total : List ℕ → ℕ
+total [] = 0
+total (x ∷ xs) = x + total xs

@@ -5,3 +5,5 @@ pub mod Planned
 pub mod Valid
 pub mod Worked
 pub mod Wires
+pub mod Parties
+pub mod Counts

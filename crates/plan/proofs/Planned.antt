@@ -34,6 +34,7 @@ use Rattle.plan.proofs.Ways.{check-of-passed, check-of-refused, header-
 
 -- ---- the checks of a plan that passes
 pub record Passing (bs : List ℕ) : Type 0 where
+  pub version : eqb (getD bs 4 0) 1 ≡ true
   pub parties : partiesOk (nAt bs) ≡ true
   pub threshold : thresholdOk (nAt bs) (tAt bs) ≡ true
   pub modulus : modulusOk (nAt bs) (pAt bs) ≡ true
@@ -53,6 +54,7 @@ passing bs h =
     let g = passed-both _ _ (f .1) in
     let o = passed-both _ _ (g .1) in
     record {
+      version = passed-need refusal.Version _ (b .0);
       parties = passed-need refusal.Parties _ (c .0);
       threshold = passed-need refusal.Threshold _ (d .0);
       modulus = passed-need refusal.Modulus _ (e .0);

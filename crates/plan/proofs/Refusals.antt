@@ -3,6 +3,7 @@
 --     need-true, need-false                a check by a test
 --     found-at, found-nothing              a check by a search
 --     passed-both, passed-need, passed-found     what a list of checks that passes says
+--     next-passes, both-pass               lists that pass
 --     all-pass, first-refused              checks by a rule: that all pass, and the first that refuses
 --     Tried, trying                        a loop that tries one after the other
 -- Assumes nothing.
@@ -85,6 +86,13 @@ pub passed-found : (r : ℕ → Refusal) (f : Found) → unlessFound r f ≡ Pas
 unfolding unlessFound
 passed-found r (At i) h = absurd (passed≢refused (r i) h)
 passed-found r Nothing h = refl
+
+-- ---- lists that pass
+pub next-passes : (c : Checked) (rest : List Checked) → c ≡ Passed → firstOf rest ≡ Passed → firstOf (c ∷ rest) ≡ Passed
+next-passes c rest e h = firstOf-cons c rest ∙ andThen-passed c (firstOf rest) e ∙ h
+
+pub both-pass : (cs ds : List Checked) → firstOf cs ≡ Passed → firstOf ds ≡ Passed → firstOf (cs ++ ds) ≡ Passed
+both-pass cs ds h k = firstOf-append cs ds ∙ andThen-passed (firstOf cs) (firstOf ds) h ∙ k
 
 -- ---- checks by a rule, the first n
 pub all-pass : (check : ℕ → Checked) (n : ℕ) → ((k : ℕ) → k < n → check k ≡ Passed) → firstOf (tab check n) ≡ Passed

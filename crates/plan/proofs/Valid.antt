@@ -1,41 +1,99 @@
--- What the proofs use of a plan that passes.
-use Prim.Native.Nat.{ℕ, suc, _+_, _*_, _%_, _<_}
+-- What the proofs use of a plan, and that a plan that passes has it.
+--     Valid, valid            all that the protocol asks: 2t < n only where there is a gate of kind 5 or 7
+--     Sized, sized            what its lists and calls need beside
+--     Plain, plain            what a plan file may have today: the rule of versions 1 to 3, kinds 1 to 5, the points 1 to n, and 2t < n
+--     version-read            and its version is 1
+--     points-apart            no two points are the same
+--     plain-no-6, plain-no-7  a plain plan has no gate of kind 6 or 7
+-- Assumes nothing.
+use Prim.Native.Nat.{ℕ, zero, suc, _+_, _*_, _%_, _<_, _≤_}
 use native.Mathlib.Nat.{mod-eq-of-lt}
 use native.Mathlib.Omega.{arith}
-use mathlib.Core.Path.{_≡_, sym, subst}
+use mathlib.Core.Path.{_≡_, refl, sym, ap, subst}
 use mathlib.Core.Logic.{_≢_}
-use mathlib.Core.Bool.{true}
-use mathlib.Core.List.{List}
-use borrow.Author.Tests.{ltb-true}
-use lib.Dec.{T, ltb}
+use mathlib.Core.Bool.{Bool, true, false, cond}
+use mathlib.Core.List.{List, [], _∷_}
+use borrow.Author.Tests.{ltb-true, eqb-true, ne-eqb}
+use lib.Dec.{T, eqb, ltb}
 use lib.ListN.{length, getD}
+use Rattle.numbers.specs.Tables.{tab, countWhere}
+use Rattle.numbers.specs.Bytes.{limit}
 use Rattle.numbers.proofs.Tables.{length-tab, getD-tab}
+use Rattle.numbers.proofs.Counts.{countWhere-le-length}
 use Rattle.numbers.proofs.Searches.{nothing-passes}
 use Rattle.numbers.proofs.Truth.{both-true}
-use Rattle.field.specs.Prime.{isPrime, Prime}
+use Rattle.field.specs.Prime.{Prime}
 use Rattle.field.specs.Field.{Ready}
 use Rattle.field.proofs.Primes.{prime-sound}
 use Rattle.sharing_laws.specs.Interp.{All, Distinct}
 use Rattle.sharing_laws.proofs.Shares.{points-distinct}
-use Rattle.sharing_laws.proofs.Alls.{all-tab}
+use Rattle.sharing_laws.proofs.Alls.{all-tab, all-at}
 use Rattle.plan.specs.declared.Checked.the-variants.{Passed}
 use Rattle.plan.specs.declared.Gate.{Gate}
-use Rattle.plan.specs.declared.Gate.the-variants.{Input, Scale, Offset}
+use Rattle.plan.specs.declared.Gate.the-variants.{Input, Add, Scale, Offset, Multiply}
+use Rattle.plan.specs.declared.Rule.the-variants.{Reduction}
 use Rattle.plan.specs.declared.Header.{Header}
-use Rattle.plan.specs.Plans.{Plan, partyCount}
-use Rattle.plan.specs.File.{nAt, tAt, pAt, gateCountAt, outCountAt, gateAt, outAt, gateOk, outOk, gateKept, outKept, planCheck, planOf}
+use Rattle.plan.specs.Plans.{Plan, partyCount, kindOf, isKind, kindCount, multiplying}
+use Rattle.plan.specs.File.{nAt, tAt, pAt, gateCountAt, outCountAt, gateOf, gateAt, outAt, gateOk, outOk, gateKept, outKept, planCheck, planOf}
 use Rattle.plan.specs.Planned.{Planned}
-use Rattle.plan.proofs.Planned.{Passing, passing, modulus-prime, modulus-above, plan-p, plan-n, plan-gates, plan-gate}
+use Rattle.plan.proofs.Planned.{Passing, passing, laid, between-true, modulus-prime, modulus-above, modulus-small, plan-p, plan-n, plan-gates, plan-gate}
 
 pub record Valid (plan : Plan) : Type 0 where
   pub prime : Prime (plan .p)
+  pub threshold : plan .t < partyCount plan
   -- 2t < n
-  pub majority : plan .t + plan .t < partyCount plan
+  pub majority : (g : ℕ) → g < length (plan .gates) → multiplying (getD (plan .gates) g (Input 0)) ≡ true → plan .t + plan .t < partyCount plan
   pub distinct : Distinct (plan .p) (plan .points)
   pub nonzero : All (λ x. x % plan .p ≢ 0) (plan .points)
   pub small : All (λ x. x < plan .p) (plan .points)
   pub gates : (g : ℕ) → g < length (plan .gates) → gateOk (partyCount plan) (plan .p) g (getD (plan .gates) g (Input 0)) ≡ true
   pub outs : (o : ℕ) → o < length (plan .outs) → outOk (partyCount plan) (length (plan .gates)) (getD (plan .outs) o (record { party = 0; wire = 0 })) ≡ true
+
+-- an element and a call's number have room in a list that is lent; the gates are its own and those of its preparing plan
+pub record Sized (plan : Plan) : Type 0 where
+  pub few : plan .p ≤ limit
+  pub short : length (plan .gates) + 3 * kindCount plan 7 ≤ 4096
+
+pub record Plain (plan : Plan) : Type 0 where
+  pub rule : plan .rule ≡ Reduction
+  pub kinds : (g : ℕ) → kindOf (getD (plan .gates) g (Input 0)) ≤ 5
+  pub points : plan .points ≡ tab suc (partyCount plan)
+  pub majority : plan .t + plan .t < partyCount plan
+
+-- ---- no two points are the same
+apart-from : (p : ℕ) (xs : List ℕ) → Distinct p xs → (i j : ℕ) → j < i → i < length xs → getD xs i 0 ≢ getD xs j 0
+apart-from p [] d i j l m e = omega arith
+apart-from p (x ∷ xs) d zero j l m e = omega arith
+apart-from p (x ∷ xs) d (suc i) zero l m e = all-at (λ y. y % p ≢ x % p) xs i (d .0) (omega arith) (ap (λ (y : ℕ). y % p) e)
+apart-from p (x ∷ xs) d (suc i) (suc j) l m e = apart-from p xs (d .1) i j (omega arith) (omega arith) e
+
+pub points-apart : (plan : Plan) → Valid plan → (i j : ℕ) → j < i → i < partyCount plan → getD (plan .points) i 0 ≢ getD (plan .points) j 0
+unfolding partyCount
+points-apart plan valid = apart-from (plan .p) (plan .points) (valid .distinct)
+
+-- ---- a plan that passes
+-- whatever its bytes, a gate that is read has kind 1 to 5
+kind-read : (second kind a b : ℕ) → kindOf (gateOf kind second a b) ≤ 5
+unfolding gateOf kindOf
+kind-read second kind a b = pick (eqb second 0) (eqb kind 1) (eqb b 0) (eqb kind 2) (eqb kind 3) (eqb kind 4) (eqb kind 5)
+  where
+    pick :
+        (s k1 z k2 k3 k4 k5 : Bool)
+        → kindOf (cond s (cond k1 (cond z (Input a) (Input 0)) (cond k2 (Add a b) (cond k3 (Scale a b) (cond k4 (Offset a b) (cond k5 (Multiply a b) (Input 0)))))) (Input 0)) ≤ 5
+    pick false k1 z k2 k3 k4 k5 = omega arith
+    pick true true true k2 k3 k4 k5 = omega arith
+    pick true true false k2 k3 k4 k5 = omega arith
+    pick true false z true k3 k4 k5 = omega arith
+    pick true false z false true k4 k5 = omega arith
+    pick true false z false false true k5 = omega arith
+    pick true false z false false false true = omega arith
+    pick true false z false false false false = omega arith
+
+kinds-read : (f : ℕ → Gate) (n g : ℕ) → ((i : ℕ) → kindOf (f i) ≤ 5) → kindOf (getD (tab f n) g (Input 0)) ≤ 5
+unfolding tab kindOf
+kinds-read f zero g h = omega arith
+kinds-read f (suc n) zero h = h 0
+kinds-read f (suc n) (suc g) h = kinds-read (λ i. f (suc i)) n g (λ i. h (suc i))
 
 module _ (bs : List ℕ) (h : planCheck bs ≡ Passed) where
   checks : Passing bs
@@ -46,6 +104,9 @@ module _ (bs : List ℕ) (h : planCheck bs ≡ Passed) where
 
   points-small : (i : ℕ) → i < nAt bs → suc i < pAt bs
   points-small i l = omega (arith, above)
+
+  two : 2 * tAt bs < nAt bs
+  two = ltb-true (2 * tAt bs) (nAt bs) (checks .threshold)
 
   gates-kept : (g : ℕ) → g < gateCountAt bs → gateOk (nAt bs) (pAt bs) g (gateAt bs g) ≡ true
   unfolding gateKept
@@ -61,7 +122,8 @@ module _ (bs : List ℕ) (h : planCheck bs ≡ Passed) where
   valid =
       record {
         prime = prime-sound (pAt bs) (subst T (sym (modulus-prime (nAt bs) (pAt bs) (checks .modulus))) tt);
-        majority = rw (length-tab suc (nAt bs)) (omega (arith, ltb-true (2 * tAt bs) (nAt bs) (checks .threshold)));
+        threshold = rw (length-tab suc (nAt bs)) (omega (arith, two));
+        majority = λ g l m. rw (length-tab suc (nAt bs)) (omega (arith, two));
         distinct = points-distinct (pAt bs) (nAt bs) above;
         nonzero =
             all-tab (λ x. x % pAt bs ≢ 0) suc (nAt bs) (λ i l e. omega (arith, mod-eq-of-lt {n = suc i} {m = pAt bs} (points-small i l)));
@@ -76,6 +138,51 @@ module _ (bs : List ℕ) (h : planCheck bs ≡ Passed) where
             rw (length-tab suc (nAt bs), length-tab (gateAt bs) (gateCountAt bs), getD-tab (outAt bs) (outCountAt bs) o (record { party = 0; wire = 0 }) k)
             (outs-kept o k);
       }
+
+  -- its lists have room
+  pub sized : Sized (planOf bs)
+  unfolding planOf kindCount
+  sized =
+      record {
+        few = omega (arith, modulus-small (nAt bs) (pAt bs) (checks .modulus));
+        short =
+            omega (
+              arith,
+              length-tab (gateAt bs) (gateCountAt bs),
+              between-true 1 1024 (gateCountAt bs) (laid bs (checks .layout) .gates) .1,
+              countWhere-le-length (isKind 7) (tab (gateAt bs) (gateCountAt bs)),
+            );
+      }
+
+  -- its version is 1
+  pub version-read : getD bs 4 0 ≡ 1
+  version-read = eqb-true (getD bs 4 0) 1 (checks .version)
+
+  -- and it is plain
+  pub plain : Plain (planOf bs)
+  unfolding planOf partyCount gateAt
+  plain =
+      record {
+        rule = refl;
+        kinds = λ g. kinds-read (gateAt bs) (gateCountAt bs) g (λ i. kind-read _ _ _ _);
+        points = ap (tab suc) (sym (length-tab suc (nAt bs)));
+        majority = rw (length-tab suc (nAt bs)) (omega (arith, two));
+      }
+
+-- ---- of kinds above 5 a plain plan has none
+none-above : (k : ℕ) → 5 < k → (gs : List Gate) → ((g : ℕ) → kindOf (getD gs g (Input 0)) ≤ 5) → countWhere (isKind k) gs ≡ 0
+unfolding countWhere isKind
+none-above k l [] h = refl
+none-above k l (x ∷ gs) h = rw (ne-eqb (kindOf x) k (λ e. omega (arith, h 0))) (none-above k l gs (λ g. h (suc g)))
+
+module _ (plan : Plan) (p : Plain plan) where
+  pub plain-no-6 : kindCount plan 6 ≡ 0
+  unfolding kindCount
+  plain-no-6 = none-above 6 (omega arith) (plan .gates) (p .kinds)
+
+  pub plain-no-7 : kindCount plan 7 ≡ 0
+  unfolding kindCount
+  plain-no-7 = none-above 7 (omega arith) (plan .gates) (p .kinds)
 
 -- ---- as the code asks it
 module _ (bs : List ℕ) (h : Header) (k : Planned bs h) where

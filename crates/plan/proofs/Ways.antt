@@ -23,7 +23,7 @@ use Rattle.field.specs.declared.Made.the-variants as made
 use Rattle.field.specs.Prime.{isPrime}
 use Rattle.field.specs.Field.{fieldLimit, madeOf}
 use Rattle.plan.specs.declared.Gate.{Gate}
-use Rattle.plan.specs.declared.Gate.the-variants.{Input, Add, Scale, Offset, Multiply}
+use Rattle.plan.specs.declared.Gate.the-variants.{Input, Add, Scale, Offset, Multiply, Random, Spend}
 use Rattle.plan.specs.declared.Output.{Output}
 use Rattle.plan.specs.declared.Header.{Header}
 use Rattle.plan.specs.declared.Reading.{Reading}
@@ -74,6 +74,14 @@ module _ (n p g : ℕ) (gate : Gate) (r : Bool) where
   unfolding gateOk
   rule-multiply a b e h = rw e h
 
+  pub rule-random : gate ≡ Random → r ≡ true → r ≡ gateOk n p g gate
+  unfolding gateOk
+  rule-random e h = rw e h
+
+  pub rule-spend : (a b : ℕ) → gate ≡ Spend a b → r ≡ (ltb a g && ltb b g) → r ≡ gateOk n p g gate
+  unfolding gateOk
+  rule-spend a b e h = rw e h
+
 module _ (n gates : ℕ) (o : Output) (t : Bool) (e : t ≡ between 1 n (o .party)) where
   pub rule-no-party : t ≡ false → false ≡ outOk n gates o
   unfolding outOk
@@ -83,7 +91,7 @@ module _ (n gates : ℕ) (o : Output) (t : Bool) (e : t ≡ between 1 n (o .part
   unfolding outOk
   rule-wire f = rw (← e, f)
 
-pub ruleset rules = (needs, not-true, not-false, between-under, between-from, below-first-not, below-first, rule-input, rule-add, rule-scale, rule-offset, rule-multiply, rule-no-party, rule-wire)
+pub ruleset rules = (needs, not-true, not-false, between-under, between-from, below-first-not, below-first, rule-input, rule-add, rule-scale, rule-offset, rule-multiply, rule-random, rule-spend, rule-no-party, rule-wire)
 
 -- ---- the two searches
 module _ (bs : List ℕ) (gates : ℕ) where

@@ -10,7 +10,7 @@ use lib.ListN.{length}
 use Rattle.numbers.specs.Tables.{countWhere}
 use Rattle.plan.specs.declared.Gate.{Gate}
 use Rattle.plan.specs.declared.Output.{Output}
-use Rattle.plan.specs.Plans.{Plan, wiresFrom, wiresWhere, isInputOf, inputWires, ownInputCount, outWiresOf}
+use Rattle.plan.specs.Plans.{Plan, wiresFrom, isInputOf, inputWires, outWiresOf}
 
 -- the wires whose gates pass a test
 module _ (f : Gate → Bool) where
@@ -23,8 +23,8 @@ module _ (f : Gate → Bool) where
   length-wires g [] = refl
   length-wires g (x ∷ gs) = count-length (f x) g (countWhere f gs) (wiresFrom f (suc g) gs) (length-wires (suc g) gs)
 
-pub length-inputWires : (plan : Plan) (i : ℕ) → length (inputWires plan i) ≡ ownInputCount plan i
-unfolding inputWires wiresWhere ownInputCount
+pub length-inputWires : (plan : Plan) (i : ℕ) → length (inputWires plan i) ≡ countWhere (isInputOf i) (plan .gates)
+unfolding inputWires
 length-inputWires plan i = length-wires (isInputOf i) 0 (plan .gates)
 
 -- a party's outs

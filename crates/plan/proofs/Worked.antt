@@ -11,7 +11,8 @@ use Rattle.plan.specs.declared.Checked.{Checked}
 use Rattle.plan.specs.declared.Checked.the-variants.{Passed, Refused}
 use Rattle.plan.specs.declared.Refusal.the-variants as refusal
 use Rattle.plan.specs.Refusals.{firstOf, andThen, need, unlessFound}
-use Rattle.plan.specs.Plans.{partyCount, dealerCount, isInput, isInputOf, isMultiply, dealersOf, dealings, wiresFrom, wiresWhere, multiplies, multiplyWire, outWiresOf, outWires, inputCount, ownInputCount, coinCount, ownOutCount, mailCount, writtenCount, sentCount}
+use Rattle.plan.specs.declared.Step.the-variants.{DealInputs, DealProduct, SendOuts}
+use Rattle.plan.specs.Plans.{partyCount, parties, dealerCount, kindOf, isKind, kindCount, operandsOf, isInputOf, wiresFrom, inputWires, outWiresOf, outWires, inputOwnersAt, inputOwners, firstDealings, multiplyDealings, dealingsAt, coinOwnersAt, coinOwners, multiplySteps, stepsAt, stepsFrom, steps, stepAt, lastCall, inputCount, coinCount, ownOutCount, received, sentBy, mailCount, writtenCount, perMultiply, sentCount}
 use Rattle.plan.specs.File.{magic, sameBytes, between, gateOf, gateAt, outAt, gateOk, outOk, gateKept, outKept, layoutOk, planChecks, planCheck, planOf}
 
 -- the contents of a plan of four gates and one out, with its version, n, t, byte 7 and p
@@ -88,12 +89,17 @@ pub plans-worked : map (λ r. planCheck (r .bytes)) (worked ++ faults) ≡ map (
 unfolding contents input1 input2 multiply add out body plan k single row worked faults planCheck firstOf andThen planChecks need unlessFound firstFailing firstFrom magic sameBytes between gateOf gateAt outAt gateOk outOk gateKept outKept layoutOk wordAt isPrime divisorOf divisorFrom
 plans-worked = refl
 
--- K's inputs, multiplies, dealings (by their dealers), coins, multiply wire and elements sent; parties' own inputs, coins and outs
-pub counts-worked : inputCount (planOf k) ∷ multiplies (planOf k) ∷ coinCount (planOf k) ∷ multiplyWire (planOf k) 0 ∷ sentCount (planOf k) ∷ dealings (planOf k) ≡ 2 ∷ 1 ∷ 5 ∷ 2 ∷ 18 ∷ 1 ∷ 2 ∷ 1 ∷ 2 ∷ 3 ∷ []
-unfolding contents input1 input2 multiply add out body plan k planOf tab countWhere partyCount gateOf gateAt outAt wordAt dealerCount isInput isMultiply dealersOf dealings flatMap wiresFrom wiresWhere multiplies multiplyWire inputCount coinCount sentCount
+-- K's steps
+pub steps-worked : steps (planOf k) ≡ DealInputs ∷ DealProduct 2 0 1 ∷ SendOuts ∷ []
+unfolding contents input1 input2 multiply add out body plan k planOf tab gateOf gateAt outAt wordAt multiplySteps stepsAt stepsFrom steps
+steps-worked = refl
+
+-- K's inputs, coins and elements sent, and the owners of its coins
+pub counts-worked : inputCount (planOf k) ∷ coinCount (planOf k) ∷ sentCount (planOf k) ∷ coinOwners (planOf k) ≡ 2 ∷ 5 ∷ 18 ∷ 1 ∷ 2 ∷ 1 ∷ 2 ∷ 3 ∷ []
+unfolding contents input1 input2 multiply add out body plan k planOf tab countWhere partyCount parties gateOf gateAt outAt wordAt dealerCount kindOf isKind kindCount inputOwnersAt inputOwners firstDealings multiplyDealings dealingsAt coinOwnersAt coinOwners flatMap inputCount coinCount perMultiply sentCount
 counts-worked = refl
 
 -- what party 3 of K takes and writes in its calls 0 to 3
 pub rounds-worked : (map (mailCount (planOf k) 3) (0 ∷ 1 ∷ 2 ∷ 3 ∷ []) ≡ 0 ∷ 2 ∷ 3 ∷ 3 ∷ []) × (map (writtenCount (planOf k) 3) (0 ∷ 1 ∷ 2 ∷ 3 ∷ []) ≡ 0 ∷ 3 ∷ 1 ∷ 1 ∷ [])
-unfolding contents input1 input2 multiply add out body plan k planOf tab countWhere partyCount gateOf gateAt outAt wordAt dealerCount isInput isInputOf isMultiply outWiresOf outWires multiplies inputCount ownInputCount ownOutCount mailCount writtenCount
+unfolding contents input1 input2 multiply add out body plan k planOf tab countWhere partyCount gateOf gateAt outAt wordAt dealerCount kindOf isKind kindCount operandsOf isInputOf wiresFrom inputWires outWiresOf outWires ownOutCount multiplySteps stepsAt stepsFrom steps stepAt lastCall received sentBy mailCount writtenCount
 rounds-worked = (refl, refl)

@@ -11,7 +11,8 @@ use Rattle.field.specs.declared.Made.the-variants as made
 use Rattle.field.specs.Prime.{isPrime}
 use Rattle.field.specs.Field.{fieldLimit}
 use Rattle.plan.specs.declared.Gate.{Gate}
-use Rattle.plan.specs.declared.Gate.the-variants.{Input, Add, Scale, Offset, Multiply}
+use Rattle.plan.specs.declared.Gate.the-variants.{Input, Add, Scale, Offset, Multiply, Random, Spend}
+use Rattle.plan.specs.declared.Rule.the-variants.{Reduction}
 use Rattle.plan.specs.declared.Output.{Output}
 use Rattle.plan.specs.declared.Header.{Header}
 use Rattle.plan.specs.declared.Reading.{Reading}
@@ -83,6 +84,8 @@ gateOk n p g (Add a b) = ltb a g && ltb b g
 gateOk n p g (Scale a c) = ltb a g && ltb c p
 gateOk n p g (Offset a c) = ltb a g && ltb c p
 gateOk n p g (Multiply a b) = ltb a g && ltb b g
+gateOk n p g Random = true
+gateOk n p g (Spend a b) = ltb a g && ltb b g
 
 unfoldable pub outOk : ℕ → ℕ → Output → Bool
 outOk n gates o = between 1 n (o .party) && ltb (o .wire) gates
@@ -114,10 +117,6 @@ thresholdOk n t = ltb (2 * t) n
 abbrev pub modulusOk : ℕ → ℕ → Bool
 modulusOk n p = (ltb p fieldLimit && isPrime p) && ltb n p
 
--- the field of such a prime
-unfoldable pub fieldAbove : ℕ → ℕ → Made
-fieldAbove n p = cond (modulusOk n p) (made.Field (record { p = p })) made.Refused
-
 -- refusals 1 to 8
 unfoldable pub planChecks : List ℕ → List Checked
 planChecks bs =
@@ -143,7 +142,13 @@ planOf bs =
       points = tab suc (nAt bs);
       gates = tab (gateAt bs) (gateCountAt bs);
       outs = tab (outAt bs) (outCountAt bs);
+      rule = Reduction;
     }
+
+-- ---- for the code alone: no other definition and no demand cites these
+-- the field of such a prime
+unfoldable pub fieldAbove : ℕ → ℕ → Made
+fieldAbove n p = cond (modulusOk n p) (made.Field (record { p = p })) made.Refused
 
 unfoldable pub headerOf : List ℕ → Header
 headerOf bs =

@@ -1,54 +1,142 @@
--- Counts of a plan's gates and outs.
---     kinds, counting, counting-outs, wiring     what closes the needs of the functions that count
+-- Counts of a plan's gates, coins and outs.
+--     kinds, coining, counting, counting-outs     what closes the needs of the functions that count
+--     input-coins, multiply-coins, coins-there    coins at a gate
+--     last-is, own-is, inputs-are, coins-are      what follows from a tally
 -- Assumes nothing.
 use mathlib.Core.Path.{_≡_, refl, sym, ap, _∙_}
 use mathlib.Core.Bool.{Bool, true, false, cond}
-use mathlib.Core.List.{List, [], _∷_, flatMap}
-use Prim.Native.Nat.{ℕ, suc, _+_, _-_, _*_, _<_, _≤_}
-use native.Mathlib.Nat.{zero-mul, suc-mul, mul-suc}
+use mathlib.Core.List.{List, [], _∷_, _++_, flatMap}
+use Prim.Native.Nat.{ℕ, zero, suc, _+_, _*_, _<_, _≤_}
+use native.Mathlib.Decide.{decLe}
 use native.Mathlib.Numerals.{add-one}
 use native.Mathlib.Omega.{arith}
 use borrow.Author.Needs.{needs}
+use borrow.Author.Tests.{le-leb, lt-leb, eq-eqb, ne-eqb}
 use lib.Dec.{eqb, leb}
-use lib.ListN.{length, getD, take, drop, length-append, drop-of-length-le}
-use lib.Seq.{drop-cons}
-use Rattle.numbers.specs.Tables.{countWhere}
-use Rattle.numbers.proofs.Tables.{length-tab}
-use Rattle.numbers.proofs.Counts.{Counted, count-none, count-next, counted}
+use lib.ListN.{length, getD, take, drop, replicate, take-append-drop}
+use lib.Seq.{take-suc, take-all}
+use Rattle.numbers.specs.Tables.{tab, countWhere}
+use Rattle.numbers.proofs.Tables.{tab-snoc}
+use Rattle.numbers.proofs.Rows.{flat-append, flat-snoc}
+use Rattle.numbers.proofs.Counts.{Counted, count-none, count-next, counted, countWhere-append}
 use Rattle.plan.specs.declared.Gate.{Gate}
-use Rattle.plan.specs.declared.Gate.the-variants.{Input, Add, Scale, Offset, Multiply}
+use Rattle.plan.specs.declared.Gate.the-variants.{Input, Add, Scale, Offset, Multiply, Random, Spend}
+use Rattle.plan.specs.declared.Rule.{Rule}
+use Rattle.plan.specs.declared.Rule.the-variants.{Reduction}
 use Rattle.plan.specs.declared.Output.{Output}
+use Rattle.plan.specs.declared.Dealing.{Dealing}
 use Rattle.plan.specs.declared.Header.{Header}
-use Rattle.plan.specs.Plans.{Plan, dealerCount, isInput, isInputOf, isMultiply, dealersOf, deals, dealings, wiresFrom, wiresWhere, multiplies, multiplyWire, outWiresOf, outWires, inputCount, ownInputCount, dealingsBelow, ownOutCount}
-use Rattle.plan.specs.File.{gateAt, outAt, planOf}
+use Rattle.plan.specs.Plans.{Plan, partyCount, dealerCount, kindOf, isKind, kindCount, operandsOf, isInputOf, firstDealings, multiplyDealings, dealingsAt, coinOwnersAt, coinOwners, lastCall, outWiresOf, outWires, inputCount, ownInputCount, coinCount, ownCoinCount, ownOutCount}
+use Rattle.plan.specs.File.{between, gateAt, outAt, planOf}
 use Rattle.plan.specs.Planned.{Planned}
-use Rattle.plan_counts.specs.Counts.{Tallied, isOutOf}
-use Rattle.plan.proofs.Planned.{plan-gates, plan-gate, plan-outs, plan-out, plan-dealers}
+use Rattle.plan_counts.specs.Counts.{Tallied, IsGate, isOutOf}
+use Rattle.plan.proofs.Planned.{plan-n, plan-t, plan-gates, plan-gate, plan-outs, plan-out, plan-dealers}
+use Rattle.plan.proofs.Valid.{plain}
+use Rattle.plan.proofs.Counts.{count-replicate, plain-own-inputs, plain-inputs, plain-coins, plain-steps}
 
 -- ---- a gate's kind, once it is known
-module _ (g q : Gate) (t : Bool) (e : g ≡ q) where
-  pub input-as : t ≡ isInput q → t ≡ isInput g
-  input-as f = f ∙ sym (ap isInput e)
+module _ (g q : Gate) (e : g ≡ q) where
+  pub kind-as : (k : ℕ) → k ≡ kindOf q → k ≡ kindOf g
+  kind-as k f = f ∙ sym (ap kindOf e)
 
-  pub input-of-as : (i : ℕ) → t ≡ isInputOf i q → t ≡ isInputOf i g
-  input-of-as i f = f ∙ sym (ap (isInputOf i) e)
+  pub input-of-as : (t : Bool) (i : ℕ) → t ≡ isInputOf i q → t ≡ isInputOf i g
+  input-of-as t i f = f ∙ sym (ap (isInputOf i) e)
 
-  pub multiply-as : t ≡ isMultiply q → t ≡ isMultiply g
-  multiply-as f = f ∙ sym (ap isMultiply e)
+pub rounds-as : (g : Gate) (k : ℕ) → k ≡ kindOf g → leb 5 k ≡ leb 5 (kindOf g)
+rounds-as g k e = ap (leb 5) e
 
-  pub deals-as : (plan : Plan) (i : ℕ) → t ≡ deals plan i q → t ≡ deals plan i g
-  deals-as plan i f = f ∙ sym (ap (deals plan i) e)
+pub ruleset kinds = (needs, kind-as, input-of-as, rounds-as)
 
-pub deals-multiply : (bs : List ℕ) (h : Header) (g : Gate) (i a b : ℕ) → Planned bs h → g ≡ Multiply a b → leb i (h .t + h .t + 1) ≡ deals (planOf bs) i g
-unfolding deals
-deals-multiply bs h g i a b k e = rw (e, plan-dealers k)
+-- ---- a party's coins at a gate
+-- the owners of a dealing's coins
+abbrev coinsOf : Dealing → List ℕ
+coinsOf d = replicate (d .coins) (d .dealer)
 
-pub ruleset kinds = (needs, input-as, input-of-as, multiply-as, deals-multiply, deals-as)
+module _ (i : ℕ) where
+  among-next : (k t : ℕ) → cond (between 1 k i) t 0 + cond (eqb i (suc k)) t 0 ≡ cond (between 1 (suc k) i) t 0
+  unfolding between
+  among-next k t = at (decLe 1 i) (decLe i k) (decLe i (suc k))
+    where
+      at : Dec (1 ≤ i) → Dec (i ≤ k) → Dec (i ≤ suc k) → cond (between 1 k i) t 0 + cond (eqb i (suc k)) t 0 ≡ cond (between 1 (suc k) i) t 0
+      at (no a) b c = let l : i < 1 = omega arith in rw (lt-leb 1 i l, ne-eqb i (suc k) (λ q. omega arith))
+      at (yes a) (yes b) c = let m : i ≤ suc k = omega arith in rw (le-leb 1 i a, le-leb i k b, ne-eqb i (suc k) (λ q. omega arith), le-leb i (suc k) m) (omega arith)
+      at (yes a) (no b) (yes c) =
+          let l : k < i = omega arith in
+          let q : i ≡ suc k = omega arith in
+          rw (le-leb 1 i a, lt-leb i k l, eq-eqb i (suc k) q, le-leb i (suc k) c) (omega arith)
+      at (yes a) (no b) (no c) =
+          let l : k < i = omega arith in
+          let m : suc k < i = omega arith in
+          rw (le-leb 1 i a, lt-leb i k l, ne-eqb i (suc k) (λ q. omega arith), lt-leb i (suc k) m)
+
+  -- of the dealings by the parties 1 to k
+  count-first : (plan : Plan) (k : ℕ) → countWhere (eqb i) (flatMap coinsOf (firstDealings plan k)) ≡ cond (between 1 k i) (plan .t) 0
+  unfolding firstDealings between flatMap tab countWhere
+  count-first plan zero = none (decLe 1 i)
+    where
+      none : Dec (1 ≤ i) → countWhere (eqb i) (flatMap coinsOf (tab (λ j. record { dealer = suc j; coins = plan .t }) 0)) ≡ cond (between 1 0 i) (plan .t) 0
+      none (no a) = let l : i < 1 = omega arith in rw (lt-leb 1 i l)
+      none (yes a) = let l : 0 < i = omega arith in rw (le-leb 1 i a, lt-leb i 0 l)
+  count-first plan (suc k) =
+      let f : ℕ → Dealing = λ j. record { dealer = suc j; coins = plan .t } in
+      ap (λ (l : List Dealing). countWhere (eqb i) (flatMap coinsOf l)) (tab-snoc f k)
+      ∙ ap (countWhere (eqb i)) (flat-snoc coinsOf (tab f k) (f k))
+      ∙ countWhere-append (eqb i) (flatMap coinsOf (tab f k)) (replicate (plan .t) (suc k))
+      ∙ rw (count-first plan k, count-replicate i (suc k) (plan .t)) (among-next k (plan .t))
+
+  count-one : (t s : ℕ) → countWhere (eqb i) (flatMap coinsOf (record { dealer = s; coins = t } ∷ [])) ≡ cond (eqb i s) t 0
+  unfolding flatMap
+  count-one t s =
+      ap (countWhere (eqb i)) (flat-snoc coinsOf [] (record { dealer = s; coins = t }))
+      ∙ count-replicate i s t
+
+  count-multiply : (plan : Plan) (a b : ℕ) → plan .rule ≡ Reduction → countWhere (eqb i) (coinOwnersAt plan (Multiply a b)) ≡ cond (between 1 (dealerCount plan) i) (plan .t) 0
+  unfolding coinOwnersAt dealingsAt multiplyDealings
+  count-multiply plan a b by =
+      ap (λ (r : Rule). countWhere (eqb i) (flatMap coinsOf (multiplyDealings plan r))) by ∙ count-first plan (dealerCount plan)
+
+module _ (bs : List ℕ) (h : Header) (p : Planned bs h) (i : ℕ) (gate : Gate) where
+  pub coins-input : (s r : ℕ) → gate ≡ Input s → r ≡ cond (eqb i s) (h .t) 0 → r ≡ countWhere (eqb i) (coinOwnersAt (planOf bs) gate)
+  unfolding coinOwnersAt dealingsAt
+  coins-input s r e q = rw (e, count-one i (planOf bs .t) s, plan-t p) q
+
+  pub coins-multiply : (a b r : ℕ) (t : Bool) → gate ≡ Multiply a b → t ≡ between 1 (h .t + h .t + 1) i → r ≡ cond t (h .t) 0 → r ≡ countWhere (eqb i) (coinOwnersAt (planOf bs) gate)
+  coins-multiply a b r t e f q = rw (e, count-multiply i (planOf bs) a b (plain bs (p .passes) .rule), plan-dealers p, plan-t p, ← f) q
+
+  pub coins-random : (r : ℕ) (t : Bool) → gate ≡ Random → t ≡ between 1 (h .n) i → r ≡ cond t (h .t) 0 → r ≡ countWhere (eqb i) (coinOwnersAt (planOf bs) gate)
+  unfolding coinOwnersAt dealingsAt
+  coins-random r t e f q = rw (e, count-first i (planOf bs) (partyCount (planOf bs)), plan-n p, plan-t p, ← f) q
+
+  pub coins-add : (a b : ℕ) → gate ≡ Add a b → 0 ≡ countWhere (eqb i) (coinOwnersAt (planOf bs) gate)
+  unfolding coinOwnersAt dealingsAt flatMap countWhere
+  coins-add a b e = rw e
+
+  pub coins-scale : (a b : ℕ) → gate ≡ Scale a b → 0 ≡ countWhere (eqb i) (coinOwnersAt (planOf bs) gate)
+  unfolding coinOwnersAt dealingsAt flatMap countWhere
+  coins-scale a b e = rw e
+
+  pub coins-offset : (a b : ℕ) → gate ≡ Offset a b → 0 ≡ countWhere (eqb i) (coinOwnersAt (planOf bs) gate)
+  unfolding coinOwnersAt dealingsAt flatMap countWhere
+  coins-offset a b e = rw e
+
+  pub coins-spend : (a b : ℕ) → gate ≡ Spend a b → 0 ≡ countWhere (eqb i) (coinOwnersAt (planOf bs) gate)
+  unfolding coinOwnersAt dealingsAt flatMap countWhere
+  coins-spend a b e = rw e
+
+pub first-under : (k i : ℕ) → i < 1 → false ≡ between 1 k i
+unfolding between
+first-under k i l = rw (lt-leb 1 i l)
+
+pub first-from : (k i : ℕ) → 1 ≤ i → leb i k ≡ between 1 k i
+unfolding between
+first-from k i l = rw (le-leb 1 i l)
+
+pub ruleset coining = (needs, first-under, first-from, coins-input, coins-multiply, coins-random, coins-add, coins-scale, coins-offset, coins-spend)
 
 -- ---- a loop over the gates that counts: k of the first g pass
 module _ (f : Gate → Bool) (bs : List ℕ) (h : Header) (k g : ℕ) (p : Planned bs h) (c : Counted f (planOf bs .gates) k g) where
-  gates-next : g < h .gates → (gate : Gate) (t : Bool) (o : ℕ) → gate ≡ gateAt bs g → t ≡ f gate → o ≡ cond t 1 0 → Counted f (planOf bs .gates) (k + o) (g + 1)
-  gates-next l gate t o eg et eo = count-next f (planOf bs .gates) k g c o (Input 0) (rw (plan-gates p) l) (rw (plan-gate p g l, ← eg, ← et) eo)
+  gates-next : g < h .gates → (gate : Gate) (o : ℕ) → gate ≡ gateAt bs g → o ≡ cond (f gate) 1 0 → Counted f (planOf bs .gates) (k + o) (g + 1)
+  gates-next l gate o eg eo = count-next f (planOf bs .gates) k g c o (Input 0) (rw (plan-gates p) l) (rw (plan-gate p g l, ← eg) eo)
 
   gates-few : k ≤ 1024
   gates-few = omega (arith, c .small, c .within, plan-gates p, p .gates-high)
@@ -56,95 +144,147 @@ module _ (f : Gate → Bool) (bs : List ℕ) (h : Header) (k g : ℕ) (p : Plann
   gates-done : h .gates ≤ g → k ≡ countWhere f (planOf bs .gates)
   gates-done l = counted f (planOf bs .gates) k g c (rw (plan-gates p) l)
 
+-- a loop over the gates below `top` that adds up party i's coins: k at the first g
+pub record Coining (bs : List ℕ) (i top k g : ℕ) : Type 0 where
+  pub within : g ≤ top
+  pub few : k ≤ 7 * g
+  pub is : k ≡ countWhere (eqb i) (flatMap (coinOwnersAt (planOf bs)) (take g (planOf bs .gates)))
+
+module _ (bs : List ℕ) (i top : ℕ) where
+  pub coin-none : Coining bs i top 0 0
+  unfolding flatMap countWhere
+  coin-none = record { within = omega arith; few = omega arith; is = refl }
+
+  module _ (h : Header) (k g : ℕ) (p : Planned bs h) (m : top ≤ h .gates) (c : Coining bs i top k g) where
+    pub coin-next : g < top → (gate : Gate) (o : ℕ) → gate ≡ gateAt bs g → o ≡ countWhere (eqb i) (coinOwnersAt (planOf bs) gate) → o ≤ 7 → Coining bs i top (k + o) (g + 1)
+    coin-next l gate o eg eo few = record {
+      within = omega arith;
+      few = omega (arith, c .few);
+      is = rw (c .is, eo) (sym (next (omega arith)));
+    }
+      where
+        next : g < h .gates → countWhere (eqb i) (flatMap (coinOwnersAt (planOf bs)) (take (g + 1) (planOf bs .gates)))
+            ≡ countWhere (eqb i) (flatMap (coinOwnersAt (planOf bs)) (take g (planOf bs .gates))) + countWhere (eqb i) (coinOwnersAt (planOf bs) gate)
+        next l =
+            rw (add-one, take-suc (planOf bs .gates) g (Input 0) (rw (plan-gates p) l), plan-gate p g l, ← eg, flat-snoc)
+            (countWhere-append (eqb i) (flatMap (coinOwnersAt (planOf bs)) (take g (planOf bs .gates))) (coinOwnersAt (planOf bs) gate))
+
+    pub coin-few : k ≤ 7168
+    coin-few = omega (arith, c .few, c .within, p .gates-high)
+
+    pub coin-done : top ≤ g → k ≡ countWhere (eqb i) (flatMap (coinOwnersAt (planOf bs)) (take top (planOf bs .gates)))
+    coin-done l =
+        let e : g ≡ top = omega (arith, c .within) in
+        c .is ∙ ap (λ (n : ℕ). countWhere (eqb i) (flatMap (coinOwnersAt (planOf bs)) (take n (planOf bs .gates)))) e
+
 -- the loop of a tally
-pub record Tallying (bs : List ℕ) (i a b m d g : ℕ) : Type 0 where
-  pub inputs : Counted isInput (planOf bs .gates) a g
+pub record Tallying (bs : List ℕ) (top i a b m d g : ℕ) : Type 0 where
+  pub inputs : Counted (isKind 1) (planOf bs .gates) a g
   pub own : Counted (isInputOf i) (planOf bs .gates) b g
-  pub multiplies : Counted isMultiply (planOf bs .gates) m g
-  pub dealings : Counted (deals (planOf bs) i) (planOf bs .gates) d g
+  pub multiplies : Counted (isKind 5) (planOf bs .gates) m g
+  pub few : a + m ≤ g
+  pub coins : Coining bs i top d g
+
+one-kind : (g : Gate) → cond (isKind 1 g) 1 0 + cond (isKind 5 g) 1 0 ≤ 1
+unfolding isKind kindOf
+one-kind (Input s) = omega arith
+one-kind (Add a b) = omega arith
+one-kind (Scale a c) = omega arith
+one-kind (Offset a c) = omega arith
+one-kind (Multiply a b) = omega arith
+one-kind Random = omega arith
+one-kind (Spend a b) = omega arith
 
 module _ (bs : List ℕ) (i : ℕ) where
-  pub tally-none : Tallying bs i 0 0 0 0 0
-  tally-none = record {
-    inputs = count-none isInput (planOf bs .gates);
+  pub tally-none : (top : ℕ) → Tallying bs top i 0 0 0 0 0
+  tally-none top = record {
+    inputs = count-none (isKind 1) (planOf bs .gates);
     own = count-none (isInputOf i) (planOf bs .gates);
-    multiplies = count-none isMultiply (planOf bs .gates);
-    dealings = count-none (deals (planOf bs) i) (planOf bs .gates);
+    multiplies = count-none (isKind 5) (planOf bs .gates);
+    few = omega arith;
+    coins = coin-none bs i top;
   }
 
-  module _ (h : Header) (a b m d g : ℕ) (p : Planned bs h) (c : Tallying bs i a b m d g) where
-    pub tally-next : g < h .gates → (gate : Gate) → gate ≡ gateAt bs g → (ta tb tm td : Bool) (oa ob om od : ℕ)
-        → ta ≡ isInput gate → oa ≡ cond ta 1 0 → tb ≡ isInputOf i gate → ob ≡ cond tb 1 0 → tm ≡ isMultiply gate → om ≡ cond tm 1 0 → td ≡ deals (planOf bs) i gate → od ≡ cond td 1 0
-        → Tallying bs i (a + oa) (b + ob) (m + om) (d + od) (g + 1)
-    tally-next l gate e ta tb tm td oa ob om od ea fa eb fb em fm ed fd = record {
-      inputs = gates-next isInput bs h a g p (c .inputs) l gate ta oa e ea fa;
-      own = gates-next (isInputOf i) bs h b g p (c .own) l gate tb ob e eb fb;
-      multiplies = gates-next isMultiply bs h m g p (c .multiplies) l gate tm om e em fm;
-      dealings = gates-next (deals (planOf bs) i) bs h d g p (c .dealings) l gate td od e ed fd;
+  module _ (h : Header) (a b m d g : ℕ) (p : Planned bs h) (c : Tallying bs (h .gates) i a b m d g) where
+    pub tally-next : g < h .gates → (gate : Gate) → gate ≡ gateAt bs g → (k : ℕ) → k ≡ kindOf gate → (tb : Bool) (oa ob om od : ℕ)
+        → oa ≡ cond (eqb k 1) 1 0 → tb ≡ isInputOf i gate → ob ≡ cond tb 1 0 → om ≡ cond (eqb k 5) 1 0
+        → od ≡ countWhere (eqb i) (coinOwnersAt (planOf bs) gate) → od ≤ 7
+        → Tallying bs (h .gates) i (a + oa) (b + ob) (m + om) (d + od) (g + 1)
+    unfolding isKind
+    tally-next l gate e k ek tb oa ob om od ea et eb em ed few = record {
+      inputs = gates-next (isKind 1) bs h a g p (c .inputs) l gate oa e (rw (← ek) ea);
+      own = gates-next (isInputOf i) bs h b g p (c .own) l gate ob e (rw (← et) eb);
+      multiplies = gates-next (isKind 5) bs h m g p (c .multiplies) l gate om e (rw (← ek) em);
+      few = let one : cond (eqb k 1) 1 0 + cond (eqb k 5) 1 0 ≤ 1 = rw ek (one-kind gate) in omega (arith, c .few);
+      coins = coin-next bs i (h .gates) h d g p (omega arith) (c .coins) l gate od e ed few;
     }
 
-    pub tallied : h .gates ≤ g → Tallied (planOf bs) i (record { inputs = a; own = b; multiplies = m; dealings = d })
-    unfolding inputCount ownInputCount multiplies
+    pub tally-fits : d ≤ 7168
+    tally-fits = coin-few bs i (h .gates) h d g p (omega arith) (c .coins)
+
+    pub tallied : h .gates ≤ g → Tallied (planOf bs) i (record { inputs = a; own = b; multiplies = m; coins = d })
+    unfolding kindCount ownCoinCount coinOwners
     tallied l = record {
-      inputs = gates-done isInput bs h a g p (c .inputs) l;
+      inputs = gates-done (isKind 1) bs h a g p (c .inputs) l;
       own = gates-done (isInputOf i) bs h b g p (c .own) l;
-      multiplies = gates-done isMultiply bs h m g p (c .multiplies) l;
-      dealings = gates-done (deals (planOf bs) i) bs h d g p (c .dealings) l;
-      inputs-few = gates-few isInput bs h a g p (c .inputs);
+      multiplies = gates-done (isKind 5) bs h m g p (c .multiplies) l;
+      coins = coin-done bs i (h .gates) h d g p (omega arith) (c .coins) l ∙ ap (λ (gs : List Gate). countWhere (eqb i) (flatMap (coinOwnersAt (planOf bs)) gs)) (take-all (h .gates) (planOf bs .gates) (omega (arith, plan-gates p)));
+      few = omega (arith, c .few, c .inputs .within, plan-gates p, p .gates-high);
       own-few = gates-few (isInputOf i) bs h b g p (c .own);
-      multiplies-few = gates-few isMultiply bs h m g p (c .multiplies);
-      dealings-few = gates-few (deals (planOf bs) i) bs h d g p (c .dealings);
+      coins-few = tally-fits;
     }
 
--- the loop over the gates below g
-pub record DealtBelow (bs : List ℕ) (i g k below : ℕ) : Type 0 where
-  pub within : below ≤ g
-  pub count : Counted (deals (planOf bs) i) (planOf bs .gates) k below
+pub ruleset counting = (needs, tally-none, tally-next, tally-fits, tallied, coin-none, coin-next, coin-few, coin-done)
 
-pub dealt-none : (bs : List ℕ) (i g : ℕ) → DealtBelow bs i g 0 0
-dealt-none bs i g = record { within = omega arith; count = count-none (deals (planOf bs) i) (planOf bs .gates) }
+-- ---- coins at a gate
+module _ (plan : Plan) (i : ℕ) where
+  -- at an input of its own and at a multiply of which it is a dealer a party has t coins
+  pub input-coins : (x : Gate) → isInputOf i x ≡ true → countWhere (eqb i) (coinOwnersAt plan x) ≡ plan .t
+  unfolding isInputOf isKind kindOf operandsOf coinOwnersAt dealingsAt
+  input-coins (Input s) h = count-one i (plan .t) s ∙ rw h
+  input-coins (Add a b) h = let z : _≡_ {A = ℕ} 0 1 = cc in absurd (omega arith)
+  input-coins (Scale a c) h = let z : _≡_ {A = ℕ} 0 1 = cc in absurd (omega arith)
+  input-coins (Offset a c) h = let z : _≡_ {A = ℕ} 0 1 = cc in absurd (omega arith)
+  input-coins (Multiply a b) h = let z : _≡_ {A = ℕ} 0 1 = cc in absurd (omega arith)
+  input-coins Random h = let z : _≡_ {A = ℕ} 0 1 = cc in absurd (omega arith)
+  input-coins (Spend a b) h = let z : _≡_ {A = ℕ} 0 1 = cc in absurd (omega arith)
 
-module _ (bs : List ℕ) (i g k below : ℕ) (c : DealtBelow bs i g k below) where
-  pub dealt-next : (h : Header) (gate : Gate) (t : Bool) (o : ℕ) → Planned bs h → g ≤ h .gates → below < g → gate ≡ gateAt bs below → t ≡ deals (planOf bs) i gate → o ≡ cond t 1 0
-      → DealtBelow bs i g (k + o) (below + 1)
-  dealt-next h gate t o p m l e et eo = record { within = omega arith; count = gates-next (deals (planOf bs) i) bs h k below p (c .count) (omega arith) gate t o e et eo }
+  pub multiply-coins : (a b : ℕ) → plan .rule ≡ Reduction → 1 ≤ i → i ≤ dealerCount plan → countWhere (eqb i) (coinOwnersAt plan (Multiply a b)) ≡ plan .t
+  unfolding between
+  multiply-coins a b by l m = count-multiply i plan a b by ∙ rw (le-leb 1 i l, le-leb i (dealerCount plan) m)
 
-  pub dealt-below : g ≤ below → k ≡ dealingsBelow (planOf bs) i g
-  unfolding dealingsBelow
-  dealt-below l =
-      let e : below ≡ g = omega (arith, c .within) in
-      c .count .is ∙ ap (λ (n : ℕ). countWhere (deals (planOf bs) i) (take n (planOf bs .gates))) e
+  -- they are there
+  pub coins-there : (g : ℕ) (x : Gate) → IsGate plan g x → countWhere (eqb i) (coinOwnersAt plan x) ≡ plan .t
+      → countWhere (eqb i) (flatMap (coinOwnersAt plan) (take g (plan .gates))) + plan .t ≤ ownCoinCount plan i
+  unfolding ownCoinCount coinOwners
+  coins-there g x is here =
+      let F : Gate → List ℕ = coinOwnersAt plan in
+      let e : plan .gates ≡ take (suc g) (plan .gates) ++ drop (suc g) (plan .gates) = sym (take-append-drop (suc g) (plan .gates)) in
+      let s : take (suc g) (plan .gates) ≡ take g (plan .gates) ++ (x ∷ []) = take-suc (plan .gates) g (Input 0) (is .within) ∙ ap (λ (y : Gate). take g (plan .gates) ++ (y ∷ [])) (is .is) in
+      let q : flatMap F (plan .gates) ≡ (flatMap F (take g (plan .gates)) ++ F x) ++ flatMap F (drop (suc g) (plan .gates))
+      = ap (flatMap F) e ∙ flat-append F (take (suc g) (plan .gates)) (drop (suc g) (plan .gates))
+      ∙ ap (λ (l : List ℕ). l ++ flatMap F (drop (suc g) (plan .gates))) (ap (flatMap F) s ∙ flat-snoc F (take g (plan .gates)) x) in
+      omega (
+        arith,
+        ap (countWhere (eqb i)) q,
+        countWhere-append (eqb i) (flatMap F (take g (plan .gates)) ++ F x) (flatMap F (drop (suc g) (plan .gates))),
+        countWhere-append (eqb i) (flatMap F (take g (plan .gates))) (F x),
+        here,
+      )
 
-pub ruleset counting = (needs, tally-none, tally-next, tallied, dealt-none, dealt-next, dealt-below)
+-- ---- what follows from a tally, by the contents
+module _ (bs : List ℕ) (h : Header) (p : Planned bs h) where
+  pub last-is : (m : ℕ) → m ≡ kindCount (planOf bs) 5 → m + 2 ≡ lastCall (planOf bs)
+  last-is m e = rw (plain-steps (planOf bs) (plain bs (p .passes)), e)
 
--- ---- dealings: one for each input gate, 2t + 1 for each multiply gate
-module _ (plan : Plan) where
-  dealings-count : (gs : List Gate) → length (flatMap (dealersOf plan) gs) ≡ countWhere isInput gs + countWhere isMultiply gs * dealerCount plan
-  unfolding flatMap dealersOf countWhere isInput isMultiply
-  dealings-count [] = omega (arith, zero-mul (dealerCount plan))
-  dealings-count (Input s ∷ gs) = omega (arith, dealings-count gs)
-  dealings-count (Add a b ∷ gs) = dealings-count gs
-  dealings-count (Scale a c ∷ gs) = dealings-count gs
-  dealings-count (Offset a c ∷ gs) = dealings-count gs
-  dealings-count (Multiply a b ∷ gs) =
-      rw (length-append, length-tab, dealings-count gs, suc-mul) (omega arith)
+  pub own-is : (i o : ℕ) → o ≡ countWhere (isInputOf i) (planOf bs .gates) → o ≡ ownInputCount (planOf bs) i
+  own-is i o e = e ∙ sym (plain-own-inputs (planOf bs) (plain bs (p .passes)) i)
 
-  dealings-most : (d : ℕ) → dealerCount plan ≤ d → 1 ≤ d → (gs : List Gate) → length (flatMap (dealersOf plan) gs) ≤ d * length gs
-  unfolding flatMap dealersOf
-  dealings-most d l o [] = omega arith
-  dealings-most d l o (Input s ∷ gs) = rw mul-suc (omega (arith, dealings-most d l o gs))
-  dealings-most d l o (Add a b ∷ gs) = rw mul-suc (omega (arith, dealings-most d l o gs))
-  dealings-most d l o (Scale a c ∷ gs) = rw mul-suc (omega (arith, dealings-most d l o gs))
-  dealings-most d l o (Offset a c ∷ gs) = rw mul-suc (omega (arith, dealings-most d l o gs))
-  dealings-most d l o (Multiply a b ∷ gs) = rw (length-append, length-tab, mul-suc) (omega (arith, dealings-most d l o gs))
+  pub inputs-are : (o : ℕ) → o ≡ kindCount (planOf bs) 1 → o ≡ inputCount (planOf bs)
+  inputs-are o e = e ∙ sym (plain-inputs (planOf bs) (plain bs (p .passes)))
 
-  pub length-dealings : length (dealings plan) ≡ inputCount plan + multiplies plan * dealerCount plan
-  unfolding dealings inputCount multiplies
-  length-dealings = dealings-count (plan .gates)
-
-  pub dealings-le : (d : ℕ) → dealerCount plan ≤ d → 1 ≤ d → length (dealings plan) ≤ d * length (plan .gates)
-  unfolding dealings
-  dealings-le d l o = dealings-most d l o (plan .gates)
+  pub coins-are : (a m : ℕ) → a ≡ kindCount (planOf bs) 1 → m ≡ kindCount (planOf bs) 5 → h .t * (a + m * (h .t + h .t + 1)) ≡ coinCount (planOf bs)
+  coins-are a m e f = sym (plain-coins (planOf bs) (plain bs (p .passes)) ∙ rw (← e, ← f, plan-dealers p, plan-t p))
 
 -- ---- outs
 module _ (i : ℕ) where
@@ -179,38 +319,3 @@ module _ (bs : List ℕ) (h : Header) (i k o : ℕ) (p : Planned bs h) (c : Coun
   outs-done l = counted (isOutOf i) (planOf bs .outs) k o c (rw (plan-outs p) l) ∙ sym (own-outs i (planOf bs))
 
 pub ruleset counting-outs = (needs, is-out-of, count-none, outs-next, outs-few, outs-done)
-
--- ---- the wire of a multiply gate: at gate g, it is the one after so many that are left
-pub record Wiring (bs : List ℕ) (gates k left g : ℕ) : Type 0 where
-  pub within : g ≤ gates
-  pub is : getD (wiresFrom isMultiply g (drop g (planOf bs .gates))) left 0 ≡ multiplyWire (planOf bs) k
-
-pub wiring-begin : (bs : List ℕ) (gates k : ℕ) → Wiring bs gates k k 0
-unfolding multiplyWire wiresWhere
-wiring-begin bs gates k = record { within = omega arith; is = refl }
-
-module _ (bs : List ℕ) (h : Header) (k left g : ℕ) (p : Planned bs h) (w : Wiring bs (h .gates) k left g) where
-  module _ (l : g < h .gates) (gate : Gate) (t : Bool) (eg : gate ≡ gateAt bs g) (et : t ≡ isMultiply gate) where
-    here : drop g (planOf bs .gates) ≡ gate ∷ drop (suc g) (planOf bs .gates)
-    here = rw (eg, ← plan-gate p g l) (drop-cons (planOf bs .gates) g (Input 0) (rw (plan-gates p) l))
-
-    at : getD (cond t (g ∷ wiresFrom isMultiply (suc g) (drop (suc g) (planOf bs .gates))) (wiresFrom isMultiply (suc g) (drop (suc g) (planOf bs .gates)))) left 0 ≡ multiplyWire (planOf bs) k
-    unfolding wiresFrom
-    at = rw (et) (rw here at (w .is))
-
-    pub wire-found : t ≡ true → left ≡ 0 → g ≡ multiplyWire (planOf bs) k
-    wire-found e z = rw (e, z) at at
-
-    pub wire-passed : t ≡ true → (left ≡ 0 → ⊥) → (n : ℕ) → n ≡ left - 1 → Wiring bs (h .gates) k n (g + 1)
-    wire-passed e z n q =
-        let s : left ≡ suc n = omega arith in
-        record { within = omega arith; is = rw add-one (rw (e, s) at at) }
-
-    pub wire-skipped : t ≡ false → (n : ℕ) → n ≡ left → Wiring bs (h .gates) k n (g + 1)
-    wire-skipped e n q = record { within = omega arith; is = rw (add-one, q) (rw e at at) }
-
-  pub wire-none : h .gates ≤ g → 0 ≡ multiplyWire (planOf bs) k
-  unfolding wiresFrom
-  wire-none l = rw (drop-of-length-le (planOf bs .gates) {i = g} (rw (plan-gates p) l)) at (w .is)
-
-pub ruleset wiring = (needs, wiring-begin, wire-found, wire-passed, wire-skipped, wire-none)

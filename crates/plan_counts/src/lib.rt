@@ -1,35 +1,51 @@
-// Counts of a plan's gates and dealings.
+// Counts of a plan's gates, coins and steps, and the step that a call sends.
 use plan::Gate;
 use plan::Header;
+use plan::Step;
 ghost use mathlib.Core.Path.{_≡_};
-ghost use Prim.Native.Nat.{_<_, _≤_};
-ghost use lib.ListN.{length};
+ghost use mathlib.Core.Bool.{cond};
+ghost use mathlib.Core.List.{flatMap};
+ghost use Prim.Native.Nat.{suc, _<_, _≤_};
+ghost use lib.Dec.{eqb, leb};
+ghost use lib.ListN.{length, take, getD};
 ghost use Rattle.numbers.specs.Tables.{countWhere};
-ghost use Rattle.plan.specs.File.{planOf};
+ghost use Rattle.plan.specs.declared.Step.the-variants.{SendOuts};
+ghost use Rattle.plan.specs.declared.Rule.the-variants.{Reduction};
+ghost use Rattle.plan.specs.File.{between, gateAt, planOf};
 ghost use Rattle.plan.specs.Planned.{Planned};
-ghost use Rattle.plan.specs.Plans.{isInput, isInputOf, isMultiply, deals, dealings, multiplies, multiplyWire, inputCount, ownInputCount, dealingsBelow};
-ghost use Rattle.plan_counts.specs.Counts.{Tallied};
+ghost use Rattle.plan.specs.Plans.{kindOf, isInputOf, coinOwnersAt, stepsAt, stepAt, lastCall, inputCount, ownInputCount, coinCount, ownCoinCount};
+ghost use Rattle.plan_counts.specs.Counts.{Tallied, Stepped};
 
 // Counts of a plan's gates, for one party.
 pub struct Tally {
+    // input gates
     pub inputs: usize,
-    // the party's own inputs
+    // the party's own
     pub own: usize,
     pub multiplies: usize,
-    // the gates at which the party deals
-    pub dealings: usize,
+    // the party's own coins
+    pub coins: usize,
 }
 
-fn is_input(gate: Gate) -> bool
-    ensures { λ r. ⌜ r ≡ isInput gate ⌝ }
+// A gate's kind in the plan file; from 5 on it takes rounds.
+pub fn kind(gate: Gate) -> usize
+    ensures { λ r. ⌜ r ≡ kindOf gate ⌝ }
 {
     match gate {
-        Gate::Input(_) => true,
-        Gate::Add(_, _) => false,
-        Gate::Scale(_, _) => false,
-        Gate::Offset(_, _) => false,
-        Gate::Multiply(_, _) => false,
+        Gate::Input(_) => 1,
+        Gate::Add(_, _) => 2,
+        Gate::Scale(_, _) => 3,
+        Gate::Offset(_, _) => 4,
+        Gate::Multiply(_, _) => 5,
+        Gate::Random => 6,
+        Gate::Spend(_, _) => 7,
     }
+}
+
+pub fn takes_rounds(gate: Gate) -> bool
+    ensures { λ r. ⌜ r ≡ leb 5 (kindOf gate) ⌝ }
+{
+    5 <= kind(gate)
 }
 
 pub fn is_input_of(i: usize, gate: Gate) -> bool
@@ -41,32 +57,44 @@ pub fn is_input_of(i: usize, gate: Gate) -> bool
         Gate::Scale(_, _) => false,
         Gate::Offset(_, _) => false,
         Gate::Multiply(_, _) => false,
+        Gate::Random => false,
+        Gate::Spend(_, _) => false,
     }
 }
 
-pub fn is_multiply(gate: Gate) -> bool
-    ensures { λ r. ⌜ r ≡ isMultiply gate ⌝ }
+// Whether i is one of 1 to k.
+fn is_first(k: usize, i: usize) -> bool
+    ensures { λ r. ⌜ r ≡ between 1 k i ⌝ }
 {
-    match gate {
-        Gate::Input(_) => false,
-        Gate::Add(_, _) => false,
-        Gate::Scale(_, _) => false,
-        Gate::Offset(_, _) => false,
-        Gate::Multiply(_, _) => true,
+    if i < 1 {
+        return false;
     }
+    i <= k
 }
 
-// Whether party i deals at a gate: at its inputs, and at each multiply gate if it is one of the 2t + 1 dealers.
-pub fn is_dealer(plan: &[u8], h: Header, i: usize, gate: Gate) -> bool
+// t coins where something holds, else none.
+fn coins_if(t: usize, b: bool) -> usize
+    ensures { λ r. ⌜ record { eq : r ≡ cond b t 0; le : r ≤ t } ⌝ }
+{
+    if b {
+        return t;
+    }
+    0
+}
+
+// Party i's coins at a gate: t at its own inputs, t at each multiply gate if it is one of the 2t + 1 dealers.
+pub fn own_coins_at(plan: &[u8], h: Header, i: usize, gate: Gate) -> usize
     requires { ⌜ Planned (now plan) h ⌝ }
-    ensures { λ r. ⌜ r ≡ deals (planOf (now (plan .entry))) i gate ⌝ }
+    ensures { λ r. ⌜ record { eq : r ≡ countWhere (eqb i) (coinOwnersAt (planOf (now (plan .entry))) gate); le : r ≤ 7 } ⌝ }
 {
     match gate {
-        Gate::Input(dealer) => i == dealer,
-        Gate::Add(_, _) => false,
-        Gate::Scale(_, _) => false,
-        Gate::Offset(_, _) => false,
-        Gate::Multiply(_, _) => i <= h.t + h.t + 1,
+        Gate::Input(dealer) => coins_if(h.t, i == dealer),
+        Gate::Add(_, _) => 0,
+        Gate::Scale(_, _) => 0,
+        Gate::Offset(_, _) => 0,
+        Gate::Multiply(_, _) => coins_if(h.t, is_first(h.t + h.t + 1, i)),
+        Gate::Random => coins_if(h.t, is_first(h.n, i)),
+        Gate::Spend(_, _) => 0,
     }
 }
 
@@ -79,22 +107,65 @@ pub fn tally_of(plan: &[u8], h: Header, i: usize) -> Tally
     let mut inputs: usize = 0;
     let mut own: usize = 0;
     let mut multiplies: usize = 0;
-    let mut dealings: usize = 0;
+    let mut coins: usize = 0;
     let mut g: usize = 0;
     while g < gates {
         let gate = plan::gate_in(plan, g);
-        inputs += numbers::one_if(is_input(gate));
+        let k = kind(gate);
+        inputs += numbers::one_if(k == 1);
         own += numbers::one_if(is_input_of(i, gate));
-        multiplies += numbers::one_if(is_multiply(gate));
-        dealings += numbers::one_if(is_dealer(plan, h, i, gate));
+        multiplies += numbers::one_if(k == 5);
+        coins += own_coins_at(plan, h, i, gate);
         g += 1;
     }
     Tally {
         inputs,
         own,
         multiplies,
-        dealings,
+        coins,
     }
+}
+
+// ---- what follows from a tally
+
+// The call that gives the results: the steps are the inputs, one for each multiply gate, and the outs.
+pub fn last_call_by(plan: &[u8], h: Header, i: usize, c: Tally) -> usize
+    requires { ⌜ Planned (now plan) h ⌝ }
+    requires { ⌜ Tallied (planOf (now plan)) i c ⌝ }
+    ensures { λ r. ⌜ record { eq : r ≡ lastCall (planOf (now (plan .entry))); low : 2 ≤ r; le : r ≤ 1026 } ⌝ }
+{
+    c.multiplies + 2
+}
+
+pub fn own_inputs_by(plan: &[u8], h: Header, i: usize, c: Tally) -> usize
+    requires { ⌜ Planned (now plan) h ⌝ }
+    requires { ⌜ Tallied (planOf (now plan)) i c ⌝ }
+    ensures { λ r. ⌜ record { eq : r ≡ ownInputCount (planOf (now (plan .entry))) i; le : r ≤ 1024 } ⌝ }
+{
+    c.own
+}
+
+// ---- the same from the plan alone
+
+pub fn last_call(plan: &[u8], h: Header) -> usize
+    requires { ⌜ Planned (now plan) h ⌝ }
+    ensures { λ r. ⌜ record { eq : r ≡ lastCall (planOf (now (plan .entry))); low : 2 ≤ r; le : r ≤ 1026 } ⌝ }
+{
+    last_call_by(plan, h, 0, tally_of(plan, h, 0))
+}
+
+pub fn own_input_count(plan: &[u8], h: Header, i: usize) -> usize
+    requires { ⌜ Planned (now plan) h ⌝ }
+    ensures { λ r. ⌜ record { eq : r ≡ ownInputCount (planOf (now (plan .entry))) i; le : r ≤ 1024 } ⌝ }
+{
+    own_inputs_by(plan, h, i, tally_of(plan, h, i))
+}
+
+pub fn own_coin_count(plan: &[u8], h: Header, i: usize) -> usize
+    requires { ⌜ Planned (now plan) h ⌝ }
+    ensures { λ r. ⌜ record { eq : r ≡ ownCoinCount (planOf (now (plan .entry))) i; le : r ≤ 7168 } ⌝ }
+{
+    tally_of(plan, h, i).coins
 }
 
 pub fn input_count(plan: &[u8], h: Header) -> usize
@@ -104,68 +175,86 @@ pub fn input_count(plan: &[u8], h: Header) -> usize
     tally_of(plan, h, 0).inputs
 }
 
-pub fn own_input_count(plan: &[u8], h: Header, i: usize) -> usize
+// The coins of a run: t for each input gate, and for each of the 2t + 1 dealings of each multiply gate.
+pub fn coin_count(plan: &[u8], h: Header) -> usize
     requires { ⌜ Planned (now plan) h ⌝ }
-    ensures { λ r. ⌜ record { eq : r ≡ ownInputCount (planOf (now (plan .entry))) i; le : r ≤ 1024 } ⌝ }
+    ensures { λ r. ⌜ record { eq : r ≡ coinCount (planOf (now (plan .entry))); le : r ≤ 107520 } ⌝ }
 {
-    tally_of(plan, h, i).own
+    let c = tally_of(plan, h, 0);
+    h.t * (c.inputs + c.multiplies * (h.t + h.t + 1))
 }
 
-pub fn multiply_count(plan: &[u8], h: Header) -> usize
-    requires { ⌜ Planned (now plan) h ⌝ }
-    ensures { λ r. ⌜ record { eq : r ≡ multiplies (planOf (now (plan .entry))); le : r ≤ 1024 } ⌝ }
-{
-    tally_of(plan, h, 0).multiplies
-}
-
-// How many dealings party i has; each takes t of its coins.
-pub fn own_dealing_count(plan: &[u8], h: Header, i: usize) -> usize
-    requires { ⌜ Planned (now plan) h ⌝ }
-    ensures { λ r. ⌜ record { eq : r ≡ countWhere (deals (planOf (now (plan .entry))) i) (planOf (now (plan .entry)) .gates); le : r ≤ 1024 } ⌝ }
-{
-    tally_of(plan, h, i).dealings
-}
-
-// How many of party i's dealings stand at gates below g.
-pub fn dealings_below(plan: &[u8], h: Header, i: usize, g: usize) -> usize
+// Party i's coins at gates below g.
+pub fn coins_below(plan: &[u8], h: Header, i: usize, g: usize) -> usize
     requires { ⌜ Planned (now plan) h ⌝ }
     requires { ⌜ g ≤ h .gates ⌝ }
-    ensures { λ r. ⌜ record { eq : r ≡ dealingsBelow (planOf (now (plan .entry))) i g; le : r ≤ 1024 } ⌝ }
+    ensures { λ r. ⌜ record {
+      eq : r ≡ countWhere (eqb i) (flatMap (coinOwnersAt (planOf (now (plan .entry)))) (take g (planOf (now (plan .entry)) .gates)));
+      le : r ≤ 7168;
+    } ⌝ }
 {
     let mut k: usize = 0;
     let mut below: usize = 0;
     while below < g {
-        k += numbers::one_if(is_dealer(plan, h, i, plan::gate_in(plan, below)));
+        k += own_coins_at(plan, h, i, plan::gate_in(plan, below));
         below += 1;
     }
     k
 }
 
-// How many dealings a run has: one for each input gate, 2t + 1 for each multiply gate.
-pub fn dealing_count(plan: &[u8], h: Header) -> usize
-    requires { ⌜ Planned (now plan) h ⌝ }
-    ensures { λ r. ⌜ record { eq : r ≡ length (dealings (planOf (now (plan .entry)))); le : r ≤ 15360 } ⌝ }
+// ---- steps
+
+// The step of gate g, where it takes rounds.
+fn step_of(g: usize, gate: Gate) -> Step
+    ensures { λ r. ⌜ r ≡ getD (stepsAt Reduction g gate) 0 SendOuts ⌝ }
 {
-    let c = tally_of(plan, h, 0);
-    c.inputs + c.multiplies * (h.t + h.t + 1)
+    match gate {
+        Gate::Input(_) => Step::SendOuts,
+        Gate::Add(_, _) => Step::SendOuts,
+        Gate::Scale(_, _) => Step::SendOuts,
+        Gate::Offset(_, _) => Step::SendOuts,
+        Gate::Multiply(a, b) => Step::DealProduct(g, a, b),
+        Gate::Random => Step::DealDraws(g),
+        Gate::Spend(a, b) => Step::OpenSpent(g, a, b),
+    }
 }
 
-// The wire that multiply gate k makes, these counted from 0; 0 where there is none.
-pub fn multiply_wire(plan: &[u8], h: Header, k: usize) -> usize
+// Whether gate g takes rounds, by its first byte alone: every gate of a plan that passes keeps its kind's rule.
+fn rounds_at(plan: &[u8], h: Header, g: usize) -> bool
     requires { ⌜ Planned (now plan) h ⌝ }
-    ensures { λ r. ⌜ record { eq : r ≡ multiplyWire (planOf (now (plan .entry))) k; lt : r < h .gates } ⌝ }
+    requires { ⌜ g < h .gates ⌝ }
+    ensures { λ r. ⌜ r ≡ leb 5 (kindOf (gateAt (now (plan .entry)) g)) ⌝ }
+{
+    5 <= plan::byte(plan, 18 + 6 * g)
+}
+
+// The step that the calls of number k send.
+pub fn step_at(plan: &[u8], h: Header, k: usize) -> Step
+    requires { ⌜ Planned (now plan) h ⌝ }
+    ensures { λ r. ⌜ record { eq : r ≡ stepAt (planOf (now (plan .entry))) k; of : Stepped (planOf (now (plan .entry))) r } ⌝ }
+{
+    if k == 0 {
+        return Step::DealInputs;
+    }
+    step_after(plan, h, k - 1)
+}
+
+// The same with the inputs' step left out.
+fn step_after(plan: &[u8], h: Header, k: usize) -> Step
+    requires { ⌜ Planned (now plan) h ⌝ }
+    ensures { λ r. ⌜ record { eq : r ≡ stepAt (planOf (now (plan .entry))) (suc k); of : Stepped (planOf (now (plan .entry))) r } ⌝ }
 {
     let gates = h.gates;
     let mut left = k;
     let mut g: usize = 0;
     while g < gates {
-        if is_multiply(plan::gate_in(plan, g)) {
+        if rounds_at(plan, h, g) {
             if left == 0 {
-                return g;
+                return step_of(g, plan::gate_in(plan, g));
             }
             left -= 1;
         }
         g += 1;
     }
-    0
+    Step::SendOuts
 }

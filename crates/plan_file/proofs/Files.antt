@@ -12,24 +12,25 @@ use borrow.Author.Tests.{ltb-true, eq-eqb, le-leb, lt-ltb}
 use lib.Dec.{leb, ltb}
 use lib.ListN.{length, take, drop, getD, length-append, List·getD-append}
 use lib.Seq.{getD-append-add, getD-take, getD-drop}
-use Rattle.numbers.specs.Tables.{tab, firstFrom, firstFailing}
-use Rattle.numbers.specs.Bytes.{wordAt, bytesOf, allBelow}
+use Rattle.numbers.specs.Tables.{tab, firstFailing}
+use Rattle.numbers.specs.Bytes.{bytesFrom, wordAt, allBelow}
 use Rattle.numbers.proofs.Tables.{is-tab}
 use Rattle.numbers.specs.declared.Found.the-variants.{Nothing}
 use Rattle.numbers.proofs.Rows.{flat-length, flat-part}
-use Rattle.numbers.proofs.Searches.{passes-nothing}
+use Rattle.numbers.proofs.Searches.{passes-nothing, first-ext}
 use Rattle.numbers.proofs.Below.{allBelow-append}
 use Rattle.numbers.proofs.Truth.{both-true}
 use Rattle.plan.specs.declared.Gate.{Gate}
-use Rattle.plan.specs.declared.Gate.the-variants.{Input, Add, Scale, Offset, Multiply}
+use Rattle.plan.specs.declared.Gate.the-variants.{Input, Add, Scale, Offset, Multiply, Random, Spend}
 use Rattle.plan.specs.declared.Output.{Output}
 use Rattle.plan.specs.declared.Checked.{Checked}
 use Rattle.plan.specs.declared.Checked.the-variants.{Passed, Refused}
 use Rattle.plan.specs.declared.Refusal.the-variants as refusal
 use Rattle.plan.specs.Refusals.{andThen, firstOf, need, unlessFound}
+use Rattle.plan.specs.Plans.{kindOf, operandsOf}
 use Rattle.plan.specs.File.{magic, sameBytes, between, gateOf, gateAt, outAt, gateOk, outOk, gateKept, outKept, gateCountAt, outCountAt, nAt, tAt, pAt, partiesOk, thresholdOk, modulusOk, layoutOk, planChecks, planCheck, planOf}
 use Rattle.plan.proofs.Planned.{between-true, modulus-small}
-use Rattle.plan_file.specs.Bodies.{Bodies, planWith, kindOf, aOf, bOf, gateBytes, outBytes, started, counted, contents, fileSize, planFile, contentChecks, outMade}
+use Rattle.plan_file.specs.Bodies.{Bodies, planWith, words, gateBytes, outBytes, started, counted, contents, fileSize, planFile, contentChecks, outMade}
 
 -- ---- rows of k bytes within the file
 module _ {A : Type 0} (F : A → List ℕ) (k : ℕ) (each : (a : A) → length (F a) ≡ k) where
@@ -39,16 +40,26 @@ module _ {A : Type 0} (F : A → List ℕ) (k : ℕ) (each : (a : A) → length 
       ∙ sym (getD-take k (drop (k * i) (flatMap F l)) j 0 s)
       ∙ ap (λ (r : List ℕ). getD r j 0) (flat-part F k each l i d lt)
 
+two-operands : (g : Gate) → operandsOf g ≡ getD (operandsOf g) 0 0 ∷ getD (operandsOf g) 1 0 ∷ []
+unfolding operandsOf
+two-operands (Input s) = refl
+two-operands (Add a b) = refl
+two-operands (Scale a c) = refl
+two-operands (Offset a c) = refl
+two-operands (Multiply a b) = refl
+two-operands Random = refl
+two-operands (Spend a b) = refl
+
 pub gate-long : (g : Gate) → length (gateBytes g) ≡ 6
-unfolding gateBytes bytesOf
-gate-long g = refl
+unfolding gateBytes words bytesFrom flatMap
+gate-long g = ap (λ (ws : List ℕ). length (kindOf g ∷ 0 ∷ words ws)) (two-operands g)
 
 pub out-long : (o : Output) → length (outBytes o) ≡ 3
-unfolding outBytes bytesOf
+unfolding outBytes words bytesFrom flatMap
 out-long o = refl
 
 pub contents-long : (n t p G O : ℕ) → length (contents n t p G O) ≡ 18
-unfolding contents started counted bytesOf magic
+unfolding contents started counted words bytesFrom flatMap magic
 contents-long n t p G O = refl
 
 -- the two bytes of a number
@@ -56,23 +67,26 @@ word-back : (x : ℕ) → x < 65536 → x % 256 + 256 * (x / 256 % 256) ≡ x
 word-back x l = omega arith
 
 -- a gate by its bytes
-gate-of-bytes : (g : Gate) → aOf g < 65536 → bOf g < 65536
+gate-of-bytes : (g : Gate) → kindOf g ≤ 5 → getD (operandsOf g) 0 0 < 65536 → getD (operandsOf g) 1 0 < 65536
     → gateOf (getD (gateBytes g) 0 0) (getD (gateBytes g) 1 0) (wordAt (gateBytes g) 2) (wordAt (gateBytes g) 4) ≡ g
-unfolding gateBytes bytesOf gateOf wordAt kindOf aOf bOf
-gate-of-bytes (Input s) l m = ap Input (word-back s l)
-gate-of-bytes (Add a b) l m = ap₂ Add (word-back a l) (word-back b m)
-gate-of-bytes (Scale a c) l m = ap₂ Scale (word-back a l) (word-back c m)
-gate-of-bytes (Offset a c) l m = ap₂ Offset (word-back a l) (word-back c m)
-gate-of-bytes (Multiply a b) l m = ap₂ Multiply (word-back a l) (word-back b m)
+unfolding gateBytes words bytesFrom flatMap gateOf wordAt kindOf operandsOf
+gate-of-bytes (Input s) low l m = ap Input (word-back s l)
+gate-of-bytes (Add a b) low l m = ap₂ Add (word-back a l) (word-back b m)
+gate-of-bytes (Scale a c) low l m = ap₂ Scale (word-back a l) (word-back c m)
+gate-of-bytes (Offset a c) low l m = ap₂ Offset (word-back a l) (word-back c m)
+gate-of-bytes (Multiply a b) low l m = ap₂ Multiply (word-back a l) (word-back b m)
+gate-of-bytes Random low l m = absurd (omega arith)
+gate-of-bytes (Spend a b) low l m = absurd (omega arith)
 
 -- ---- the file
 abbrev noOut : Output
 noOut = record { party = 0; wire = 0 }
 
--- numbers that have room in two bytes
+-- gates of the kinds that a file may have, and numbers that have room in two bytes
 pub record Roomy (b : Bodies) : Type 0 where
-  pub a-small : (g : ℕ) → g < length (b .gates) → aOf (getD (b .gates) g (Input 0)) < 65536
-  pub b-small : (g : ℕ) → g < length (b .gates) → bOf (getD (b .gates) g (Input 0)) < 65536
+  pub low : (g : ℕ) → g < length (b .gates) → kindOf (getD (b .gates) g (Input 0)) ≤ 5
+  pub a-small : (g : ℕ) → g < length (b .gates) → getD (operandsOf (getD (b .gates) g (Input 0))) 0 0 < 65536
+  pub b-small : (g : ℕ) → g < length (b .gates) → getD (operandsOf (getD (b .gates) g (Input 0))) 1 0 < 65536
   pub wire-small : (o : ℕ) → o < length (b .outs) → getD (b .outs) o noOut .wire < 65536
 
 module _ (n t p : ℕ) (b : Bodies) where
@@ -131,15 +145,15 @@ module _ (n t p : ℕ) (b : Bodies) where
 
   module _ (few-gates : length (b .gates) ≤ 1024) (few-outs : length (b .outs) ≤ 64) where
     pub gates-back : gateCountAt (planFile n t p b) ≡ length (b .gates)
-    unfolding planFile contents started counted magic wordAt bytesOf
+    unfolding planFile contents started counted magic wordAt words bytesFrom flatMap
     gates-back = word-back (length (b .gates)) (omega arith)
 
     pub outs-back : outCountAt (planFile n t p b) ≡ length (b .outs)
-    unfolding planFile contents started counted magic wordAt bytesOf
+    unfolding planFile contents started counted magic wordAt words bytesFrom flatMap
     outs-back = word-back (length (b .outs)) (omega arith)
 
     outs-offset : wordAt (planFile n t p b) 14 ≡ 18 + 6 * length (b .gates)
-    unfolding planFile contents started counted magic wordAt bytesOf
+    unfolding planFile contents started counted magic wordAt words bytesFrom flatMap
     outs-offset = word-back (18 + 6 * length (b .gates)) (omega arith)
 
     pub layout-back : layoutOk (planFile n t p b) ≡ (between 1 1024 (length (b .gates)) && between 1 64 (length (b .outs)))
@@ -152,7 +166,7 @@ module _ (n t p : ℕ) (b : Bodies) where
         seven = unfold planFile in unfold contents in unfold started in unfold magic in refl
 
         ten : wordAt (planFile n t p b) 10 ≡ 18
-        ten = unfold planFile in unfold contents in unfold started in unfold counted in unfold magic in unfold wordAt in unfold bytesOf in refl
+        ten = unfold planFile in unfold contents in unfold started in unfold counted in unfold magic in unfold wordAt in unfold words in unfold bytesFrom in unfold flatMap in refl
 
         ends : (x y : Bool) → (x && (true && (y && true))) ≡ (x && y)
         ends true true = refl
@@ -168,10 +182,10 @@ module _ (n t p : ℕ) (b : Bodies) where
           (ap (λ (k : ℕ). getD (planFile n t p b) k 0) e ∙ at-gate g 0 l (omega arith)) (at-gate g 1 l (omega arith))
           ∙ ap₂ (λ (x y : ℕ). gateOf (getD (gateBytes (getD (b .gates) g (Input 0))) 0 0) (getD (gateBytes (getD (b .gates) g (Input 0))) 1 0) x y)
           (word-at-gate g 2 l (omega arith)) (word-at-gate g 4 l (omega arith))
-          ∙ gate-of-bytes (getD (b .gates) g (Input 0)) (roomy .a-small g l) (roomy .b-small g l)
+          ∙ gate-of-bytes (getD (b .gates) g (Input 0)) (roomy .low g l) (roomy .a-small g l) (roomy .b-small g l)
 
       pub out-back : (o : ℕ) → o < length (b .outs) → outAt (planFile n t p b) o ≡ getD (b .outs) o noOut
-      unfolding outAt wordAt outBytes bytesOf
+      unfolding outAt wordAt outBytes words bytesFrom flatMap
       out-back o l =
           let x : Output = getD (b .outs) o noOut in
           let at : ℕ = 18 + 6 * length (b .gates) + 3 * o in
@@ -195,27 +209,32 @@ module _ (n t p : ℕ) (b : Bodies) where
       plan-back = rw (gates-are, outs-are, p-back, n-back, t-back)
 
 -- ---- the checks
--- gates and outs that keep their rules
+-- gates of the kinds that a file may have, and gates and outs that keep their rules
 pub record Sound (n p : ℕ) (b : Bodies) : Type 0 where
+  pub low : (g : ℕ) → g < length (b .gates) → kindOf (getD (b .gates) g (Input 0)) ≤ 5
   pub gates : (g : ℕ) → g < length (b .gates) → gateOk n p g (getD (b .gates) g (Input 0)) ≡ true
   pub outs : (o : ℕ) → o < length (b .outs) → outOk n (length (b .gates)) (getD (b .outs) o noOut) ≡ true
 
 module _ (n p g : ℕ) (n-small : n ≤ 15) (p-small : p ≤ 65536) (g-small : g ≤ 1024) where
-  a-room : (x : Gate) → gateOk n p g x ≡ true → aOf x < 65536
-  unfolding gateOk aOf
+  a-room : (x : Gate) → gateOk n p g x ≡ true → getD (operandsOf x) 0 0 < 65536
+  unfolding gateOk operandsOf
   a-room (Input s) h = omega (arith, between-true 1 n s h .1)
   a-room (Add a b) h = omega (arith, ltb-true a g (both-true (ltb a g) (ltb b g) h .0))
   a-room (Scale a c) h = omega (arith, ltb-true a g (both-true (ltb a g) (ltb c p) h .0))
   a-room (Offset a c) h = omega (arith, ltb-true a g (both-true (ltb a g) (ltb c p) h .0))
   a-room (Multiply a b) h = omega (arith, ltb-true a g (both-true (ltb a g) (ltb b g) h .0))
+  a-room Random h = omega arith
+  a-room (Spend a b) h = omega (arith, ltb-true a g (both-true (ltb a g) (ltb b g) h .0))
 
-  b-room : (x : Gate) → gateOk n p g x ≡ true → bOf x < 65536
-  unfolding gateOk bOf
+  b-room : (x : Gate) → gateOk n p g x ≡ true → getD (operandsOf x) 1 0 < 65536
+  unfolding gateOk operandsOf
   b-room (Input s) h = omega arith
   b-room (Add a b) h = omega (arith, ltb-true b g (both-true (ltb a g) (ltb b g) h .1))
   b-room (Scale a c) h = omega (arith, ltb-true c p (both-true (ltb a g) (ltb c p) h .1))
   b-room (Offset a c) h = omega (arith, ltb-true c p (both-true (ltb a g) (ltb c p) h .1))
   b-room (Multiply a b) h = omega (arith, ltb-true b g (both-true (ltb a g) (ltb b g) h .1))
+  b-room Random h = omega arith
+  b-room (Spend a b) h = omega (arith, ltb-true b g (both-true (ltb a g) (ltb b g) h .1))
 
 out-parts : (n gates : ℕ) (o : Output) → outOk n gates o ≡ true → (o .party ≤ n) × (o .wire < gates)
 unfolding outOk
@@ -223,27 +242,20 @@ out-parts n gates o h =
     let c = both-true (between 1 n (o .party)) (ltb (o .wire) gates) h in
     (between-true 1 n (o .party) (c .0) .1, ltb-true (o .wire) gates (c .1))
 
--- tests that agree find the same
-from-ext : (ok ok′ : ℕ → Bool) (n m i : ℕ) → ((k : ℕ) → k < n → ok k ≡ ok′ k) → i + m ≤ n → firstFrom ok m i ≡ firstFrom ok′ m i
-unfolding firstFrom
-from-ext ok ok′ n zero i h l = refl
-from-ext ok ok′ n (suc m) i h l = rw (h i (omega arith), from-ext ok ok′ n m (suc i) h (omega arith))
-
-firstFailing-ext : (ok ok′ : ℕ → Bool) (n : ℕ) → ((k : ℕ) → k < n → ok k ≡ ok′ k) → firstFailing ok n ≡ firstFailing ok′ n
-unfolding firstFailing
-firstFailing-ext ok ok′ n h = from-ext ok ok′ n n 0 h (omega arith)
-
--- gates that keep their rules, and outs of wires that there are
+-- gates of the kinds that a file may have that keep their rules, and outs of wires that there are
 pub record Wired (n p : ℕ) (b : Bodies) : Type 0 where
+  pub low : (g : ℕ) → g < length (b .gates) → kindOf (getD (b .gates) g (Input 0)) ≤ 5
   pub gates : (g : ℕ) → g < length (b .gates) → gateOk n p g (getD (b .gates) g (Input 0)) ≡ true
   pub wires : (o : ℕ) → o < length (b .outs) → getD (b .outs) o noOut .wire < length (b .gates)
 
 pub sound-wired : (n p : ℕ) (b : Bodies) → Sound n p b → Wired n p b
-sound-wired n p b sound = record { gates = sound .gates; wires = λ o l. out-parts n (length (b .gates)) (getD (b .outs) o noOut) (sound .outs o l) .1 }
+sound-wired n p b sound =
+    record { low = sound .low; gates = sound .gates; wires = λ o l. out-parts n (length (b .gates)) (getD (b .outs) o noOut) (sound .outs o l) .1 }
 
 module _ (n p : ℕ) (b : Bodies) (n-small : n ≤ 15) (p-small : p ≤ 65536) (few-gates : length (b .gates) ≤ 1024) where
   wired-room : Wired n p b → Roomy b
   wired-room wired = record {
+    low = wired .low;
     a-small = λ g l. a-room n p g n-small p-small (omega arith) (getD (b .gates) g (Input 0)) (wired .gates g l);
     b-small = λ g l. b-room n p g n-small p-small (omega arith) (getD (b .gates) g (Input 0)) (wired .gates g l);
     wire-small = λ o l. omega (arith, few-gates, wired .wires o l);
@@ -266,7 +278,7 @@ module _ (n p : ℕ) (b : Bodies) (n-small : n ≤ 15) (p-small : p ≤ 65536) (
     unfolding outKept outMade
     outs-same =
         rw (outs-back n t p b few-gates few-outs)
-        (firstFailing-ext (outKept (planFile n t p b)) (outMade n b) (length (b .outs))
+        (first-ext (outKept (planFile n t p b)) (outMade n b) (length (b .outs))
         (λ o l. unfold outKept in unfold outMade in rw (n-back n t p b, gates-back n t p b few-gates few-outs, out-back n t p b few-gates few-outs (wired-room wired) o l)))
 
 module _ (n t p : ℕ) (b : Bodies) (few-gates : length (b .gates) ≤ 1024) (few-outs : length (b .outs) ≤ 64) where
@@ -349,8 +361,8 @@ flat-below F m (a ∷ l) d h =
     allBelow-append m (F a) (flatMap F l) ∙ rw (h 0 (omega arith), flat-below F m l d (λ i s. h (suc i) (omega arith)))
 
 gate-bytes : (g : Gate) → allBelow 256 (gateBytes g) ≡ true
-unfolding gateBytes bytesOf allBelow
-gate-bytes g = rw (lt-ltb (kindOf g) 256 (kind-small g), lt-ltb (aOf g % 256) 256 (omega arith), lt-ltb (aOf g / 256 % 256) 256 (omega arith), lt-ltb (bOf g % 256) 256 (omega arith), lt-ltb (bOf g / 256 % 256) 256 (omega arith))
+unfolding gateBytes words bytesFrom flatMap allBelow
+gate-bytes g = ap (λ (ws : List ℕ). allBelow 256 (kindOf g ∷ 0 ∷ words ws)) (two-operands g) ∙ rw (lt-ltb (kindOf g) 256 (kind-small g), lt-ltb (getD (operandsOf g) 0 0 % 256) 256 (omega arith), lt-ltb (getD (operandsOf g) 0 0 / 256 % 256) 256 (omega arith), lt-ltb (getD (operandsOf g) 1 0 % 256) 256 (omega arith), lt-ltb (getD (operandsOf g) 1 0 / 256 % 256) 256 (omega arith))
   where
     kind-small : (g : Gate) → kindOf g < 256
     kind-small (Input s) = unfold kindOf in omega arith
@@ -358,13 +370,15 @@ gate-bytes g = rw (lt-ltb (kindOf g) 256 (kind-small g), lt-ltb (aOf g % 256) 25
     kind-small (Scale a c) = unfold kindOf in omega arith
     kind-small (Offset a c) = unfold kindOf in omega arith
     kind-small (Multiply a b) = unfold kindOf in omega arith
+    kind-small Random = unfold kindOf in omega arith
+    kind-small (Spend a b) = unfold kindOf in omega arith
 
 out-bytes : (o : Output) → o .party < 256 → allBelow 256 (outBytes o) ≡ true
-unfolding outBytes bytesOf allBelow
+unfolding outBytes words bytesFrom flatMap allBelow
 out-bytes o l = rw (lt-ltb (o .party) 256 l, lt-ltb (o .wire % 256) 256 (omega arith), lt-ltb (o .wire / 256 % 256) 256 (omega arith))
 
 contents-bytes : (n t p G O : ℕ) → n < 256 → t < 256 → p < 65536 → allBelow 256 (contents n t p G O) ≡ true
-unfolding contents started counted bytesOf magic allBelow
+unfolding contents started counted words bytesFrom flatMap magic allBelow
 contents-bytes n t p G O a b c =
     rw (lt-ltb n 256 a, lt-ltb t 256 b, lt-ltb (p % 256) 256 (omega arith), lt-ltb (p / 256) 256 (omega arith), lt-ltb (G % 256) 256 (omega arith), lt-ltb (G / 256 % 256) 256 (omega arith), lt-ltb ((18 + 6 * G) % 256) 256 (omega arith), lt-ltb ((18 + 6 * G) / 256 % 256) 256 (omega arith), lt-ltb (O % 256) 256 (omega arith), lt-ltb (O / 256 % 256) 256 (omega arith))
 

@@ -4,26 +4,27 @@
 use Prim.Native.Nat.{ℕ, _+_, _*_, _/_, _%_, _<_, _≤_}
 use mathlib.Core.Path.{_≡_, refl, sym, ap, _∙_}
 use mathlib.Core.Bool.{Bool, true, false, _&&_}
-use mathlib.Core.List.{List, [], _∷_, _++_}
+use mathlib.Core.List.{List, [], _∷_, _++_, flatMap}
 use native.Mathlib.Omega.{arith}
 use borrow.Author.Needs.{needs}
 use borrow.Author.Tests.{not-true, not-false}
 use lib.ListN.{length, set}
 use lib.Seq.{sets, set-out, length-sets}
-use Rattle.numbers.specs.Bytes.{bytesOf}
+use Rattle.numbers.specs.Bytes.{bytesFrom}
 use Rattle.numbers.proofs.Rows.{sets-append, sets-all, sets-out}
 use Rattle.field.specs.declared.Field.{Field}
 use Rattle.field.specs.declared.Made.{Made}
 use Rattle.field.specs.declared.Made.the-variants as made
 use Rattle.plan.specs.declared.Gate.{Gate}
-use Rattle.plan.specs.declared.Gate.the-variants.{Input, Add, Scale, Offset, Multiply}
+use Rattle.plan.specs.declared.Gate.the-variants.{Input, Add, Scale, Offset, Multiply, Random, Spend}
 use Rattle.plan.specs.declared.Output.{Output}
 use Rattle.plan.specs.declared.Checked.the-variants.{Passed, Refused}
 use Rattle.plan.specs.declared.Refusal.the-variants as refusal
 use Rattle.plan.specs.Refusals.{andThen, firstOf, need}
+use Rattle.plan.specs.Plans.{kindOf, operandsOf}
 use Rattle.plan.specs.File.{magic, between, partiesOk, thresholdOk, fieldAbove}
 use Rattle.plan.proofs.Ways.{above-not, above-is}
-use Rattle.plan_file.specs.Bodies.{written, kindOf, aOf, bOf, gateBytes, outBytes, started, counted, contents, fileSize, contentChecks}
+use Rattle.plan_file.specs.Bodies.{written, words, gateBytes, outBytes, started, counted, contents, fileSize, contentChecks}
 
 -- ---- bytes
 pub put-past : (s : List ℕ) (at v : ℕ) → length s ≤ at → s ≡ written s at (v ∷ [])
@@ -51,8 +52,8 @@ written-whole s vs e = sets-all s vs e
 pub two-put : (s s1 s2 : List ℕ) (at v w : ℕ) → s1 ≡ written s at (v ∷ []) → s2 ≡ written s1 (at + 1) (w ∷ []) → s2 ≡ written s at (v ∷ w ∷ [])
 two-put s s1 s2 at v w e f = written-then s s1 s2 (v ∷ []) (w ∷ []) at (at + 1) e f (omega arith)
 
-pub word-put : (s new : List ℕ) (at v : ℕ) → new ≡ written s at (v % 256 ∷ v / 256 % 256 ∷ []) → new ≡ written s at (bytesOf (v ∷ []))
-unfolding bytesOf
+pub word-put : (s new : List ℕ) (at v : ℕ) → new ≡ written s at (v % 256 ∷ v / 256 % 256 ∷ []) → new ≡ written s at (words (v ∷ []))
+unfolding words bytesFrom flatMap
 word-put s new at v e = e
 
 pub letters-put : (s s1 s2 : List ℕ) → s1 ≡ written s 0 (80 ∷ 79 ∷ []) → s2 ≡ written s1 2 (79 ∷ 76 ∷ []) → s2 ≡ written s 0 magic
@@ -60,17 +61,17 @@ unfolding magic
 letters-put s s1 s2 a b = written-then s s1 s2 (80 ∷ 79 ∷ []) (79 ∷ 76 ∷ []) 0 2 a b refl
 
 module _ (gates outs : ℕ) where
-  pub counts-put : (s s1 s2 s3 s4 : List ℕ) → s1 ≡ written s 10 (bytesOf (18 ∷ [])) → s2 ≡ written s1 12 (bytesOf (gates ∷ []))
-      → s3 ≡ written s2 14 (bytesOf ((18 + 6 * gates) ∷ [])) → s4 ≡ written s3 16 (bytesOf (outs ∷ [])) → s4 ≡ written s 10 (counted gates outs)
-  unfolding counted bytesOf
+  pub counts-put : (s s1 s2 s3 s4 : List ℕ) → s1 ≡ written s 10 (words (18 ∷ [])) → s2 ≡ written s1 12 (words (gates ∷ []))
+      → s3 ≡ written s2 14 (words ((18 + 6 * gates) ∷ [])) → s4 ≡ written s3 16 (words (outs ∷ [])) → s4 ≡ written s 10 (counted gates outs)
+  unfolding counted words bytesFrom flatMap
   counts-put s s1 s2 s3 s4 a b c d =
-      written-then s s3 s4 (bytesOf (18 ∷ gates ∷ (18 + 6 * gates) ∷ [])) (bytesOf (outs ∷ [])) 10 16
-      (written-then s s2 s3 (bytesOf (18 ∷ gates ∷ [])) (bytesOf ((18 + 6 * gates) ∷ [])) 10 14
-      (written-then s s1 s2 (bytesOf (18 ∷ [])) (bytesOf (gates ∷ [])) 10 12 a b refl) c refl) d refl
+      written-then s s3 s4 (words (18 ∷ gates ∷ (18 + 6 * gates) ∷ [])) (words (outs ∷ [])) 10 16
+      (written-then s s2 s3 (words (18 ∷ gates ∷ [])) (words ((18 + 6 * gates) ∷ [])) 10 14
+      (written-then s s1 s2 (words (18 ∷ [])) (words (gates ∷ [])) 10 12 a b refl) c refl) d refl
 
-  pub contents-put : (n t p : ℕ) (s s1 s2 s3 : List ℕ) → p < 65536 → s1 ≡ written s 0 (started n t) → s2 ≡ written s1 8 (bytesOf (p ∷ []))
+  pub contents-put : (n t p : ℕ) (s s1 s2 s3 : List ℕ) → p < 65536 → s1 ≡ written s 0 (started n t) → s2 ≡ written s1 8 (words (p ∷ []))
       → s3 ≡ written s2 10 (counted gates outs) → s3 ≡ written s 0 (contents n t p gates outs)
-  unfolding contents started bytesOf magic
+  unfolding contents started words bytesFrom flatMap magic
   contents-put n t p s s1 s2 s3 l a b c =
       let high : p / 256 % 256 ≡ p / 256 = omega arith in
       let b′ : s2 ≡ written s1 8 (p % 256 ∷ p / 256 ∷ []) = rw high at b in
@@ -84,44 +85,52 @@ start-put n t s s1 s2 s3 a b c =
 
 -- ---- gates and outs
 module _ (s : List ℕ) (g k a b : ℕ) where
-  pub fields-past : length s / 6 < g → s ≡ written s (18 + 6 * g) (k ∷ 0 ∷ bytesOf (a ∷ b ∷ []))
+  pub fields-past : length s / 6 < g → s ≡ written s (18 + 6 * g) (k ∷ 0 ∷ words (a ∷ b ∷ []))
   unfolding written
-  fields-past l = sym (sets-out s (18 + 6 * g) (k ∷ 0 ∷ bytesOf (a ∷ b ∷ [])) (omega arith))
+  fields-past l = sym (sets-out s (18 + 6 * g) (k ∷ 0 ∷ words (a ∷ b ∷ [])) (omega arith))
 
   pub fields-put : (s1 s2 s3 : List ℕ) → s1 ≡ written s (18 + 6 * g) (k ∷ 0 ∷ [])
-      → s2 ≡ written s1 (18 + 6 * g + 2) (bytesOf (a ∷ [])) → s3 ≡ written s2 (18 + 6 * g + 4) (bytesOf (b ∷ []))
-      → s3 ≡ written s (18 + 6 * g) (k ∷ 0 ∷ bytesOf (a ∷ b ∷ []))
-  unfolding bytesOf
+      → s2 ≡ written s1 (18 + 6 * g + 2) (words (a ∷ [])) → s3 ≡ written s2 (18 + 6 * g + 4) (words (b ∷ []))
+      → s3 ≡ written s (18 + 6 * g) (k ∷ 0 ∷ words (a ∷ b ∷ []))
+  unfolding words bytesFrom flatMap
   fields-put s1 s2 s3 e f h =
-      written-then s s2 s3 (k ∷ 0 ∷ a % 256 ∷ a / 256 % 256 ∷ []) (bytesOf (b ∷ [])) (18 + 6 * g) (18 + 6 * g + 4)
-      (written-then s s1 s2 (k ∷ 0 ∷ []) (bytesOf (a ∷ [])) (18 + 6 * g) (18 + 6 * g + 2) e f (omega arith)) h (omega arith)
+      written-then s s2 s3 (k ∷ 0 ∷ a % 256 ∷ a / 256 % 256 ∷ []) (words (b ∷ [])) (18 + 6 * g) (18 + 6 * g + 4)
+      (written-then s s1 s2 (k ∷ 0 ∷ []) (words (a ∷ [])) (18 + 6 * g) (18 + 6 * g + 2) e f (omega arith)) h (omega arith)
 
 module _ (s new : List ℕ) (g : ℕ) (gate : Gate) where
-  pub input-put : (x : ℕ) → gate ≡ Input x → new ≡ written s (18 + 6 * g) (1 ∷ 0 ∷ bytesOf (x ∷ 0 ∷ [])) → new ≡ written s (18 + 6 * g) (gateBytes gate)
-  unfolding gateBytes kindOf aOf bOf
+  pub input-put : (x : ℕ) → gate ≡ Input x → new ≡ written s (18 + 6 * g) (1 ∷ 0 ∷ words (x ∷ 0 ∷ [])) → new ≡ written s (18 + 6 * g) (gateBytes gate)
+  unfolding gateBytes kindOf operandsOf
   input-put x e h = rw e h
 
-  pub add-put : (a b : ℕ) → gate ≡ Add a b → new ≡ written s (18 + 6 * g) (2 ∷ 0 ∷ bytesOf (a ∷ b ∷ [])) → new ≡ written s (18 + 6 * g) (gateBytes gate)
-  unfolding gateBytes kindOf aOf bOf
+  pub add-put : (a b : ℕ) → gate ≡ Add a b → new ≡ written s (18 + 6 * g) (2 ∷ 0 ∷ words (a ∷ b ∷ [])) → new ≡ written s (18 + 6 * g) (gateBytes gate)
+  unfolding gateBytes kindOf operandsOf
   add-put a b e h = rw e h
 
-  pub scale-put : (a c : ℕ) → gate ≡ Scale a c → new ≡ written s (18 + 6 * g) (3 ∷ 0 ∷ bytesOf (a ∷ c ∷ [])) → new ≡ written s (18 + 6 * g) (gateBytes gate)
-  unfolding gateBytes kindOf aOf bOf
+  pub scale-put : (a c : ℕ) → gate ≡ Scale a c → new ≡ written s (18 + 6 * g) (3 ∷ 0 ∷ words (a ∷ c ∷ [])) → new ≡ written s (18 + 6 * g) (gateBytes gate)
+  unfolding gateBytes kindOf operandsOf
   scale-put a c e h = rw e h
 
-  pub offset-put : (a c : ℕ) → gate ≡ Offset a c → new ≡ written s (18 + 6 * g) (4 ∷ 0 ∷ bytesOf (a ∷ c ∷ [])) → new ≡ written s (18 + 6 * g) (gateBytes gate)
-  unfolding gateBytes kindOf aOf bOf
+  pub offset-put : (a c : ℕ) → gate ≡ Offset a c → new ≡ written s (18 + 6 * g) (4 ∷ 0 ∷ words (a ∷ c ∷ [])) → new ≡ written s (18 + 6 * g) (gateBytes gate)
+  unfolding gateBytes kindOf operandsOf
   offset-put a c e h = rw e h
 
-  pub multiply-put : (a b : ℕ) → gate ≡ Multiply a b → new ≡ written s (18 + 6 * g) (5 ∷ 0 ∷ bytesOf (a ∷ b ∷ [])) → new ≡ written s (18 + 6 * g) (gateBytes gate)
-  unfolding gateBytes kindOf aOf bOf
+  pub multiply-put : (a b : ℕ) → gate ≡ Multiply a b → new ≡ written s (18 + 6 * g) (5 ∷ 0 ∷ words (a ∷ b ∷ [])) → new ≡ written s (18 + 6 * g) (gateBytes gate)
+  unfolding gateBytes kindOf operandsOf
   multiply-put a b e h = rw e h
 
-pub out-put : (s s1 s2 : List ℕ) (at : ℕ) (o : Output) → s1 ≡ written s at (o .party ∷ []) → s2 ≡ written s1 (at + 1) (bytesOf (o .wire ∷ [])) → s2 ≡ written s at (outBytes o)
-unfolding outBytes
-out-put s s1 s2 at o e f = written-then s s1 s2 (o .party ∷ []) (bytesOf (o .wire ∷ [])) at (at + 1) e f (omega arith)
+  pub random-put : gate ≡ Random → new ≡ written s (18 + 6 * g) (6 ∷ 0 ∷ words (0 ∷ 0 ∷ [])) → new ≡ written s (18 + 6 * g) (gateBytes gate)
+  unfolding gateBytes kindOf operandsOf
+  random-put e h = rw e h
 
-pub ruleset writing = (needs, put-past, put-at, two-put, word-put, letters-put, start-put, counts-put, contents-put, fields-past, fields-put, input-put, add-put, scale-put, offset-put, multiply-put, out-put)
+  pub spend-put : (a b : ℕ) → gate ≡ Spend a b → new ≡ written s (18 + 6 * g) (7 ∷ 0 ∷ words (a ∷ b ∷ [])) → new ≡ written s (18 + 6 * g) (gateBytes gate)
+  unfolding gateBytes kindOf operandsOf
+  spend-put a b e h = rw e h
+
+pub out-put : (s s1 s2 : List ℕ) (at : ℕ) (o : Output) → s1 ≡ written s at (o .party ∷ []) → s2 ≡ written s1 (at + 1) (words (o .wire ∷ [])) → s2 ≡ written s at (outBytes o)
+unfolding outBytes
+out-put s s1 s2 at o e f = written-then s s1 s2 (o .party ∷ []) (words (o .wire ∷ [])) at (at + 1) e f (omega arith)
+
+pub ruleset writing = (needs, put-past, put-at, two-put, word-put, letters-put, start-put, counts-put, contents-put, fields-past, fields-put, input-put, add-put, scale-put, offset-put, multiply-put, random-put, spend-put, out-put)
 
 -- ---- the size
 pub size-is : (gates outs : ℕ) → 18 + 6 * gates + 3 * outs ≡ fileSize gates outs

@@ -5,14 +5,14 @@ use mathlib.Core.List.{List, [], _∷_, _++_, flatMap}
 use lib.ListN.{length, getD}
 use lib.Seq.{sets}
 use Rattle.numbers.specs.Tables.{tab}
-use Rattle.numbers.specs.Bytes.{bytesOf}
+use Rattle.numbers.specs.Bytes.{bytesFrom}
 use Rattle.plan.specs.declared.Gate.{Gate}
-use Rattle.plan.specs.declared.Gate.the-variants.{Input, Add, Scale, Offset, Multiply}
+use Rattle.plan.specs.declared.Rule.the-variants.{Reduction}
 use Rattle.plan.specs.declared.Output.{Output}
 use Rattle.plan.specs.declared.Checked.{Checked}
 use Rattle.plan.specs.declared.Refusal.the-variants as refusal
 use Rattle.plan.specs.Refusals.{need}
-use Rattle.plan.specs.Plans.{Plan}
+use Rattle.plan.specs.Plans.{Plan, kindOf, operandsOf}
 use Rattle.plan.specs.File.{magic, between, outOk, partiesOk, thresholdOk, modulusOk}
 
 -- gates and outs, before they are a file
@@ -22,40 +22,22 @@ pub record Bodies : Type 0 where
 
 -- the plan that they make; the points are 1 to n
 unfoldable pub planWith : ℕ → ℕ → ℕ → Bodies → Plan
-planWith n t p b = record { t = t; p = p; points = tab suc n; gates = b .gates; outs = b .outs }
+planWith n t p b = record { t = t; p = p; points = tab suc n; gates = b .gates; outs = b .outs; rule = Reduction }
 
 -- ---- the bytes
 -- a list after others are written over it from a place on; past the end nothing changes
 unfoldable pub written : List ℕ → ℕ → List ℕ → List ℕ
 written s at bs = sets s at bs
 
-unfoldable pub kindOf : Gate → ℕ
-kindOf (Input s) = 1
-kindOf (Add a b) = 2
-kindOf (Scale a c) = 3
-kindOf (Offset a c) = 4
-kindOf (Multiply a b) = 5
-
--- a gate's a and b
-unfoldable pub aOf : Gate → ℕ
-aOf (Input s) = s
-aOf (Add a b) = a
-aOf (Scale a c) = a
-aOf (Offset a c) = a
-aOf (Multiply a b) = a
-
-unfoldable pub bOf : Gate → ℕ
-bOf (Input s) = 0
-bOf (Add a b) = b
-bOf (Scale a c) = c
-bOf (Offset a c) = c
-bOf (Multiply a b) = b
+-- two-byte numbers
+unfoldable pub words : List ℕ → List ℕ
+words xs = flatMap (bytesFrom 2) xs
 
 unfoldable pub gateBytes : Gate → List ℕ
-gateBytes g = kindOf g ∷ 0 ∷ bytesOf (aOf g ∷ bOf g ∷ [])
+gateBytes g = kindOf g ∷ 0 ∷ words (operandsOf g)
 
 unfoldable pub outBytes : Output → List ℕ
-outBytes o = o .party ∷ bytesOf (o .wire ∷ [])
+outBytes o = o .party ∷ words (o .wire ∷ [])
 
 unfoldable pub gatesBytes : List Gate → List ℕ
 gatesBytes gates = flatMap gateBytes gates
@@ -66,7 +48,7 @@ started n t = magic ++ (1 ∷ n ∷ t ∷ 0 ∷ [])
 
 -- from byte 10 on: the gates' offset and count, the outs' offset and count
 unfoldable pub counted : ℕ → ℕ → List ℕ
-counted gates outs = bytesOf (18 ∷ gates ∷ (18 + 6 * gates) ∷ outs ∷ [])
+counted gates outs = words (18 ∷ gates ∷ (18 + 6 * gates) ∷ outs ∷ [])
 
 -- the contents. n, t and p are given as numbers and stand as they are: one that has no room in its bytes is refused by 3, 4 or 5
 unfoldable pub contents : ℕ → ℕ → ℕ → ℕ → ℕ → List ℕ

@@ -10,10 +10,9 @@ ghost use mathlib.Core.Path.{_≡_};
 ghost use mathlib.Core.Bool.{_&&_};
 ghost use mathlib.Core.List.{[], _∷_};
 ghost use Prim.Native.Nat.{_+_, _*_, _<_, _≤_};
-ghost use Rattle.numbers.specs.Bytes.{bytesOf};
 ghost use Rattle.plan.specs.Refusals.{firstOf};
 ghost use Rattle.plan.specs.File.{magic, between};
-ghost use Rattle.plan_file.specs.Bodies.{written, gateBytes, outBytes, started, counted, contents, fileSize, contentChecks};
+ghost use Rattle.plan_file.specs.Bodies.{written, words, gateBytes, outBytes, started, counted, contents, fileSize, contentChecks};
 
 // ---- refusals 3 to 6
 
@@ -73,7 +72,7 @@ fn put_two(out: &mut [u8], at: usize, v: u8, w: u8)
 // A two-byte number.
 fn put_word(out: &mut [u8], at: usize, v: usize)
     requires { ⌜ at < 18446744073709551615 ⌝ }
-    ensures { λ _. ⌜ now (out .exit) ≡ written (now (out .entry)) at (bytesOf (v ∷ [])) ⌝ }
+    ensures { λ _. ⌜ now (out .exit) ≡ written (now (out .entry)) at (words (v ∷ [])) ⌝ }
 {
     put_two(out, at, (v % 256) as u8, (v / 256 % 256) as u8);
 }
@@ -121,7 +120,7 @@ pub fn put_contents(out: &mut [u8], n: u32, t: u32, p: u32, gates: usize, outs: 
 
 // A gate by its kind, a and b.
 fn put_fields(out: &mut [u8], g: usize, kind: u8, a: usize, b: usize)
-    ensures { λ _. ⌜ now (out .exit) ≡ written (now (out .entry)) (18 + 6 * g) (kind ∷ 0 ∷ bytesOf (a ∷ b ∷ [])) ⌝ }
+    ensures { λ _. ⌜ now (out .exit) ≡ written (now (out .entry)) (18 + 6 * g) (kind ∷ 0 ∷ words (a ∷ b ∷ [])) ⌝ }
 {
     if out.len() / 6 < g {
         return;
@@ -142,6 +141,8 @@ pub fn put_gate(out: &mut [u8], g: usize, gate: Gate)
         Gate::Scale(a, c) => put_fields(out, g, 3, a, c as usize),
         Gate::Offset(a, c) => put_fields(out, g, 4, a, c as usize),
         Gate::Multiply(a, b) => put_fields(out, g, 5, a, b),
+        Gate::Random => put_fields(out, g, 6, 0, 0),
+        Gate::Spend(a, b) => put_fields(out, g, 7, a, b),
     }
 }
 

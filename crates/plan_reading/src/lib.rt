@@ -48,6 +48,8 @@ fn gate_ok(n: usize, p: u64, g: usize, gate: Gate) -> bool
         Gate::Scale(a, c) => both_below(a, g, c, p),
         Gate::Offset(a, c) => both_below(a, g, c, p),
         Gate::Multiply(a, b) => both_below(a, g, b as u64, g as u64),
+        Gate::Random => true,
+        Gate::Spend(a, b) => both_below(a, g, b as u64, g as u64),
     }
 }
 

@@ -1,6 +1,7 @@
-// The sizes of a run's lists: a party's outs, the mail that a call takes, what it writes, and the elements sent.
+// The sizes of a run's lists: a party's outs, what a step brings and sends, the mail that a call takes, what it writes, and the elements sent.
 use plan::Header;
 use plan::Output;
+use plan::Step;
 use plan_counts::Tally;
 ghost use mathlib.Core.Path.{_≡_};
 ghost use mathlib.Core.Bool.{cond};
@@ -8,7 +9,7 @@ ghost use Prim.Native.Nat.{_<_, _≤_};
 ghost use lib.Dec.{leb};
 ghost use Rattle.plan.specs.File.{planOf};
 ghost use Rattle.plan.specs.Planned.{Planned};
-ghost use Rattle.plan.specs.Plans.{ownOutCount, mailCount, writtenCount, sentCount};
+ghost use Rattle.plan.specs.Plans.{ownOutCount, received, sentBy, mailCount, writtenCount, sentCount};
 ghost use Rattle.plan_counts.specs.Counts.{Tallied, isOutOf};
 
 fn is_out_of(i: usize, out: Output) -> bool
@@ -32,6 +33,52 @@ pub fn own_out_count(plan: &[u8], h: Header, i: usize) -> usize
     k
 }
 
+// The numbers that a step brings party i, by its tally.
+fn received(plan: &[u8], h: Header, i: usize, c: Tally, step: Step) -> usize
+    requires { ⌜ Planned (now plan) h ⌝ }
+    requires { ⌜ Tallied (planOf (now plan)) i c ⌝ }
+    ensures { λ r. ⌜ record { eq : r ≡ received (planOf (now (plan .entry))) i step; le : r ≤ 1024 } ⌝ }
+{
+    match step {
+        Step::DealInputs => c.inputs,
+        Step::DealProduct(_, _, _) => h.t + h.t + 1,
+        Step::DealZero(_) => h.n,
+        Step::DealMasked(_, _, _) => h.n,
+        Step::SendTruncated(_) => h.n,
+        Step::DealDraws(_) => h.n,
+        Step::OpenSpent(_, _, _) => 2 * h.n,
+        Step::SendOuts => h.n * own_out_count(plan, h, i),
+    }
+}
+
+// The numbers that party i sends in a step, by its tally.
+fn sent_by(plan: &[u8], h: Header, i: usize, c: Tally, step: Step) -> usize
+    requires { ⌜ Planned (now plan) h ⌝ }
+    requires { ⌜ Tallied (planOf (now plan)) i c ⌝ }
+    ensures { λ r. ⌜ record { eq : r ≡ sentBy (planOf (now (plan .entry))) i step; le : r ≤ 15360 } ⌝ }
+{
+    match step {
+        Step::DealInputs => h.n * c.own,
+        Step::DealProduct(_, _, _) => sent_upto(h.n, i, h.t + h.t + 1),
+        Step::DealZero(_) => h.n,
+        Step::DealMasked(_, _, _) => h.n,
+        Step::SendTruncated(_) => h.n,
+        Step::DealDraws(_) => h.n,
+        Step::OpenSpent(_, _, _) => 2 * h.n,
+        Step::SendOuts => h.outs,
+    }
+}
+
+// One number to each of n parties if party i is one of the dealers.
+fn sent_upto(n: usize, i: usize, dealers: usize) -> usize
+    ensures { λ r. ⌜ record { eq : r ≡ cond (leb i dealers) n 0; le : r ≤ n } ⌝ }
+{
+    if i <= dealers {
+        return n;
+    }
+    0
+}
+
 // The numbers of mail that party i's call number k takes, by its tally.
 pub fn mail_by(plan: &[u8], h: Header, i: usize, c: Tally, k: usize) -> usize
     requires { ⌜ Planned (now plan) h ⌝ }
@@ -41,13 +88,7 @@ pub fn mail_by(plan: &[u8], h: Header, i: usize, c: Tally, k: usize) -> usize
     if k == 0 {
         return 0;
     }
-    if k == 1 {
-        return c.inputs;
-    }
-    if k - 2 < c.multiplies {
-        return h.t + h.t + 1;
-    }
-    h.n * own_out_count(plan, h, i)
+    received(plan, h, i, c, plan_counts::step_at(plan, h, k - 1))
 }
 
 // The same from the plan alone.
@@ -64,14 +105,8 @@ pub fn written_by(plan: &[u8], h: Header, i: usize, c: Tally, k: usize) -> usize
     requires { ⌜ Tallied (planOf (now plan)) i c ⌝ }
     ensures { λ r. ⌜ record { eq : r ≡ writtenCount (planOf (now (plan .entry))) i k; le : r ≤ 15360 } ⌝ }
 {
-    if k == 0 {
-        return h.n * c.own;
-    }
-    if k - 1 < c.multiplies {
-        return sent_by(h.n, i, h.t + h.t + 1);
-    }
-    if k - 1 == c.multiplies {
-        return h.outs;
+    if k < plan_counts::last_call_by(plan, h, i, c) {
+        return sent_by(plan, h, i, c, plan_counts::step_at(plan, h, k));
     }
     own_out_count(plan, h, i)
 }
@@ -84,20 +119,11 @@ pub fn written_count(plan: &[u8], h: Header, i: usize, k: usize) -> usize
     written_by(plan, h, i, plan_counts::tally_of(plan, h, i), k)
 }
 
-// The numbers that party i sends to n parties if it is one of the dealers.
-fn sent_by(n: usize, i: usize, dealers: usize) -> usize
-    ensures { λ r. ⌜ record { eq : r ≡ cond (leb i dealers) n 0; le : r ≤ n } ⌝ }
-{
-    if i <= dealers {
-        return n;
-    }
-    0
-}
-
 // Elements sent in a run, own included.
 pub fn sent_count(plan: &[u8], h: Header) -> usize
     requires { ⌜ Planned (now plan) h ⌝ }
     ensures { λ r. ⌜ record { eq : r ≡ sentCount (planOf (now (plan .entry))); le : r ≤ 231360 } ⌝ }
 {
-    h.n * (plan_counts::dealing_count(plan, h) + h.outs)
+    let c = plan_counts::tally_of(plan, h, 0);
+    h.n * (c.inputs + c.multiplies * (h.t + h.t + 1) + h.outs)
 }

@@ -55,7 +55,7 @@ pub extern "C" fn pool_calls(plan: &[u8]) -> u64
     let Reading::Passed(h) = r else {
         return plan_codes::code(plan_reading::outcome(r));
     };
-    pool_answers::value(plan_counts::multiply_count(plan, h) + 3)
+    pool_answers::value(plan_counts::last_call(plan, h) + 1)
 }
 
 // One call of a party: refusals 1 to 20.

@@ -3,15 +3,14 @@ use Prim.Native.Nat.{ℕ, zero, suc, _+_, _*_, _%_, _^_, _<_, _≤_}
 use mathlib.Core.Path.{_≡_, refl, sym, ap, _∙_}
 use mathlib.Core.Bool.{Bool, true, false, cond, not, _&&_}
 use mathlib.Core.List.{List, [], _∷_, _++_}
-use native.Mathlib.Nat.{mul-le-mul, mod-lt}
+use native.Mathlib.Nat.{mod-lt}
+use native.Mathlib.Numerals.{add-one}
 use native.Mathlib.Omega.{arith}
 use borrow.Author.Needs.{needs}
 use borrow.Author.Tests.{le-leb, lt-leb, ne-eqb}
 use lib.Dec.{eqb, leb}
 use lib.ListN.{length}
-use mir.Syntax.{w64}
-use mir.Val.{Fits}
-use Rattle.numbers.specs.Tables.{countWhere}
+use Rattle.numbers.specs.Bytes.{width}
 use Rattle.plan.specs.declared.Header.{Header}
 use Rattle.plan.specs.declared.Reading.{Reading}
 use Rattle.plan.specs.declared.Reading.the-variants as reading
@@ -20,12 +19,12 @@ use Rattle.plan.specs.declared.Refusal.the-variants as refusal
 use Rattle.plan.specs.declared.Checked.{Checked}
 use Rattle.plan.specs.declared.Checked.the-variants.{Passed, Refused}
 use Rattle.plan.specs.Refusals.{codeOf, andThen, firstOf, need}
-use Rattle.plan.specs.Plans.{Plan, partyCount, multiplies, inputCount, coinCount, dealings, ownInputCount, ownCoinCount, deals, mailCount, writtenCount}
+use Rattle.plan.specs.Plans.{Plan, partyCount, lastCall, inputCount, coinCount, ownInputCount, ownCoinCount, mailCount, writtenCount}
 use Rattle.plan.specs.File.{between, planChecks, planCheck, planOf, outcomeOf}
 use Rattle.plan_coalition.specs.Coalitions.{members, setFits, setOk}
 use Rattle.plan.specs.Planned.{Planned, ReadAs}
 use Rattle.plan.proofs.Refusals.{firstOf-append, andThen-passed, andThen-refused}
-use Rattle.plan.proofs.Planned.{planned-read, refused-read, plan-t, plan-n, plan-gates}
+use Rattle.plan.proofs.Planned.{planned-read, refused-read, plan-n, plan-gates}
 use Rattle.plan.proofs.Ways.{read-outcome}
 use Rattle.plan_coalition.proofs.Coalitions.{set-ok}
 use Rattle.plan_file.specs.Bodies.{fileSize}
@@ -42,7 +41,7 @@ use Rattle.charge_call.specs.declared.Charged.{Charged}
 use Rattle.charge_call.specs.declared.Charged.the-variants as charged
 use Rattle.run_bench.specs.declared.Benched.{Benched}
 use Rattle.run_bench.specs.declared.Benched.the-variants as benched
-use Rattle.run_views.specs.ViewCounts.{viewCount}
+use Rattle.run_protocol.specs.Rounds.{viewCount}
 use Rattle.pool_answers.specs.Sizes.{valueOf, mailOfCall, writtenByCall, seatCount, seatSize, callCount, runCount, runSize, importSize, sheetSize, answerOf, billedOf}
 
 pub code-answered : (a c : Checked) (r : ℕ) → c ≡ a → r ≡ codeOf c → r ≡ codeOf a
@@ -112,11 +111,11 @@ module _ (bs : List ℕ) (r : Reading) (h : Header) (read : ReadAs bs r) (went :
       let past : partyCount (planOf bs) < i = omega (arith, parties) in
       refused-seat i (rw (le-leb 1 i l, lt-leb i (partyCount (planOf bs)) past) refl) k call what e
 
-  pub seat-sized : (i k call what s : ℕ) → 1 ≤ i → i ≤ h .n → s ≡ seatCount (planOf bs) i call what → k ≡ 256 * (2 * s) → k ≡ seatSize bs i call what
+  pub seat-sized : (i k call what s : ℕ) → 1 ≤ i → i ≤ h .n → s ≡ seatCount (planOf bs) i call what → k ≡ 256 * (width * s) → k ≡ seatSize bs i call what
   unfolding seatSize need between
   seat-sized i k call what s l m e f =
       let upto : i ≤ partyCount (planOf bs) = omega (arith, parties) in
-      f ∙ ap (λ (n : ℕ). 256 * (2 * n)) e ∙ sym (value-passed _ _ (then _ ∙ rw (le-leb 1 i l, le-leb i (partyCount (planOf bs)) upto) refl))
+      f ∙ ap (λ (n : ℕ). 256 * (width * n)) e ∙ sym (value-passed _ _ (then _ ∙ rw (le-leb 1 i l, le-leb i (partyCount (planOf bs)) upto) refl))
 
   set-is : (set : ℕ) (t : Bool) → t ≡ setFits (h .n) (h .t) set → setOk (planOf bs) set ≡ t
   set-is set t e = sym (e ∙ set-ok bs h set read-planned)
@@ -128,60 +127,35 @@ module _ (bs : List ℕ) (r : Reading) (h : Header) (read : ReadAs bs r) (went :
       let whole : firstOf (planChecks bs ++ (need refusal.Coalition (setOk (planOf bs) set) ∷ [])) ≡ Refused refusal.Coalition = then _ ∙ rw (set-is set false e) refl in
       f ∙ ap codeOf (sym whole) ∙ sym (value-refused _ _ _ whole)
 
-  pub run-sized : (set k what s : ℕ) (t : Bool) → t ≡ setFits (h .n) (h .t) set → not t ≡ false → s ≡ runCount (planOf bs) set what → k ≡ 256 * (2 * s) → k ≡ runSize bs set what
+  pub run-sized : (set k what s : ℕ) (t : Bool) → t ≡ setFits (h .n) (h .t) set → not t ≡ false → s ≡ runCount (planOf bs) set what → k ≡ 256 * (width * s) → k ≡ runSize bs set what
   unfolding runSize need
   run-sized set k what s false e n f g = let z : _≡_ {A = ℕ} 0 1 = cc in absurd (omega arith)
   run-sized set k what s true e n f g =
-      g ∙ ap (λ (m : ℕ). 256 * (2 * m)) f ∙ sym (value-passed _ _ (then _ ∙ rw (set-is set true e) refl))
+      g ∙ ap (λ (m : ℕ). 256 * (width * m)) f ∙ sym (value-passed _ _ (then _ ∙ rw (set-is set true e) refl))
 
-  pub calls-counted : (k m : ℕ) → m ≡ multiplies (planOf bs) → k ≡ 256 * (m + 3) → k ≡ callCount bs
+  pub calls-counted : (k l : ℕ) → l ≡ lastCall (planOf bs) → k ≡ 256 * (l + 1) → k ≡ callCount bs
   unfolding callCount
-  calls-counted k m e f = f ∙ ap (λ (n : ℕ). 256 * (n + 3)) e ∙ sym (value-passed _ _ (read-planned .passes))
+  calls-counted k l e f = f ∙ ap (λ (n : ℕ). 256 * n) (add-one l ∙ ap suc e) ∙ sym (value-passed _ _ (read-planned .passes))
 
 -- ---- the numbers of a party's lists
-pub mail-there : (plan : Plan) (i call m s : ℕ) → m ≡ multiplies plan → call ≤ m + 2 → s ≡ mailCount plan i call → s ≡ mailOfCall plan i call
-unfolding mailOfCall
-mail-there plan i call m s e l f = let l′ : call ≤ multiplies plan + 2 = omega arith in f ∙ rw (le-leb call (multiplies plan + 2) l′) refl
+module _ (plan : Plan) (i call l : ℕ) (e : l ≡ lastCall plan) where
+  pub mail-there : (s : ℕ) → call ≤ l → s ≡ mailCount plan i call → s ≡ mailOfCall plan i call
+  unfolding mailOfCall
+  mail-there s m f = let l′ : call ≤ lastCall plan = omega arith in f ∙ rw (le-leb call (lastCall plan) l′) refl
 
-pub mail-none : (plan : Plan) (i call m : ℕ) → m ≡ multiplies plan → m + 2 < call → 0 ≡ mailOfCall plan i call
-unfolding mailOfCall
-mail-none plan i call m e l = let l′ : multiplies plan + 2 < call = omega arith in rw (lt-leb call (multiplies plan + 2) l′) refl
+  pub mail-none : l < call → 0 ≡ mailOfCall plan i call
+  unfolding mailOfCall
+  mail-none m = let l′ : lastCall plan < call = omega arith in rw (lt-leb call (lastCall plan) l′) refl
 
-pub written-there : (plan : Plan) (i call m s : ℕ) → m ≡ multiplies plan → call ≤ m + 2 → s ≡ writtenCount plan i call → s ≡ writtenByCall plan i call
-unfolding writtenByCall
-written-there plan i call m s e l f = let l′ : call ≤ multiplies plan + 2 = omega arith in f ∙ rw (le-leb call (multiplies plan + 2) l′) refl
+  pub written-there : (s : ℕ) → call ≤ l → s ≡ writtenCount plan i call → s ≡ writtenByCall plan i call
+  unfolding writtenByCall
+  written-there s m f = let l′ : call ≤ lastCall plan = omega arith in f ∙ rw (le-leb call (lastCall plan) l′) refl
 
-pub written-none : (plan : Plan) (i call m : ℕ) → m ≡ multiplies plan → m + 2 < call → 0 ≡ writtenByCall plan i call
-unfolding writtenByCall
-written-none plan i call m e l = let l′ : multiplies plan + 2 < call = omega arith in rw (lt-leb call (multiplies plan + 2) l′) refl
+  pub written-none : l < call → 0 ≡ writtenByCall plan i call
+  unfolding writtenByCall
+  written-none m = let l′ : lastCall plan < call = omega arith in rw (lt-leb call (lastCall plan) l′) refl
 
 module _ (bs : List ℕ) (h : Header) (planned : Planned bs h) where
-  few-coins : (d : ℕ) → d ≤ 1024 → h .t * d ≤ 7 * 1024
-  few-coins d l = mul-le-mul {n₁ = h .t} {m₁ = d} {n₂ = 7} {m₂ = 1024} (omega (arith, planned .majority, planned .n-high)) l
-
-  pub own-coins-fit : (d : ℕ) → d ≤ 1024 → Fits w64 (h .t * d)
-  own-coins-fit d l = record { fits = omega (arith, few-coins d l) }
-
-  pub own-coins-le : (d : ℕ) → d ≤ 1024 → h .t * d ≤ 15360
-  own-coins-le d l = omega (arith, few-coins d l)
-
-  pub own-coins-eq : (i d : ℕ) → d ≡ countWhere (deals (planOf bs) i) (planOf bs .gates) → h .t * d ≡ ownCoinCount (planOf bs) i
-  unfolding ownCoinCount
-  own-coins-eq i d e = ap (λ (n : ℕ). n * d) (sym (plan-t planned)) ∙ ap (λ (n : ℕ). planOf bs .t * n) e
-
-  many-coins : (d : ℕ) → d ≤ 15360 → h .t * d ≤ 7 * 15360
-  many-coins d l = mul-le-mul {n₁ = h .t} {m₁ = d} {n₂ = 7} {m₂ = 15360} (omega (arith, planned .majority, planned .n-high)) l
-
-  pub coins-fit : (d : ℕ) → d ≤ 15360 → Fits w64 (h .t * d)
-  coins-fit d l = record { fits = omega (arith, many-coins d l) }
-
-  pub coins-le : (d : ℕ) → d ≤ 15360 → h .t * d ≤ 409600
-  coins-le d l = omega (arith, many-coins d l)
-
-  pub coins-eq : (d : ℕ) → d ≡ length (dealings (planOf bs)) → h .t * d ≡ coinCount (planOf bs)
-  unfolding coinCount
-  coins-eq d e = ap (λ (n : ℕ). n * d) (sym (plan-t planned)) ∙ ap (λ (n : ℕ). planOf bs .t * n) e
-
   pub state-count : (i call what : ℕ) → what ≡ 2 → 1 + h .gates ≡ seatCount (planOf bs) i call what
   unfolding seatCount
   state-count i call what k = rw k (ap (λ (n : ℕ). 1 + n) (sym (plan-gates planned)))
@@ -287,4 +261,4 @@ count-other plan i call what a b c d e = rw (ne-eqb what 0 a, ne-eqb what 1 b, n
 
 pub ruleset answering = (needs, code-answered, seat-plan-refused, calls-refused, read-planned, seat-below, seat-above, seat-sized, calls-counted, run-plan-refused, set-refused, run-sized, import-size-refused, import-sized, gates-small, outs-small, sheet-size-refused, sheet-few, sheet-sized, sent-value, sent-refused, small-rest, bench-answered, billed-value, billed-refused, charge-answered)
 
-pub ruleset counting = (needs, mail-there, mail-none, written-there, written-none, own-coins-fit, own-coins-le, own-coins-eq, state-count, count-0, count-1, count-3, count-4, count-other, coins-fit, coins-le, coins-eq, all-0, all-1, all-2, all-other)
+pub ruleset counting = (needs, mail-there, mail-none, written-there, written-none, state-count, count-0, count-1, count-3, count-4, count-other, all-0, all-1, all-2, all-other)

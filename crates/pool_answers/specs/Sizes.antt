@@ -4,14 +4,15 @@ use mathlib.Core.Bool.{Bool, cond}
 use mathlib.Core.List.{List, [], _∷_, _++_}
 use lib.Dec.{eqb, leb}
 use lib.ListN.{length}
+use Rattle.numbers.specs.Bytes.{width}
 use Rattle.plan.specs.declared.Checked.{Checked}
 use Rattle.plan.specs.declared.Checked.the-variants.{Passed, Refused}
 use Rattle.plan.specs.declared.Refusal.the-variants as refusal
 use Rattle.plan.specs.Refusals.{codeOf, firstOf, need}
-use Rattle.plan.specs.Plans.{Plan, partyCount, multiplies, inputCount, coinCount, ownInputCount, ownCoinCount, mailCount, writtenCount}
+use Rattle.plan.specs.Plans.{Plan, partyCount, lastCall, inputCount, coinCount, ownInputCount, ownCoinCount, mailCount, writtenCount}
 use Rattle.plan.specs.File.{between, planChecks, planCheck, planOf}
 use Rattle.plan_coalition.specs.Coalitions.{members, setOk}
-use Rattle.run_views.specs.ViewCounts.{viewCount}
+use Rattle.run_protocol.specs.Rounds.{viewCount}
 use Rattle.import_call.specs.Importing.{importFile, textChecks}
 use Rattle.sheet_call.specs.Compiling as sheet
 use Rattle.charge_call.specs.declared.Charged.{Charged}
@@ -26,10 +27,10 @@ valueOf (Refused r) v = codeOf (Refused r)
 
 -- the numbers of mail that party i's call takes, and of what it writes; 0 where there is no such call
 unfoldable pub mailOfCall : Plan → ℕ → ℕ → ℕ
-mailOfCall plan i call = cond (leb call (multiplies plan + 2)) (mailCount plan i call) 0
+mailOfCall plan i call = cond (leb call (lastCall plan)) (mailCount plan i call) 0
 
 unfoldable pub writtenByCall : Plan → ℕ → ℕ → ℕ
-writtenByCall plan i call = cond (leb call (multiplies plan + 2)) (writtenCount plan i call) 0
+writtenByCall plan i call = cond (leb call (lastCall plan)) (writtenCount plan i call) 0
 
 -- the numbers of a party's list: 0 its own inputs, 1 its own coins, 2 its state, 3 a call's mail, 4 what a call writes; any other: none
 unfoldable pub seatCount : Plan → ℕ → ℕ → ℕ → ℕ
@@ -43,7 +44,7 @@ seatCount plan i call what =
 -- in bytes
 unfoldable pub seatSize : List ℕ → ℕ → ℕ → ℕ → ℕ
 seatSize bs i call what =
-    valueOf (firstOf (planChecks bs ++ (need refusal.Coalition (between 1 (partyCount (planOf bs)) i) ∷ []))) (2 * seatCount (planOf bs) i call what)
+    valueOf (firstOf (planChecks bs ++ (need refusal.Coalition (between 1 (partyCount (planOf bs)) i) ∷ []))) (width * seatCount (planOf bs) i call what)
 
 -- the numbers of a whole run: all inputs, all coins, a coalition's view
 unfoldable pub runCount : Plan → ℕ → ℕ → ℕ
@@ -54,11 +55,11 @@ runCount plan set what =
 
 unfoldable pub runSize : List ℕ → ℕ → ℕ → ℕ
 runSize bs set what =
-    valueOf (firstOf (planChecks bs ++ (need refusal.Coalition (setOk (planOf bs) set) ∷ []))) (2 * runCount (planOf bs) set what)
+    valueOf (firstOf (planChecks bs ++ (need refusal.Coalition (setOk (planOf bs) set) ∷ []))) (width * runCount (planOf bs) set what)
 
--- how many calls each party makes: 0 to M + 2
+-- how many calls each party makes: 0 to the last
 unfoldable pub callCount : List ℕ → ℕ
-callCount bs = valueOf (planCheck bs) (multiplies (planOf bs) + 3)
+callCount bs = valueOf (planCheck bs) (suc (lastCall (planOf bs)))
 
 -- the bytes of the plan that a circuit's text makes
 unfoldable pub importSize : ℕ → ℕ → ℕ → List ℕ → ℕ

@@ -7,7 +7,6 @@ ghost use mathlib.Core.Path.{_≡_};
 ghost use Prim.Native.Nat.{_*_, _<_, _≤_};
 ghost use Rattle.plan.specs.File.{planOf};
 ghost use Rattle.plan.specs.Planned.{Planned};
-ghost use Rattle.plan.specs.Plans.{ownCoinCount, coinCount};
 ghost use Rattle.pool_answers.specs.Sizes.{mailOfCall, writtenByCall, seatCount, runCount, answerOf, billedOf};
 
 // An answer with a value, which stands above the low byte.
@@ -22,7 +21,7 @@ fn mail_of_call(plan: &[u8], h: Header, i: usize, call: usize) -> usize
     requires { ⌜ Planned (now plan) h ⌝ }
     ensures { λ r. ⌜ record { eq : r ≡ mailOfCall (planOf (now (plan .entry))) i call; le : r ≤ 15360 } ⌝ }
 {
-    if call <= plan_counts::multiply_count(plan, h) + 2 {
+    if call <= plan_counts::last_call(plan, h) {
         return plan_sizes::mail_count(plan, h, i, call);
     }
     0
@@ -32,17 +31,10 @@ fn written_by_call(plan: &[u8], h: Header, i: usize, call: usize) -> usize
     requires { ⌜ Planned (now plan) h ⌝ }
     ensures { λ r. ⌜ record { eq : r ≡ writtenByCall (planOf (now (plan .entry))) i call; le : r ≤ 15360 } ⌝ }
 {
-    if call <= plan_counts::multiply_count(plan, h) + 2 {
+    if call <= plan_counts::last_call(plan, h) {
         return plan_sizes::written_count(plan, h, i, call);
     }
     0
-}
-
-fn own_coin_count(plan: &[u8], h: Header, i: usize) -> usize
-    requires { ⌜ Planned (now plan) h ⌝ }
-    ensures { λ r. ⌜ record { eq : r ≡ ownCoinCount (planOf (now (plan .entry))) i; le : r ≤ 15360 } ⌝ }
-{
-    h.t * plan_counts::own_dealing_count(plan, h, i)
 }
 
 // The numbers of one of a party's lists.
@@ -52,19 +44,12 @@ pub fn seat_count(plan: &[u8], h: Header, i: usize, call: usize, what: u16) -> u
 {
     match what {
         0 => plan_counts::own_input_count(plan, h, i),
-        1 => own_coin_count(plan, h, i),
+        1 => plan_counts::own_coin_count(plan, h, i),
         2 => 1 + h.gates,
         3 => mail_of_call(plan, h, i, call),
         4 => written_by_call(plan, h, i, call),
         _ => 0,
     }
-}
-
-fn coin_count(plan: &[u8], h: Header) -> usize
-    requires { ⌜ Planned (now plan) h ⌝ }
-    ensures { λ r. ⌜ record { eq : r ≡ coinCount (planOf (now (plan .entry))); le : r ≤ 409600 } ⌝ }
-{
-    h.t * plan_counts::dealing_count(plan, h)
 }
 
 // The numbers of one of a run's lists.
@@ -74,7 +59,7 @@ pub fn run_count(plan: &[u8], h: Header, set: u16, what: u16) -> usize
 {
     match what {
         0 => plan_counts::input_count(plan, h),
-        1 => coin_count(plan, h),
+        1 => plan_counts::coin_count(plan, h),
         2 => run_bench::checking::view_count(plan, h, set),
         _ => 0,
     }

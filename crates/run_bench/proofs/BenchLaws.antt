@@ -15,7 +15,7 @@ use lib.ListN.{length, take, length-replicate}
 use lib.Seq.{length-take-le}
 use mir.Syntax.{w64}
 use mir.Val.{Fits}
-use Rattle.numbers.specs.Bytes.{numbers, bytesOf, holdsCount, firstOver, allBelow}
+use Rattle.numbers.specs.Bytes.{width, numbers, bytesOf, holdsCount, firstOver, allBelow}
 use Rattle.numbers.proofs.Bytes.{numbers-length, holds-length}
 use Rattle.numbers.proofs.Below.{firstOver-nothing}
 use Rattle.sharing_laws.specs.Interp.{All}
@@ -33,17 +33,18 @@ use Rattle.plan.specs.Planned.{Planned, ReadAs}
 use Rattle.plan_coalition.specs.Coalitions.{members, setFits, setOk}
 use Rattle.plan.proofs.Refusals.{andThen-passed, andThen-refused, firstOf-append, passed-both, passed-need, passed-found}
 use Rattle.plan.proofs.Planned.{planned-read, refused-read, plan-p, plan-n}
-use Rattle.plan.proofs.Valid.{valid}
+use Rattle.plan.proofs.Valid.{valid, plain, plain-no-7}
 use Rattle.plan_coalition.proofs.Coalitions.{set-ok, member-in, all-members, member-party}
 use Rattle.seat_messages.specs.Calls.{unlessRefused}
 use Rattle.run_bench.specs.declared.Benched.{Benched}
 use Rattle.run_bench.specs.declared.Benched.the-variants as benched
-use Rattle.run_protocol.specs.Rounds.{view}
-use Rattle.run_protocol.specs.Shares.{shareTable, tableViewOf}
-use Rattle.run_dealings.specs.Rows.{rowsOf, Given}
-use Rattle.run_views.specs.ViewCounts.{viewCount}
+use Rattle.run_protocol.specs.Rounds.{view, viewCount}
+use Rattle.run_protocol.specs.Tables.{tableViewOf}
+use Rattle.run_protocol.proofs.Expected.{Tabled}
+use Rattle.run_protocol.proofs.Given.{tabled-none}
+use Rattle.run_protocol.proofs.Runs.{views-table}
+use Rattle.run_dealings.specs.Rows.{Given}
 use Rattle.run_bench.specs.BenchCalls.{runChecks, benchAnswer, benchedOf, viewAfter}
-use Rattle.run_protocol.proofs.Carried.{views-table}
 
 -- ---- the table and the views
 module _ {bs : List ℕ} {h : Header} (pl : Planned bs h) where
@@ -61,12 +62,13 @@ module _ {bs : List ℕ} {h : Header} (pl : Planned bs h) where
 
   module _ (inputs coins : List ℕ) (given : Given (planOf bs) inputs coins) (set : ℕ) (ok : setFits (h .n) (h .t) set ≡ true) where
     -- the table's views are those of the run of separate calls
-    pub run-written : (new : List ℕ) → new ≡ bytesOf (flatMap (tableViewOf (planOf bs) (numbers inputs) (numbers coins)) (members set)) → new ≡ bytesOf (view (planOf bs) (members set) (numbers inputs) (numbers coins))
+    pub run-written : (new : List ℕ) → new ≡ bytesOf (flatMap (tableViewOf (planOf bs) (numbers inputs) (numbers coins) []) (members set)) → new ≡ bytesOf (view (planOf bs) (members set) (numbers inputs) (numbers coins) [])
     run-written new e =
         let full : length (numbers coins) ≡ coinCount (planOf bs) = omega (arith, numbers-length coins, given .coins-count) in
         let only : All (λ i. (1 ≤ i) × (i ≤ partyCount (planOf bs))) (members set) =
         all-members (λ i. (1 ≤ i) × (i ≤ partyCount (planOf bs))) (members set) (λ m w. (member-in set m w .from, rw (plan-n pl) (member-party (h .n) (h .t) set ok m w))) in
-        e ∙ ap bytesOf (sym (views-table (planOf bs) (valid bs (pl .passes)) (numbers inputs) (numbers coins) full (members set) only))
+        let none : Tabled (planOf bs) [] [] = tabled-none (planOf bs) [] (plain-no-7 (planOf bs) (plain bs (pl .passes))) in
+        e ∙ ap bytesOf (sym (views-table (planOf bs) (valid bs (pl .passes)) (numbers inputs) (numbers coins) [] [] full none (members set) only))
 
 pub ruleset writing-run = (needs, table-room, table-fits, table-enough, used-long, run-written)
 
@@ -136,9 +138,9 @@ module _ (bs : List ℕ) (set : ℕ) (inputs coins out : List ℕ) where
       unfolding benchedOf
       bench-sent k ek = rw (answer, f, ek)
 
-      pub view-sent : (new : List ℕ) → new ≡ bytesOf (view (planOf bs) (members set) (numbers inputs) (numbers coins)) → new ≡ viewAfter bs set inputs coins out
+      pub view-sent : (new : List ℕ) → new ≡ bytesOf (view (planOf bs) (members set) (numbers inputs) (numbers coins) []) → new ≡ viewAfter bs set inputs coins out
       unfolding viewAfter
-      view-sent new en = en ∙ written (benchAnswer bs set inputs coins (length out)) (bytesOf (view (planOf bs) (members set) (numbers inputs) (numbers coins))) out (answer ∙ f)
+      view-sent new en = en ∙ written (benchAnswer bs set inputs coins (length out)) (bytesOf (view (planOf bs) (members set) (numbers inputs) (numbers coins) [])) out (answer ∙ f)
 
 -- ---- what a run whose checks pass is given
 module _ (bs : List ℕ) (set : ℕ) (inputs coins : List ℕ) (room : ℕ) (c : Checked) (ec : c ≡ firstOf (runChecks (planOf bs) set inputs coins room)) (f : c ≡ Passed) where
@@ -161,7 +163,7 @@ module _ (bs : List ℕ) (set : ℕ) (inputs coins : List ℕ) (room : ℕ) (c :
         coins-below = firstOver-nothing (planOf bs .p) (numbers coins) (passed-found refusal.CoinValue _ (g .0));
       }
 
-  pub passed-room : room ≡ 2 * viewCount (planOf bs) (members set)
+  pub passed-room : room ≡ width * viewCount (planOf bs) (members set)
   unfolding runChecks firstOf
   passed-room =
       let a = passed-both _ _ (sym ec ∙ f) in
@@ -170,6 +172,6 @@ module _ (bs : List ℕ) (set : ℕ) (inputs coins : List ℕ) (room : ℕ) (c :
       let e = passed-both _ _ (d .1) in
       let g = passed-both _ _ (e .1) in
       let i = passed-both _ _ (g .1) in
-      eqb-true room (2 * viewCount (planOf bs) (members set)) (passed-need refusal.BufferLength _ (i .0))
+      eqb-true room (width * viewCount (planOf bs) (members set)) (passed-need refusal.BufferLength _ (i .0))
 
 pub ruleset benching = (needs, planned-read, bench-no-plan, view-no-plan, bench-refused, view-refused, bench-sent, view-sent, passed-set, passed-given, passed-room)

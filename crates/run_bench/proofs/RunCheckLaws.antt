@@ -1,86 +1,117 @@
 -- What each way through the checks of a run says of its definition.
+--     mail-total               how many numbers all steps bring a party
 --     sizing                   how long a view is
 --     Sizing                   the loop over the parties
 --     giving, running          the checks of what a run is given, and all of them
 -- Assumes nothing.
 use mathlib.Core.Path.{_≡_, refl, sym, ap, ap₂, _∙_}
 use mathlib.Core.Bool.{Bool, true, false, cond, not}
-use mathlib.Core.List.{List, [], _∷_, _++_}
+use mathlib.Core.List.{List, [], _∷_, _++_, map}
 use Prim.Native.Nat.{ℕ, zero, suc, _+_, _-_, _*_, _<_, _≤_}
 use native.Mathlib.Numerals.{add-one}
-use native.Mathlib.Nat.{mul-le-mul}
+use native.Mathlib.Nat.{mul-zero, mul-suc, mul-comm, mul-le-mul}
 use native.Mathlib.Omega.{arith}
 use borrow.Author.Needs.{needs}
 use borrow.Author.Tests.{not-true, not-false, eq-eqb, ne-eqb}
 use lib.Dec.{eqb}
-use lib.ListN.{length}
+use lib.ListN.{getD}
 use mir.Syntax.{w64}
 use mir.Val.{Fits}
-use Rattle.numbers.specs.Tables.{countWhere}
+use Rattle.numbers.specs.Tables.{countWhere, total}
+use Rattle.numbers.specs.Bytes.{width}
 use Rattle.plan.specs.declared.Header.{Header}
 use Rattle.plan.specs.declared.Checked.{Checked}
 use Rattle.plan.specs.declared.Checked.the-variants.{Passed, Refused}
 use Rattle.plan.specs.declared.Refusal.{Refusal}
 use Rattle.plan.specs.declared.Refusal.the-variants as refusal
 use Rattle.plan.specs.Refusals.{andThen, firstOf, need}
-use Rattle.plan.specs.Plans.{Plan, partyCount, dealerCount, dealings, deals, multiplies, inputCount, coinCount, ownInputCount, ownCoinCount, ownOutCount}
+use Rattle.plan.specs.declared.Gate.{Gate}
+use Rattle.plan.specs.declared.Gate.the-variants.{Input, Add, Scale, Offset, Multiply, Random, Spend}
+use Rattle.plan.specs.declared.Rule.{Rule}
+use Rattle.plan.specs.declared.Rule.the-variants.{Reduction}
+use Rattle.plan.specs.declared.Step.{Step}
+use Rattle.plan.specs.declared.Step.the-variants.{DealProduct, SendOuts}
+use Rattle.plan.specs.Plans.{Plan, partyCount, dealerCount, kindOf, isKind, kindCount, isInputOf, multiplySteps, stepsAt, stepsFrom, steps, received, inputCount, coinCount, ownInputCount, ownCoinCount, ownOutCount}
 use Rattle.plan.specs.File.{planOf}
 use Rattle.plan.specs.Planned.{Planned}
 use Rattle.plan_coalition.specs.Coalitions.{inSet, membersFrom, members, setFits, setOk}
 use Rattle.plan.proofs.Refusals.{andThen-passed, andThen-refused, andThen-end, firstOf-append, need-true, need-false}
-use Rattle.plan.proofs.Planned.{plan-t, plan-p, plan-n, plan-dealers}
+use Rattle.plan.proofs.Planned.{plan-p, plan-n, plan-dealers}
+use Rattle.plan.proofs.Valid.{Plain, plain}
+use Rattle.plan_counts.proofs.Counts.{own-is}
+use Rattle.plan_counts.proofs.Sizes.{by-dealers-le, by-dealers-fits, dealt-fits}
 use Rattle.plan_coalition.proofs.Coalitions.{set-ok}
 use Rattle.seat_admission.specs.Parts.{listChecks}
 use Rattle.run_bench.specs.Checks.{givenChecks}
-use Rattle.run_views.specs.ViewCounts.{viewCountOf, viewCount}
+use Rattle.run_protocol.specs.Rounds.{viewCountOf, viewCount}
 use Rattle.run_bench.specs.BenchCalls.{runChecks}
+
+-- ---- the mail of all steps
+total-append : (r : Step → ℕ) (ss us : List Step) → total (map r (ss ++ us)) ≡ total (map r ss) + total (map r us)
+unfolding total
+total-append r [] us = omega arith
+total-append r (s ∷ ss) us = omega (arith, total-append r ss us)
+
+-- of gates of kinds 1 to 5, where each multiply brings d numbers
+steps-total : (r : Step → ℕ) (d : ℕ) → ((g a b : ℕ) → r (DealProduct g a b) ≡ d) → (g : ℕ) (gs : List Gate) → ((k : ℕ) → kindOf (getD gs k (Input 0)) ≤ 5)
+    → total (map r (stepsFrom Reduction g gs)) ≡ d * countWhere (isKind 5) gs
+unfolding total stepsFrom stepsAt multiplySteps countWhere isKind kindOf
+steps-total r d each g [] kinds = sym (mul-zero d)
+steps-total r d each g (Input s ∷ gs) kinds = steps-total r d each (suc g) gs (λ k. kinds (suc k))
+steps-total r d each g (Add a b ∷ gs) kinds = steps-total r d each (suc g) gs (λ k. kinds (suc k))
+steps-total r d each g (Scale a c ∷ gs) kinds = steps-total r d each (suc g) gs (λ k. kinds (suc k))
+steps-total r d each g (Offset a c ∷ gs) kinds = steps-total r d each (suc g) gs (λ k. kinds (suc k))
+steps-total r d each g (Multiply a b ∷ gs) kinds = omega (arith, each g a b, steps-total r d each (suc g) gs (λ k. kinds (suc k)), mul-suc d (countWhere (isKind 5) gs))
+steps-total r d each g (Random ∷ gs) kinds = absurd (omega (arith, kinds 0))
+steps-total r d each g (Spend a b ∷ gs) kinds = absurd (omega (arith, kinds 0))
+
+pub mail-total : (plan : Plan) → Plain plan → (i : ℕ) → total (map (received plan i) (steps plan)) ≡ kindCount plan 1 + (dealerCount plan * kindCount plan 5 + partyCount plan * ownOutCount plan i)
+unfolding steps total received kindCount
+mail-total plan p i =
+    omega (
+      arith,
+      total-append (received plan i) (stepsFrom (plan .rule) 0 (plan .gates)) (SendOuts ∷ []),
+      ap (λ (q : Rule). total (map (received plan i) (stepsFrom q 0 (plan .gates)))) (p .rule),
+      steps-total (received plan i) (dealerCount plan) (λ g a b. refl) 0 (plan .gates) (p .kinds),
+    )
 
 -- ---- how long a party's view is
 module _ (bs : List ℕ) (h : Header) (pl : Planned bs h) where
-  few-coins : (d : ℕ) → d ≤ 1024 → h .t * d ≤ 7168
-  few-coins d l = mul-le-mul {n₂ = 7} {m₂ = 1024} (omega (arith, pl .majority, pl .n-high)) l
-
-  few-pieces : (m : ℕ) → m ≤ 1024 → m * (h .t + h .t + 1) ≤ 15360
-  few-pieces m l = mul-le-mul {n₂ = 1024} {m₂ = 15} l (omega (arith, pl .majority, pl .n-high))
-
   few-outs : (o : ℕ) → o ≤ 64 → h .n * o ≤ 960
   few-outs o l = mul-le-mul {n₂ = 15} {m₂ = 64} (pl .n-high) l
-
-  pub coins-fits : (d : ℕ) → d ≤ 1024 → Fits w64 (h .t * d)
-  coins-fits d l = record { fits = omega (arith, few-coins d l) }
-
-  pub pieces-fits : (m : ℕ) → m ≤ 1024 → Fits w64 (m * (h .t + h .t + 1))
-  pieces-fits m l = record { fits = omega (arith, few-pieces m l) }
 
   pub outs-fits : (o : ℕ) → o ≤ 64 → Fits w64 (h .n * o)
   outs-fits o l = record { fits = omega (arith, few-outs o l) }
 
-  module _ (d m o k x i : ℕ) (ld : d ≤ 1024) (lm : m ≤ 1024) (lo : o ≤ 64) (lk : k ≤ 1024) where
-    pub mail-fits : Fits w64 (k + m * (h .t + h .t + 1))
-    mail-fits = record { fits = omega (arith, few-pieces m lm) }
+  module _ (m o k x c i : ℕ) (lm : k + m ≤ 1024) (lo : o ≤ 64) where
+    pieces : k + m * (h .t + h .t + 1) ≤ 15360
+    pieces = by-dealers-le bs h pl k m lm
 
     pub all-mail-fits : Fits w64 (k + m * (h .t + h .t + 1) + h .n * o)
-    all-mail-fits = record { fits = omega (arith, few-pieces m lm, few-outs o lo) }
+    all-mail-fits = record { fits = omega (arith, pieces, few-outs o lo) }
 
     pub rest-fits : Fits w64 (k + m * (h .t + h .t + 1) + h .n * o + o)
-    rest-fits = record { fits = omega (arith, few-pieces m lm, few-outs o lo) }
+    rest-fits = record { fits = omega (arith, pieces, few-outs o lo) }
 
-    pub drawn-fits : Fits w64 (h .t * d + (k + m * (h .t + h .t + 1) + h .n * o + o))
-    drawn-fits = record { fits = omega (arith, few-coins d ld, few-pieces m lm, few-outs o lo) }
+    pub drawn-fits : c ≤ 7168 → Fits w64 (c + (k + m * (h .t + h .t + 1) + h .n * o + o))
+    drawn-fits lc = record { fits = omega (arith, pieces, few-outs o lo) }
 
-    pub view-fits : x ≤ 1024 → Fits w64 (x + (h .t * d + (k + m * (h .t + h .t + 1) + h .n * o + o)))
-    view-fits lx = record { fits = omega (arith, few-coins d ld, few-pieces m lm, few-outs o lo) }
+    pub view-fits : c ≤ 7168 → x ≤ 1024 → Fits w64 (x + (c + (k + m * (h .t + h .t + 1) + h .n * o + o)))
+    view-fits lc lx = record { fits = omega (arith, pieces, few-outs o lo) }
 
-    pub view-few : x ≤ 1024 → x + (h .t * d + (k + m * (h .t + h .t + 1) + h .n * o + o)) ≤ 25600
-    view-few lx = omega (arith, few-coins d ld, few-pieces m lm, few-outs o lo)
+    pub view-few : c ≤ 7168 → x ≤ 1024 → x + (c + (k + m * (h .t + h .t + 1) + h .n * o + o)) ≤ 25600
+    view-few lc lx = omega (arith, pieces, few-outs o lo)
 
     pub view-is :
-        d ≡ countWhere (deals (planOf bs) i) (planOf bs .gates) → m ≡ multiplies (planOf bs) → o ≡ ownOutCount (planOf bs) i → k ≡ inputCount (planOf bs) → x ≡ ownInputCount (planOf bs) i
-        → x + (h .t * d + (k + m * (h .t + h .t + 1) + h .n * o + o)) ≡ viewCountOf (planOf bs) i
-    unfolding viewCountOf ownCoinCount
-    view-is ed em eo ek ex = rw (ed, em, eo, ek, ex, plan-n pl, plan-dealers pl, plan-t pl)
+        c ≡ ownCoinCount (planOf bs) i → m ≡ kindCount (planOf bs) 5 → o ≡ ownOutCount (planOf bs) i → k ≡ kindCount (planOf bs) 1 → x ≡ countWhere (isInputOf i) (planOf bs .gates)
+        → x + (c + (k + m * (h .t + h .t + 1) + h .n * o + o)) ≡ viewCountOf (planOf bs) i
+    unfolding viewCountOf
+    view-is ec em eo ek ex =
+        let brought : h .n * o ≡ partyCount (planOf bs) * ownOutCount (planOf bs) i = ap₂ (λ (a b : ℕ). a * b) (sym (plan-n pl)) eo in
+        let dealt : m * (h .t + h .t + 1) ≡ dealerCount (planOf bs) * kindCount (planOf bs) 5 = mul-comm m (h .t + h .t + 1) ∙ ap₂ (λ (a b : ℕ). a * b) (sym (plan-dealers pl)) em in
+        omega (arith, own-is bs h pl i x ex, mail-total (planOf bs) (plain bs (pl .passes)) i)
 
-pub ruleset sizing = (needs, coins-fits, pieces-fits, outs-fits, mail-fits, all-mail-fits, rest-fits, drawn-fits, view-fits, view-few, view-is)
+pub ruleset sizing = (needs, by-dealers-fits, dealt-fits, outs-fits, all-mail-fits, rest-fits, drawn-fits, view-fits, view-few, view-is)
 
 -- ---- a member's
 module _ (set i k : ℕ) (b : Bool) (e : b ≡ inSet set i) where
@@ -104,7 +135,7 @@ unfolding members
 size-none plan set = record { low = omega arith; high = omega arith; few = omega arith; is = omega arith }
 
 size-step : (plan : Plan) (b : Bool) (i k : ℕ) (is : List ℕ) → k + viewCount plan (cond b (i ∷ is) is) ≡ k + cond b (viewCountOf plan i) 0 + viewCount plan is
-unfolding viewCount
+unfolding viewCount total
 size-step plan true i k is = omega arith
 size-step plan false i k is = omega arith
 
@@ -124,7 +155,7 @@ module _ (plan : Plan) (set k i : ℕ) (s : Sizing plan set k i) where
   }
 
   pub size-done : 16 < i → k ≡ viewCount plan (members set)
-  unfolding membersFrom viewCount
+  unfolding membersFrom viewCount total
   size-done l =
       let q : 17 - i ≡ 0 = omega (arith, s .high) in
       let e : k + viewCount plan (membersFrom set i 0) ≡ viewCount plan (members set) = ap (λ (j : ℕ). k + viewCount plan (membersFrom set i j)) (sym q) ∙ s .is in
@@ -157,26 +188,23 @@ module _ (bs : List ℕ) (h : Header) (pl : Planned bs h) (inputs coins : List �
     given-inputs r e = e ∙ sym (given-parts ∙ andThen-refused c _ r e)
 
     pub given-coins :
-        c ≡ Passed → (d : ℕ) → d ≡ length (dealings (planOf bs)) → (r : Checked) → r ≡ firstOf (listChecks refusal.CoinCount refusal.CoinValue (h .field .p) (h .t * d) coins)
+        c ≡ Passed → (d : ℕ) → d ≡ coinCount (planOf bs) → (r : Checked) → r ≡ firstOf (listChecks refusal.CoinCount refusal.CoinValue (h .field .p) d coins)
         → r ≡ firstOf (givenChecks (planOf bs) inputs coins)
-    unfolding coinCount coins-of
-    given-coins e d ed r er = er ∙ sym (given-parts ∙ andThen-passed c _ e ∙ ap (coins-of (h .field .p)) (ap₂ _*_ (plan-t pl) (sym ed)))
+    unfolding coins-of
+    given-coins e d ed r er = er ∙ sym (given-parts ∙ andThen-passed c _ e ∙ ap (coins-of (h .field .p)) (sym ed))
 
-pub dealing-fits : (bs : List ℕ) (h : Header) → Planned bs h → (d : ℕ) → d ≤ 15360 → Fits w64 (h .t * d)
-dealing-fits bs h pl d l = record { fits = omega (arith, mul-le-mul {n₁ = h .t} {m₁ = d} {n₂ = 7} {m₂ = 15360} (omega (arith, pl .majority, pl .n-high)) l) }
-
-pub ruleset giving = (needs, given-inputs, given-coins, dealing-fits)
+pub ruleset giving = (needs, given-inputs, given-coins)
 
 -- ---- all checks
 module _ (bs : List ℕ) (h : Header) (pl : Planned bs h) (set : ℕ) (inputs coins : List ℕ) (room : ℕ) (t : Bool) (et : t ≡ setFits (h .n) (h .t) set) where
   run-parts :
       firstOf (runChecks (planOf bs) set inputs coins room)
-      ≡ andThen (need refusal.Coalition (setOk (planOf bs) set)) (andThen (firstOf (givenChecks (planOf bs) inputs coins)) (need refusal.BufferLength (eqb room (2 * viewCount (planOf bs) (members set)))))
+      ≡ andThen (need refusal.Coalition (setOk (planOf bs) set)) (andThen (firstOf (givenChecks (planOf bs) inputs coins)) (need refusal.BufferLength (eqb room (width * viewCount (planOf bs) (members set)))))
   unfolding runChecks firstOf givenChecks listChecks
   run-parts =
       ap (andThen (need refusal.Coalition (setOk (planOf bs) set)))
-      (firstOf-append (givenChecks (planOf bs) inputs coins) (need refusal.BufferLength (eqb room (2 * viewCount (planOf bs) (members set))) ∷ [])
-      ∙ ap (andThen (firstOf (givenChecks (planOf bs) inputs coins))) (andThen-end (need refusal.BufferLength (eqb room (2 * viewCount (planOf bs) (members set))))))
+      (firstOf-append (givenChecks (planOf bs) inputs coins) (need refusal.BufferLength (eqb room (width * viewCount (planOf bs) (members set))) ∷ [])
+      ∙ ap (andThen (firstOf (givenChecks (planOf bs) inputs coins))) (andThen-end (need refusal.BufferLength (eqb room (width * viewCount (planOf bs) (members set))))))
 
   set-is : t ≡ setOk (planOf bs) set
   set-is = et ∙ set-ok bs h set pl
@@ -185,22 +213,22 @@ module _ (bs : List ℕ) (h : Header) (pl : Planned bs h) (set : ℕ) (inputs co
   run-set e = sym (run-parts ∙ andThen-refused (need refusal.Coalition (setOk (planOf bs) set)) _ refusal.Coalition (need-false refusal.Coalition (setOk (planOf bs) set) (sym set-is ∙ e)))
 
   module _ (y : t ≡ true) (c : Checked) (ec : c ≡ firstOf (givenChecks (planOf bs) inputs coins)) where
-    past-set : firstOf (runChecks (planOf bs) set inputs coins room) ≡ andThen c (need refusal.BufferLength (eqb room (2 * viewCount (planOf bs) (members set))))
+    past-set : firstOf (runChecks (planOf bs) set inputs coins room) ≡ andThen c (need refusal.BufferLength (eqb room (width * viewCount (planOf bs) (members set))))
     past-set =
         run-parts ∙ andThen-passed (need refusal.Coalition (setOk (planOf bs) set)) _ (need-true refusal.Coalition (setOk (planOf bs) set) (sym set-is ∙ y))
-        ∙ ap (λ (d : Checked). andThen d (need refusal.BufferLength (eqb room (2 * viewCount (planOf bs) (members set))))) (sym ec)
+        ∙ ap (λ (d : Checked). andThen d (need refusal.BufferLength (eqb room (width * viewCount (planOf bs) (members set))))) (sym ec)
 
     pub run-given : (r : Refusal) → c ≡ Refused r → c ≡ firstOf (runChecks (planOf bs) set inputs coins room)
     run-given r e = e ∙ sym (past-set ∙ andThen-refused c _ r e)
 
     module _ (e : c ≡ Passed) (k : ℕ) (ek : k ≡ viewCount (planOf bs) (members set)) where
-      past-given : firstOf (runChecks (planOf bs) set inputs coins room) ≡ need refusal.BufferLength (eqb room (2 * viewCount (planOf bs) (members set)))
+      past-given : firstOf (runChecks (planOf bs) set inputs coins room) ≡ need refusal.BufferLength (eqb room (width * viewCount (planOf bs) (members set)))
       past-given = past-set ∙ andThen-passed c _ e
 
       pub run-room : (room ≡ 2 * k → ⊥) → Refused refusal.BufferLength ≡ firstOf (runChecks (planOf bs) set inputs coins room)
-      run-room n = sym (past-given ∙ need-false refusal.BufferLength (eqb room (2 * viewCount (planOf bs) (members set))) (rw (← ek) (ne-eqb room (2 * k) n)))
+      run-room n = sym (past-given ∙ need-false refusal.BufferLength (eqb room (width * viewCount (planOf bs) (members set))) (rw (← ek) (ne-eqb room (2 * k) n)))
 
       pub run-passed : room ≡ 2 * k → Passed ≡ firstOf (runChecks (planOf bs) set inputs coins room)
-      run-passed q = sym (past-given ∙ need-true refusal.BufferLength (eqb room (2 * viewCount (planOf bs) (members set))) (rw (← ek) (eq-eqb room (2 * k) q)))
+      run-passed q = sym (past-given ∙ need-true refusal.BufferLength (eqb room (width * viewCount (planOf bs) (members set))) (rw (← ek) (eq-eqb room (2 * k) q)))
 
 pub ruleset running = (needs, not-true, not-false, run-set, run-given, run-room, run-passed)

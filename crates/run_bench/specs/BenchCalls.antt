@@ -3,7 +3,7 @@ use Prim.Native.Nat.{ℕ, _*_}
 use mathlib.Core.List.{List, [], _∷_, _++_}
 use lib.Dec.{eqb}
 use lib.ListN.{length}
-use Rattle.numbers.specs.Bytes.{numbers, bytesOf, holdsCount, firstOver}
+use Rattle.numbers.specs.Bytes.{width, numbers, bytesOf, holdsCount, firstOver}
 use Rattle.plan.specs.declared.Checked.{Checked}
 use Rattle.plan.specs.declared.Checked.the-variants.{Passed, Refused}
 use Rattle.plan.specs.declared.Refusal.the-variants as refusal
@@ -12,10 +12,9 @@ use Rattle.plan.specs.Plans.{Plan, inputCount, coinCount, sentCount}
 use Rattle.plan.specs.File.{planChecks, planOf}
 use Rattle.plan_coalition.specs.Coalitions.{members, setOk}
 use Rattle.seat_messages.specs.Calls.{unlessRefused}
-use Rattle.run_views.specs.ViewCounts.{viewCount}
 use Rattle.run_bench.specs.declared.Benched.{Benched}
 use Rattle.run_bench.specs.declared.Benched.the-variants as benched
-use Rattle.run_protocol.specs.Rounds.{view}
+use Rattle.run_protocol.specs.Rounds.{view, viewCount}
 
 -- refusals 9 to 13 and 19
 unfoldable pub runChecks : Plan → ℕ → List ℕ → List ℕ → ℕ → List Checked
@@ -25,7 +24,7 @@ runChecks plan set xs coins room =
     ∷ unlessFound refusal.InputValue (firstOver (plan .p) (numbers xs))
     ∷ need refusal.CoinCount (holdsCount (coinCount plan) coins)
     ∷ unlessFound refusal.CoinValue (firstOver (plan .p) (numbers coins))
-    ∷ need refusal.BufferLength (eqb room (2 * viewCount plan (members set)))
+    ∷ need refusal.BufferLength (eqb room (width * viewCount plan (members set)))
     ∷ []
 
 unfoldable pub benchAnswer : List ℕ → ℕ → List ℕ → List ℕ → ℕ → Checked
@@ -36,8 +35,8 @@ unfoldable pub benchedOf : Checked → ℕ → Benched
 benchedOf Passed sent = benched.Sent sent
 benchedOf (Refused r) sent = benched.Refused r
 
--- the lent buffer afterwards: the coalition's view of the run of separate calls
+-- the lent buffer afterwards: the coalition's view of the run of separate calls; a plan file has no gate that spends a triple
 unfoldable pub viewAfter : List ℕ → ℕ → List ℕ → List ℕ → List ℕ → List ℕ
 viewAfter bs set xs coins out =
     unlessRefused (benchAnswer bs set xs coins (length out))
-    (bytesOf (view (planOf bs) (members set) (numbers xs) (numbers coins))) out
+    (bytesOf (view (planOf bs) (members set) (numbers xs) (numbers coins) [])) out

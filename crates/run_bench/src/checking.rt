@@ -9,8 +9,8 @@ ghost use Rattle.plan.specs.Refusals.{firstOf};
 ghost use Rattle.plan.specs.File.{planOf};
 ghost use Rattle.plan.specs.Planned.{Planned};
 ghost use Rattle.plan_coalition.specs.Coalitions.{inSet, members};
+ghost use Rattle.run_protocol.specs.Rounds.{viewCountOf, viewCount};
 ghost use Rattle.run_bench.specs.Checks.{givenChecks};
-ghost use Rattle.run_views.specs.ViewCounts.{viewCountOf, viewCount};
 ghost use Rattle.run_bench.specs.BenchCalls.{runChecks};
 
 // The numbers of party i's view.
@@ -19,11 +19,10 @@ pub fn view_count_of(plan: &[u8], h: Header, i: usize) -> usize
     ensures { λ r. ⌜ record { eq : r ≡ viewCountOf (planOf (now (plan .entry))) i; le : r ≤ 25600 } ⌝ }
 {
     let tally = plan_counts::tally_of(plan, h, i);
-    let coins = h.t * tally.dealings;
     let pieces = tally.multiplies * (h.t + h.t + 1);
     let outs = plan_sizes::own_out_count(plan, h, i);
     let mail = tally.inputs + pieces + h.n * outs;
-    tally.own + (coins + (mail + outs))
+    tally.own + (tally.coins + (mail + outs))
 }
 
 // The same, where it is a member.
@@ -60,8 +59,7 @@ fn check_given(plan: &[u8], h: Header, inputs: &[u8], coins: &[u8]) -> Checked
     let Checked::Passed = given else {
         return given;
     };
-    let count = h.t * plan_counts::dealing_count(plan, h);
-    seat_admission::check_coins(coins, count, h.field.p)
+    seat_admission::check_coins(coins, plan_counts::coin_count(plan, h), h.field.p)
 }
 
 // Refusals 9 to 13 and 19 of a run; `room` is the length of the buffer to be written.

@@ -5,16 +5,16 @@ use plan::Reading;
 use plan::Refusal;
 ghost use mathlib.Core.Path.{_≡_};
 ghost use mathlib.Core.Bool.{true};
+ghost use mathlib.Core.List.{[]};
 ghost use Prim.Native.Nat.{_*_};
 ghost use lib.ListN.{length};
-ghost use Rattle.numbers.specs.Bytes.{numbers, bytesOf};
+ghost use Rattle.numbers.specs.Bytes.{width, numbers, bytesOf};
 ghost use Rattle.plan.specs.Plans.{sentCount};
 ghost use Rattle.plan.specs.File.{planOf};
 ghost use Rattle.plan.specs.Planned.{Planned};
 ghost use Rattle.plan_coalition.specs.Coalitions.{members, setFits};
-ghost use Rattle.run_protocol.specs.Rounds.{view};
+ghost use Rattle.run_protocol.specs.Rounds.{view, viewCount};
 ghost use Rattle.run_dealings.specs.Rows.{Given};
-ghost use Rattle.run_views.specs.ViewCounts.{viewCount};
 ghost use Rattle.run_bench.specs.BenchCalls.{benchAnswer, benchedOf, viewAfter};
 
 pub mod checking;
@@ -40,8 +40,8 @@ fn write_run(plan: &[u8], h: Header, set: u16, inputs: &[u8], coins: &[u8], out:
     requires { ⌜ Planned (now plan) h ⌝ }
     requires { ⌜ Given (planOf (now plan)) (now inputs) (now coins) ⌝ }
     requires { ⌜ setFits (h .n) (h .t) set ≡ true ⌝ }
-    requires { ⌜ length (now out) ≡ 2 * viewCount (planOf (now plan)) (members set) ⌝ }
-    ensures { λ _. ⌜ now (out .exit) ≡ bytesOf (view (planOf (now (plan .entry))) (members set) (numbers (now (inputs .entry))) (numbers (now (coins .entry)))) ⌝ }
+    requires { ⌜ length (now out) ≡ width * viewCount (planOf (now plan)) (members set) ⌝ }
+    ensures { λ _. ⌜ now (out .exit) ≡ bytesOf (view (planOf (now (plan .entry))) (members set) (numbers (now (inputs .entry))) (numbers (now (coins .entry))) []) ⌝ }
 {
     let mut table = [0u64; 15360];
     run_tables::fill(plan, h, inputs, coins, &mut table);

@@ -1,42 +1,76 @@
 -- The coins that a gate takes.
+--     coins-input .. coins-spend     by its kind
 -- Assumes nothing.
 use Prim.Native.Nat.{ℕ, _+_, _*_, _≤_}
-use mathlib.Core.Path.{_≡_, sym, ap, _∙_}
-use native.Mathlib.Nat.{mul-zero, mul-le-mul}
+use mathlib.Core.Path.{_≡_, sym, ap, ap₂, _∙_}
+use mathlib.Core.List.{List, flatMap}
+use native.Mathlib.Nat.{mul-le-mul}
 use native.Mathlib.Omega.{arith}
 use borrow.Author.Needs.{needs}
-use lib.ListN.{length}
+use lib.ListN.{length, length-replicate}
 use mir.Syntax.{w64}
 use mir.Val.{Fits}
-use Rattle.numbers.proofs.Tables.{length-tab}
 use Rattle.plan.specs.declared.Gate.{Gate}
-use Rattle.plan.specs.declared.Gate.the-variants.{Input, Add, Scale, Offset, Multiply}
-use Rattle.plan.specs.Plans.{Plan, dealerCount, dealersOf}
-use Rattle.run_dealings.specs.Rows.{coinsIn}
+use Rattle.plan.specs.declared.Gate.the-variants.{Input, Add, Scale, Offset, Multiply, Random, Spend}
+use Rattle.plan.specs.declared.Header.{Header}
+use Rattle.plan.specs.Plans.{dealingsAt, coinOwnersAt}
+use Rattle.plan.specs.File.{gateAt, planOf}
+use Rattle.plan.specs.Planned.{Planned}
+use Rattle.plan.proofs.Planned.{plan-t, plan-n, plan-dealers}
+use Rattle.plan.proofs.Valid.{plain}
+use Rattle.run_protocol.proofs.Owners.{length-blocks}
+use Rattle.run_protocol.proofs.Dealt.{input-owners, reduction-owners, random-owners}
 
-pub coins-as : (t : ℕ) (gate x : Gate) (r : ℕ) → gate ≡ x → r ≡ coinsIn t x → r ≡ coinsIn t gate
-coins-as t gate x r e f = f ∙ sym (ap (coinsIn t) e)
+-- ---- a gate by its kind
+module _ (bs : List ℕ) (h : Header) (k : Planned bs h) where
+  pub coins-at-input : (s : ℕ) → length (coinOwnersAt (planOf bs) (Input s)) ≡ h .t
+  coins-at-input s = ap length (input-owners (planOf bs) s) ∙ length-replicate {A = ℕ} (planOf bs .t) s ∙ plan-t k
 
-pub coins-few : (t : ℕ) → t ≤ 7 → t * (t + t + 1) ≤ 105
-coins-few t l = mul-le-mul {n₂ = 7} {m₂ = 15} l (omega arith)
+  pub coins-at-multiply : (a b : ℕ) → length (coinOwnersAt (planOf bs) (Multiply a b)) ≡ h .t * (h .t + h .t + 1)
+  coins-at-multiply a b =
+      ap length (reduction-owners (planOf bs) a b (plain bs (k .passes) .rule)) ∙ length-blocks (planOf bs .t) 0 _ ∙ ap₂ (λ (x y : ℕ). x * y) (plan-t k) (plan-dealers k)
 
-pub coins-fit : (t : ℕ) → t ≤ 7 → Fits w64 (t * (t + t + 1))
-coins-fit t l = record { fits = omega (arith, coins-few t l) }
+  coins-at-random : length (coinOwnersAt (planOf bs) Random) ≡ h .t * h .n
+  coins-at-random = ap length (random-owners (planOf bs)) ∙ length-blocks (planOf bs .t) 0 _ ∙ ap₂ (λ (x y : ℕ). x * y) (plan-t k) (plan-n k)
 
-pub ruleset taking-coins = (needs, coins-as, coins-few, coins-fit)
+  module _ (g : ℕ) (gate : Gate) (is : gate ≡ gateAt bs g) where
+    pub coins-input : (s : ℕ) → gate ≡ Input s → h .t ≡ length (coinOwnersAt (planOf bs) (gateAt bs g))
+    coins-input s e = rw (← is, e) (sym (coins-at-input s))
 
-pub in-few : (t : ℕ) (x : Gate) → t ≤ 7 → coinsIn t x ≤ 105
-unfolding coinsIn
-in-few t (Input s) l = omega arith
-in-few t (Add a b) l = omega arith
-in-few t (Scale a c) l = omega arith
-in-few t (Offset a c) l = omega arith
-in-few t (Multiply a b) l = coins-few t l
+    pub coins-add : (a b : ℕ) → gate ≡ Add a b → 0 ≡ length (coinOwnersAt (planOf bs) (gateAt bs g))
+    unfolding coinOwnersAt dealingsAt flatMap
+    coins-add a b e = rw (← is, e)
 
-pub coins-number : (plan : Plan) (x : Gate) → coinsIn (plan .t) x ≡ plan .t * length (dealersOf plan x)
-unfolding coinsIn dealersOf dealerCount
-coins-number plan (Input s) = omega arith
-coins-number plan (Add a b) = sym (mul-zero (plan .t))
-coins-number plan (Scale a c) = sym (mul-zero (plan .t))
-coins-number plan (Offset a c) = sym (mul-zero (plan .t))
-coins-number plan (Multiply a b) = rw length-tab
+    pub coins-scale : (a c : ℕ) → gate ≡ Scale a c → 0 ≡ length (coinOwnersAt (planOf bs) (gateAt bs g))
+    unfolding coinOwnersAt dealingsAt flatMap
+    coins-scale a c e = rw (← is, e)
+
+    pub coins-offset : (a c : ℕ) → gate ≡ Offset a c → 0 ≡ length (coinOwnersAt (planOf bs) (gateAt bs g))
+    unfolding coinOwnersAt dealingsAt flatMap
+    coins-offset a c e = rw (← is, e)
+
+    pub coins-multiply : (a b : ℕ) → gate ≡ Multiply a b → h .t * (h .t + h .t + 1) ≡ length (coinOwnersAt (planOf bs) (gateAt bs g))
+    coins-multiply a b e = rw (← is, e) (sym (coins-at-multiply a b))
+
+    pub coins-random : gate ≡ Random → h .t * h .n ≡ length (coinOwnersAt (planOf bs) (gateAt bs g))
+    coins-random e = rw (← is, e) (sym coins-at-random)
+
+    pub coins-spend : (a b : ℕ) → gate ≡ Spend a b → 0 ≡ length (coinOwnersAt (planOf bs) (gateAt bs g))
+    unfolding coinOwnersAt dealingsAt flatMap
+    coins-spend a b e = rw (← is, e)
+
+-- ---- how many they are
+module _ (bs : List ℕ) (h : Header) (k : Planned bs h) where
+  pub coins-few : h .t * (h .t + h .t + 1) ≤ 105
+  coins-few = mul-le-mul {n₂ = 7} {m₂ = 15} (omega (arith, k .majority, k .n-high)) (omega (arith, k .majority, k .n-high))
+
+  pub coins-fit : Fits w64 (h .t * (h .t + h .t + 1))
+  coins-fit = record { fits = omega (arith, coins-few) }
+
+  pub draws-few : h .t * h .n ≤ 105
+  draws-few = mul-le-mul {n₂ = 7} {m₂ = 15} (omega (arith, k .majority, k .n-high)) (k .n-high)
+
+  pub draws-fit : Fits w64 (h .t * h .n)
+  draws-fit = record { fits = omega (arith, draws-few) }
+
+pub ruleset taking-coins = (needs, coins-input, coins-add, coins-scale, coins-offset, coins-multiply, coins-random, coins-spend, coins-few, coins-fit, draws-few, draws-fit)

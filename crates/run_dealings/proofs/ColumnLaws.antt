@@ -1,5 +1,5 @@
 -- The grid of pieces.
---     column-sum                     the law of the grid: a column's sum is the share that the receiving party's own call works
+--     column-sum                     the law of the grid: a column's sum is the share that the receiving party's own call learns
 --     column-held, grid-reduced      what stands in a column of the dealt grid, and the law on it
 --     Columning, columning           the loop over the dealers: a column dealt, weighed and summed
 --     Gridding, gridding             the loop over the receivers
@@ -29,7 +29,8 @@ use Rattle.sharing.proofs.Coding.{entry-below, dot-canon, plain-dot, Summed, su
 use Rattle.sharing_laws.proofs.Interpolation.{length-weights}
 use Rattle.sharing_laws.proofs.Alls.{map-tab}
 use Rattle.plan.specs.Plans.{Plan, dealerCount, dealerPoints}
-use Rattle.seat_messages.specs.Messages.{reduced}
+use Rattle.plan.specs.declared.Step.the-variants.{DealProduct}
+use Rattle.seat_messages.specs.Messages.{learnt}
 use Rattle.run_dealings.specs.Rows.{powers, Powered}
 use Rattle.run_dealings.specs.Columns.{column, columnSum, received, ColumnSum, pieceBy, piecesBy, columnAt, shareAt, withColumn, withColumns}
 use Rattle.run_dealings.proofs.RowLaws.{Making, make-none, make-next, made}
@@ -37,8 +38,8 @@ use Rattle.run_dealings.proofs.PowerLaws.{length-powers, powers-below, 
 
 -- ---- the law of the grid
 pub column-sum : ColumnSum
-unfolding columnSum reduced
-column-sum plan grid j = plain-dot (plan .p) (weights (plan .p) 0 _) (received plan grid j)
+unfolding columnSum learnt
+column-sum plan grid j g a b triples shares = ap (set shares g) (plain-dot (plan .p) (weights (plan .p) 0 _) (received plan grid j))
 
 -- ---- a column set
 with-none : (j : ℕ) (grid : List (List ℕ)) → withColumn j [] grid ≡ grid
@@ -124,21 +125,22 @@ module _ (f : ℕ → List ℕ) (m : ℕ) (sized : (j : ℕ) → length (f j) �
       let lt : d < m = omega (arith, long) in
       getD-take m all d 0 lt ∙ List·getD-map (λ (row : List ℕ). getD row j 0) (withColumns f n grid) d [] ∙ entry-held n d j l lt (wide d lt))
 
--- the grid that the code leaves, of any polynomials: each receiver's sum is the share that its own call works from its column
+-- the grid that the code leaves, of any polynomials: each receiver's sum is the share that its own call learns from its column
 module _
     (plan : Plan) (k n : ℕ) (fs : List ℕ) (grid : List (List ℕ)) (rows : dealerCount plan ≤ length grid) (wide : (d : ℕ) → d < dealerCount plan → n ≤ length (getD grid d []))
     (many : dealerCount plan ≤ length (plan .points)) where
-  pub grid-reduced : (j : ℕ) → j < n
-      → shareAt (plan .p) k (weights (plan .p) 0 (dealerPoints plan)) fs (getD (plan .points) j 0)
-      ≡ reduced plan (received plan (withColumns (columnAt (plan .p) k (plan .points) fs (dealerCount plan)) n grid) j)
+  pub grid-reduced : (j g a b : ℕ) (triples shares : List ℕ) → j < n
+      → set shares g (shareAt (plan .p) k (weights (plan .p) 0 (dealerPoints plan)) fs (getD (plan .points) j 0))
+      ≡ learnt plan (DealProduct g a b) triples shares (received plan (withColumns (columnAt (plan .p) k (plan .points) fs (dealerCount plan)) n grid) j)
   unfolding shareAt columnAt piecesBy received dealerPoints
-  grid-reduced j l =
+  grid-reduced j g a b triples shares l =
       let ws : List ℕ = weights (plan .p) 0 (take (dealerCount plan) (plan .points)) in
       let long : length ws ≡ dealerCount plan = length-weights (plan .p) 0 (take (dealerCount plan) (plan .points)) ∙ length-take-le (dealerCount plan) (plan .points) many in
       let f : ℕ → List ℕ = λ i. tab (pieceBy (plan .p) k (powers (plan .p) (getD (plan .points) i 0) k) fs) (dealerCount plan) in
-      ap (λ (m : ℕ). columnSum (plan .p) ws (tab (pieceBy (plan .p) k (powers (plan .p) (getD (plan .points) j 0) k) fs) m)) long
-      ∙ ap (columnSum (plan .p) ws) (sym (column-held f (dealerCount plan) (λ i. length-tab _ (dealerCount plan)) grid rows n j l wide))
-      ∙ column-sum plan (withColumns f n grid) j
+      ap (set shares g)
+      (ap (λ (m : ℕ). columnSum (plan .p) ws (tab (pieceBy (plan .p) k (powers (plan .p) (getD (plan .points) j 0) k) fs) m)) long
+      ∙ ap (columnSum (plan .p) ws) (sym (column-held f (dealerCount plan) (λ i. length-tab _ (dealerCount plan)) grid rows n j l wide)))
+      ∙ column-sum plan (withColumns f n grid) j g a b triples shares
 
 -- ---- the loop over the dealers: d pieces of column j stand, and are summed
 pub record Columning (p : ℕ) (ws ps fs : List ℕ) (j : ℕ) (grid₀ grid : List (List ℕ)) (sum at d : ℕ) : Type 0 where

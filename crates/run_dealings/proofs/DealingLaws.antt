@@ -6,7 +6,7 @@
 use mathlib.Core.Path.{_≡_, refl, sym, ap, ap₂, _∙_, fun-ext}
 use mathlib.Core.Bool.{Bool, true, false}
 use mathlib.Core.List.{List, [], _∷_, _++_, map, flatMap}
-use Prim.Native.Nat.{ℕ, suc, _+_, _-_, _*_, _/_, _<_, _≤_}
+use Prim.Native.Nat.{ℕ, zero, suc, _+_, _-_, _*_, _/_, _<_, _≤_}
 use native.Mathlib.Nat.{mul-suc, mul-le-mul}
 use native.Mathlib.Omega.{arith}
 use borrow.Author.Needs.{needs}
@@ -18,8 +18,8 @@ use mir.Syntax.{w64}
 use mir.Val.{Fits}
 use Rattle.numbers.specs.Tables.{tab}
 use Rattle.numbers.specs.Bytes.{numbers, allBelow}
-use Rattle.numbers.proofs.Tables.{length-tab, getD-tab, tab-ext, tab-map, list-tab}
-use Rattle.numbers.proofs.Below.{allBelow-at, at-allBelow, allBelow-take, allBelow-drop}
+use Rattle.numbers.proofs.Tables.{length-tab, getD-tab, tab-ext, tab-map, list-tab, row-room}
+use Rattle.numbers.proofs.Below.{allBelow-at, at-allBelow, allBelow-take, allBelow-drop, append-below}
 use Rattle.numbers.proofs.Bytes.{numbers-length}
 use Rattle.field.specs.Mod.{mul}
 use Rattle.field.specs.Field.{Is, Ready}
@@ -33,13 +33,11 @@ use Rattle.sharing_laws.proofs.Elements.{padded-below}
 use Rattle.sharing_laws.proofs.Alls.{map-tab}
 use Rattle.sharing.proofs.Coding.{plain-dot}
 use Rattle.sharing_openings.proofs.Rows.{row-at}
-use Rattle.run_protocol.specs.Shares.{sharings}
-use Rattle.run_protocol.proofs.Below.{append-below}
-use Rattle.run_dealings.specs.Rows.{terms, powers, powerRows, productsOf, mixedAt, Powered, Weighted, Coined}
+use Rattle.run_dealings.specs.Rows.{terms, powers, powerRows, productsOf, sharedBy, mixedAt, Powered, Weighted, Coined}
 use Rattle.run_dealings.specs.Columns.{columnSum, pieceBy, piecesBy, shareAt}
-use Rattle.run_dealings.proofs.RowLaws.{take-drop, made}
+use Rattle.run_dealings.proofs.RowLaws.{part-front, made}
 use Rattle.run_dealings.proofs.PowerLaws.{eval-powers, rows-flat}
-use Rattle.run_dealings.proofs.PolynomialLaws.{length-sharings, sharing-short, below-cons, length-padded, polynomialAt, terms-few, terms-many}
+use Rattle.run_dealings.proofs.PolynomialLaws.{length-shared, shared-short, below-cons, length-padded, polynomialAt, terms-few, terms-many}
 use Rattle.run_dealings.proofs.ColumnLaws.{Rowing, rowing, row-none, row-next, row-is, row-long}
 
 -- ---- the count of coefficients
@@ -147,28 +145,31 @@ module _ (t k : ℕ) (e : k ≡ terms t) where
 pub ruleset sharing-by = (needs, above-one, terms-few, terms-many, powered-by, room-by, shares-by)
 
 -- what stands below p
-pub shared-below : (p t k : ℕ) → 0 < p → (vs cs : List ℕ) → allBelow p vs ≡ true → allBelow p (take (t * length vs) cs) ≡ true → allBelow p (flatMap (padded k) (sharings t vs cs)) ≡ true
-unfolding sharings flatMap allBelow
-shared-below p t k above [] cs hv hc = refl
-shared-below p t k above (v ∷ vs) cs hv hc =
-    let all : t * suc (length vs) ≡ t + t * length vs = omega (arith, mul-suc t (length vs)) in
-    let both : allBelow p (take (t + t * length vs) cs) ≡ true = rw all at hc in
-    let first : allBelow p (take t cs) ≡ true = rw (take-take t (t + t * length vs) cs (omega arith)) at (allBelow-take p t (take (t + t * length vs) cs) both) in
-    append-below p (padded k (v ∷ take t cs)) (flatMap (padded k) (sharings t vs (drop t cs)))
-    (padded-below p above k (v ∷ take t cs) (below-cons p v (take t cs) (allBelow-at p (v ∷ vs) 0 hv (omega arith)) first))
-    (shared-below p t k above vs (drop t cs) (allBelow-drop p 1 (v ∷ vs) hv) (rw (take-drop cs t (t * length vs)) (allBelow-drop p t (take (t + t * length vs) cs) both)))
+tab-below : (p : ℕ) (F : List ℕ → List ℕ) (f : ℕ → List ℕ) (n : ℕ) → ((i : ℕ) → i < n → allBelow p (F (f i)) ≡ true) → allBelow p (flatMap F (tab f n)) ≡ true
+unfolding tab flatMap allBelow
+tab-below p F f zero h = refl
+tab-below p F f (suc n) h = append-below p (F (f 0)) (flatMap F (tab (λ i. f (suc i)) n)) (h 0 (omega arith)) (tab-below p F (λ i. f (suc i)) n (λ i l. h (suc i) (omega arith)))
+
+pub shared-below : (p t k : ℕ) → 0 < p → (vs cs : List ℕ) → allBelow p vs ≡ true → allBelow p (take (t * length vs) cs) ≡ true → allBelow p (flatMap (padded k) (sharedBy t vs cs)) ≡ true
+unfolding sharedBy
+shared-below p t k above vs cs hv hc =
+    tab-below p (padded k) (λ d. getD vs d 0 ∷ take t (drop (t * d) cs)) (length vs)
+    (λ i l.
+    let own : allBelow p (take t (drop (t * i) cs)) ≡ true =
+    rw (part-front cs (t * length vs) (t * i) t (row-room t i (length vs) l)) (allBelow-take p t _ (allBelow-drop p (t * i) (take (t * length vs) cs) hc)) in
+    padded-below p above k (getD vs i 0 ∷ take t (drop (t * i) cs)) (below-cons p (getD vs i 0) (take t (drop (t * i) cs)) (allBelow-at p vs i hv l) own))
 
 -- the sum of a column is the weighted sum of the polynomials' values at its point
 module _ (p t k : ℕ) (ws vs cs : List ℕ) (wide : t < k) (many : length vs ≡ length ws) (x : ℕ) where
   fs : List (List ℕ)
-  fs = sharings t vs cs
+  fs = sharedBy t vs cs
 
   each : (i : ℕ) → length (polynomialAt t k vs cs i) ≡ k
-  each i = length-padded k (getD (sharings t vs cs) i []) (omega (arith, sharing-short t vs cs i))
+  each i = length-padded k (getD (sharedBy t vs cs) i []) (omega (arith, shared-short t vs cs i))
 
   in-rows : flatMap (padded k) fs ≡ rowsOf (polynomialAt t k vs cs) (length ws)
   unfolding fs
-  in-rows = sym (ap (rowsOf (polynomialAt t k vs cs)) (sym (length-sharings t vs cs ∙ many)) ∙ rows-flat (padded k) [] (sharings t vs cs))
+  in-rows = sym (ap (rowsOf (polynomialAt t k vs cs)) (sym (length-shared t vs cs ∙ many)) ∙ rows-flat (padded k) [] (sharedBy t vs cs))
 
   piece-is : (d : ℕ) → d < length ws → pieceBy p k (powers p x k) (flatMap (padded k) fs) d ≡ eval p (getD fs d []) x
   unfolding pieceBy fs
@@ -178,15 +179,15 @@ module _ (p t k : ℕ) (ws vs cs : List ℕ) (wide : t < k) (many : length vs �
       ∙ ap (dot p (powers p x k)) (row-at (polynomialAt t k vs cs) k each (length ws) d l)
       ∙ ap (λ (n : ℕ). dot p (powers p x n) f) (sym (each d))
       ∙ eval-powers p f x
-      ∙ eval-padded p k (getD (sharings t vs cs) d []) x
+      ∙ eval-padded p k (getD (sharedBy t vs cs) d []) x
 
-  pub shares-mixed : shareAt p k ws (flatMap (padded k) (sharings t vs cs)) x ≡ mixedAt p ws (sharings t vs cs) x
+  pub shares-mixed : shareAt p k ws (flatMap (padded k) (sharedBy t vs cs)) x ≡ mixedAt p ws (sharedBy t vs cs) x
   unfolding shareAt columnSum piecesBy mixedAt fs
   shares-mixed =
       plain-dot p ws _
       ∙ ap (dot p ws)
       (tab-ext _ _ (length ws) piece-is
-      ∙ sym (ap (map (λ f. eval p f x)) (list-tab fs []) ∙ tab-map (λ f. eval p f x) (λ i. getD fs i []) (length fs) ∙ ap (tab (λ i. eval p (getD fs i []) x)) (length-sharings t vs cs ∙ many)))
+      ∙ sym (ap (map (λ f. eval p f x)) (list-tab fs []) ∙ tab-map (λ f. eval p f x) (λ i. getD fs i []) (length fs) ∙ ap (tab (λ i. eval p (getD fs i []) x)) (length-shared t vs cs ∙ many)))
 
 module _ (p n m a b : ℕ) (table : List ℕ) where
   of-below : Ready p → allBelow p (productsOf p n m a b table) ≡ true
@@ -244,7 +245,7 @@ module _ (t k : ℕ) (few : t < 8) (e : k ≡ terms t) (ws points : List ℕ) (l
       dealt-room = rw (ys-sized, e) (omega arith)
 
       module _
-          (p at n x y : ℕ) (vs coins table : List ℕ) (many : length vs ≡ 15) (is : ys ≡ flatMap (padded k) (sharings t (take (length ws) vs) (drop at (numbers coins))))
+          (p at n x y : ℕ) (vs coins table : List ℕ) (many : length vs ≡ 15) (is : ys ≡ flatMap (padded k) (sharedBy t (take (length ws) vs) (drop at (numbers coins))))
           (products : take (length ws) vs ≡ productsOf p n (length ws) x y table) where
         pub dealt-elements : Ready p → Coined p t (length ws) at (numbers coins) → allBelow p (take (k * length ws) (ys ++ drop (k * length ws) d)) ≡ true
         dealt-elements r c =
@@ -252,12 +253,12 @@ module _ (t k : ℕ) (few : t < 8) (e : k ≡ terms t) (ws points : List ℕ) (l
             (shared-below p t k (pos (r .prime)) (take (length ws) vs) (drop at (numbers coins)) (rw products (of-below p n (length ws) x y table r)) (rw (values-long ws points lw lp vs many) (c .below)))
 
         pub row-mixed : (i : ℕ) (row : List ℕ) → take i row ≡ map (shareAt p (terms t) ws (take (k * length ws) (ys ++ drop (k * length ws) d))) points
-            → take i row ≡ map (mixedAt p ws (sharings t (productsOf p n (length ws) x y table) (drop at (numbers coins)))) points
+            → take i row ≡ map (mixedAt p ws (sharedBy t (productsOf p n (length ws) x y table) (drop at (numbers coins)))) points
         row-mixed i row r =
             r
             ∙ ap₂ (λ (j : ℕ) (fs : List ℕ). map (shareAt p j ws fs) points) (sym e) (ys-front ∙ is)
             ∙ ap (λ (h : ℕ → ℕ). map h points) (fun-ext (λ z. shares-mixed p t k ws (take (length ws) vs) (drop at (numbers coins)) (terms-above t k few e) (values-long ws points lw lp vs many) z))
-            ∙ ap (λ (ss : List ℕ). map (mixedAt p ws (sharings t ss (drop at (numbers coins)))) points) products
+            ∙ ap (λ (ss : List ℕ). map (mixedAt p ws (sharedBy t ss (drop at (numbers coins)))) points) products
 
 pub few-weights : (ws points : List ℕ) → length ws ≤ length points → length points ≤ 15 → length ws ≤ 15
 few-weights ws points lw lp = omega arith

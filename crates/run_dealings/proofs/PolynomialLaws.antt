@@ -1,53 +1,50 @@
 -- The polynomials of dealings: the dealt value and its coins, read from the list of all coins.
---     sharing-at, length-sharings      the polynomial of one dealing
+--     shared-at, length-shared      the polynomial of one dealing
 --     coefficients                     one coefficient
 --     padding                          the loop over the coefficients
 --     Sharing, sharing                 the loop over the dealings
 -- Assumes nothing.
 use mathlib.Core.Path.{_≡_, refl, sym, ap, ap₂, _∙_}
-use mathlib.Core.Bool.{true}
+use mathlib.Core.Bool.{Bool, true, false}
 use mathlib.Core.List.{List, [], _∷_, _++_, flatMap}
 use Prim.Native.Nat.{ℕ, zero, suc, _+_, _-_, _*_, _/_, _^_, _<_, _≤_}
 use native.Mathlib.Numerals.{add-one}
 use native.Mathlib.Nat.{mul-suc, mul-zero, add-zero}
 use native.Mathlib.Omega.{arith}
 use borrow.Author.Needs.{needs}
-use borrow.Author.Tests.{lt-ltb, le-ltb}
+use borrow.Author.Tests.{ltb-true, ltb-false, lt-ltb, le-ltb}
+use lib.Dec.{ltb}
 use lib.ListN.{length, take, drop, getD, replicate, length-append, length-take, length-replicate, List·getD-eq-default}
 use lib.Seq.{getD-take, getD-drop, drop-drop}
 use mir.Syntax.{w64}
 use mir.Val.{Fits}
 use Rattle.numbers.specs.Tables.{tab}
 use Rattle.numbers.specs.Bytes.{numbers, allBelow}
-use Rattle.numbers.proofs.Tables.{tab-cons, tab-replicate, row-room}
+use Rattle.numbers.proofs.Tables.{length-tab, getD-tab, tab-cons, tab-replicate, row-room}
 use Rattle.numbers.proofs.Fills.{Filled, filling, filled}
 use Rattle.sharing_laws.specs.Poly.{padded}
 use Rattle.sharing_laws.specs.Sharing.{rowsOf}
 use Rattle.sharing_openings.proofs.Rows.{Written, none-written, room, piece-long, written-next, written-done}
-use Rattle.run_protocol.specs.Shares.{sharings}
-use Rattle.run_dealings.specs.Rows.{terms}
+use Rattle.run_dealings.specs.Rows.{terms, sharedBy}
 use Rattle.run_dealings.proofs.PowerLaws.{rows-flat}
 
 -- ---- the polynomials of dealings
-pub length-sharings : (t : ℕ) (ss cs : List ℕ) → length (sharings t ss cs) ≡ length ss
-unfolding sharings
-length-sharings t [] cs = refl
-length-sharings t (s ∷ ss) cs = ap suc (length-sharings t ss (drop t cs))
+module _ (t : ℕ) (vs cs : List ℕ) where
+  pub length-shared : length (sharedBy t vs cs) ≡ length vs
+  unfolding sharedBy
+  length-shared = length-tab (λ d. getD vs d 0 ∷ take t (drop (t * d) cs)) (length vs)
 
-pub sharing-at : (t : ℕ) (ss cs : List ℕ) (i : ℕ) → i < length ss → getD (sharings t ss cs) i [] ≡ getD ss i 0 ∷ take t (drop (t * i) cs)
-unfolding sharings
-sharing-at t [] cs i l = absurd (omega arith)
-sharing-at t (s ∷ ss) cs zero l = rw (mul-zero t)
-sharing-at t (s ∷ ss) cs (suc i) l =
-    let e : t * suc i ≡ t + t * i = omega (arith, mul-suc t i) in
-    sharing-at t ss (drop t cs) i (omega arith) ∙ ap (λ (l : List ℕ). getD ss i 0 ∷ take t l) (drop-drop (t * i) t cs ∙ ap (λ (k : ℕ). drop k cs) (sym e))
+  pub shared-at : (i : ℕ) → i < length vs → getD (sharedBy t vs cs) i [] ≡ getD vs i 0 ∷ take t (drop (t * i) cs)
+  unfolding sharedBy
+  shared-at i l = getD-tab (λ d. getD vs d 0 ∷ take t (drop (t * d) cs)) (length vs) i [] l
 
--- each has a value and at most t coins
-pub sharing-short : (t : ℕ) (ss cs : List ℕ) (i : ℕ) → length (getD (sharings t ss cs) i []) ≤ t + 1
-unfolding sharings
-sharing-short t [] cs i = omega arith
-sharing-short t (s ∷ ss) cs zero = omega (arith, length-take t cs)
-sharing-short t (s ∷ ss) cs (suc i) = sharing-short t ss (drop t cs) i
+  -- each has a value and at most t coins
+  shared-by : (i : ℕ) (b : Bool) → ltb i (length vs) ≡ b → length (getD (sharedBy t vs cs) i []) ≤ t + 1
+  shared-by i true e = rw (shared-at i (ltb-true i (length vs) e)) (omega (arith, length-take t (drop (t * i) cs)))
+  shared-by i false e = rw (List·getD-eq-default (sharedBy t vs cs) [] {n = i} (omega (arith, length-shared, ltb-false i (length vs) e))) (omega arith)
+
+  pub shared-short : (i : ℕ) → length (getD (sharedBy t vs cs) i []) ≤ t + 1
+  shared-short i = shared-by i (ltb i (length vs)) refl
 
 -- ---- lists of elements
 pub below-cons : (p x : ℕ) (xs : List ℕ) → x < p → allBelow p xs ≡ true → allBelow p (x ∷ xs) ≡ true
@@ -102,7 +99,7 @@ length-padded n f l = length-append f (replicate (n - length f) 0) ∙ omega (ar
 -- ---- the loop over the dealings: d polynomials stand, and `place` is past their coins
 -- polynomial i, with k coefficients
 abbrev pub polynomialAt : ℕ → ℕ → List ℕ → List ℕ → ℕ → List ℕ
-polynomialAt t k vs cs i = padded k (getD (sharings t vs cs) i [])
+polynomialAt t k vs cs i = padded k (getD (sharedBy t vs cs) i [])
 
 pub record Sharing (t k : ℕ) (vs coins : List ℕ) (at : ℕ) (d₀ d : List ℕ) (place from i : ℕ) : Type 0 where
   pub taken : place ≡ at + t * i
@@ -141,16 +138,16 @@ module _ (t k : ℕ) (vs coins : List ℕ) (at : ℕ) where
         written = written-next (h .written) l ys kept (is ∙ ap₂ padded (piece-long (h .written) l) polynomial-is);
       }
         where
-          polynomial-is : getD vs i 0 ∷ take t (drop place (numbers coins)) ≡ getD (sharings t vs (drop at (numbers coins))) i []
+          polynomial-is : getD vs i 0 ∷ take t (drop place (numbers coins)) ≡ getD (sharedBy t vs (drop at (numbers coins))) i []
           polynomial-is =
-              sym (sharing-at t vs (drop at (numbers coins)) i l
+              sym (shared-at t vs (drop at (numbers coins)) i l
               ∙ ap (λ (r : List ℕ). getD vs i 0 ∷ take t r) (drop-drop (t * i) at (numbers coins) ∙ ap (λ (n : ℕ). drop n (numbers coins)) (sym (h .taken))))
 
-    pub all-shared : length vs ≤ i → d ≡ flatMap (padded k) (sharings t vs (drop at (numbers coins)))
+    pub all-shared : length vs ≤ i → d ≡ flatMap (padded k) (sharedBy t vs (drop at (numbers coins)))
     all-shared l =
         written-done _ k (length vs) d₀ d from i l (h .written)
-        ∙ ap (rowsOf (polynomialAt t k vs (drop at (numbers coins)))) (sym (length-sharings t vs (drop at (numbers coins))))
-        ∙ rows-flat (padded k) [] (sharings t vs (drop at (numbers coins)))
+        ∙ ap (rowsOf (polynomialAt t k vs (drop at (numbers coins)))) (sym (length-shared t vs (drop at (numbers coins))))
+        ∙ rows-flat (padded k) [] (sharedBy t vs (drop at (numbers coins)))
 
 pub ruleset sharing = (needs, share-none, share-room, share-end-fits, share-start-fits, share-wide, share-coins, share-place-fits, share-next, all-shared)
 

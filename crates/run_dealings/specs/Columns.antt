@@ -6,7 +6,8 @@ use lib.ListN.{length, take, drop, getD, set}
 use Rattle.numbers.specs.Tables.{tab}
 use Rattle.sharing_laws.specs.Interp.{weights, dot, plainSum}
 use Rattle.plan.specs.Plans.{Plan, dealerCount, dealerPoints}
-use Rattle.seat_messages.specs.Messages.{reduced}
+use Rattle.plan.specs.declared.Step.the-variants.{DealProduct}
+use Rattle.seat_messages.specs.Messages.{learnt}
 use Rattle.run_dealings.specs.Rows.{powers}
 
 -- a column: in it what each row gives to one receiver
@@ -22,11 +23,12 @@ unfoldable pub received : Plan → List (List ℕ) → ℕ → List ℕ
 received plan grid j = take (dealerCount plan) (column grid j)
 
 -- The law of the grid, proved as `column-sum` in proofs/ColumnLaws.antt: for any pieces below p, those of a run or others, the sum of a column is
--- the share that the receiving party's own call works from the column's pieces. (The equation holds for pieces that are not below p, too.)
+-- the share that the receiving party's own call learns from the column's pieces. (The equation holds for pieces that are not below p, too.)
 abbrev pub ColumnSum : Type 0
 ColumnSum =
-    (plan : Plan) (grid : List (List ℕ)) (j : ℕ)
-    → columnSum (plan .p) (weights (plan .p) 0 (dealerPoints plan)) (received plan grid j) ≡ reduced plan (received plan grid j)
+    (plan : Plan) (grid : List (List ℕ)) (j g a b : ℕ) (triples shares : List ℕ)
+    → set shares g (columnSum (plan .p) (weights (plan .p) 0 (dealerPoints plan)) (received plan grid j))
+    ≡ learnt plan (DealProduct g a b) triples shares (received plan grid j)
 
 -- ---- what the code deals
 -- the piece of polynomial d at the point with these powers; the polynomials stand one after the other, k coefficients each

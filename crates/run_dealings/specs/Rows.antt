@@ -6,17 +6,16 @@ use mathlib.Core.List.{List, [], _∷_, _++_, map, flatMap}
 use lib.Dec.{ltb}
 use lib.ListN.{length, take, drop, getD}
 use Rattle.numbers.specs.Tables.{tab}
-use Rattle.numbers.specs.Bytes.{numbers, allBelow}
+use Rattle.numbers.specs.Bytes.{width, numbers, allBelow}
 use Rattle.field.specs.Mod.{mul}
 use Rattle.sharing_laws.specs.Poly.{eval}
 use Rattle.sharing_laws.specs.Interp.{weights, dot}
 use Rattle.field.specs.Field.{Ready}
 use Rattle.plan.specs.declared.Gate.{Gate}
-use Rattle.plan.specs.declared.Gate.the-variants.{Input, Add, Scale, Offset, Multiply}
 use Rattle.plan.specs.declared.Header.{Header}
-use Rattle.plan.specs.Plans.{Plan, inputCount, coinCount}
+use Rattle.plan.specs.Plans.{Plan, inputCount, coinCount, coinOwnersAt}
 use Rattle.plan.specs.File.{planOf}
-use Rattle.run_protocol.specs.Shares.{gateShare, coinsTaken}
+use Rattle.run_protocol.specs.Shares.{Before, gateShare, past}
 
 -- the rows of these wires, one after the other: each wire's shares at the points
 unfoldable pub rowsOf : List ℕ → List (ℕ → ℕ) → List ℕ
@@ -39,6 +38,10 @@ powerRows p m points = flatMap (λ x. powers p x m) points
 unfoldable pub productsOf : ℕ → ℕ → ℕ → ℕ → ℕ → List ℕ → List ℕ
 productsOf p n m a b table = tab (λ j. mul p (getD table (n * a + j) 0) (getD table (n * b + j) 0)) m
 
+-- the polynomials of dealings of these values with t coins each
+unfoldable pub sharedBy : ℕ → List ℕ → List ℕ → List (List ℕ)
+sharedBy t vs cs = tab (λ d. getD vs d 0 ∷ take t (drop (t * d) cs)) (length vs)
+
 -- the weighted sum of the values of these polynomials at x
 unfoldable pub mixedAt : ℕ → List ℕ → List (List ℕ) → ℕ → ℕ
 mixedAt p ws fs x = dot p ws (map (λ f. eval p f x) fs)
@@ -46,14 +49,6 @@ mixedAt p ws fs x = dot p ws (map (λ f. eval p f x) fs)
 -- how many coefficients a dealing of t coins is worked with, for t below 8
 unfoldable pub terms : ℕ → ℕ
 terms t = cond (ltb t 4) 4 8
-
--- the coins that a gate takes, t for each of its dealers
-unfoldable pub coinsIn : ℕ → Gate → ℕ
-coinsIn t (Input s) = t
-coinsIn t (Add a b) = 0
-coinsIn t (Scale a c) = 0
-coinsIn t (Offset a c) = 0
-coinsIn t (Multiply a b) = t * (t + t + 1)
 
 -- the bounds of a plan's contents
 pub record Sized (h : Header) : Type 0 where
@@ -97,21 +92,27 @@ pub record Standing (p n g : ℕ) (table : List ℕ) : Type 0 where
 
 -- the coins that a gate takes, from place `at` on, are there and below p
 pub record Taking (plan : Plan) (gate : Gate) (at : ℕ) (cs : List ℕ) : Type 0 where
-  pub room : at + coinsTaken plan gate ≤ length cs
-  pub below : allBelow (plan .p) (take (coinsTaken plan gate) (drop at cs)) ≡ true
+  pub room : at + length (coinOwnersAt plan gate) ≤ length cs
+  pub below : allBelow (plan .p) (take (length (coinOwnersAt plan gate)) (drop at cs)) ≡ true
 
--- the row of gate g's wire, where the rows of the wires below g stand
-pub record Worked (plan : Plan) (n : ℕ) (gate : Gate) (g x : ℕ) (cs table row : List ℕ) : Type 0 where
-  pub is : (env : List (ℕ → ℕ)) → take (n * g) table ≡ rowsOf (plan .points) env → take n row ≡ map (gateShare plan gate env x cs) (plan .points)
+-- what stands before gate g, where the rows of the wires below g stand in the table, and xs and cs are the inputs and the coins from gate g on
+pub record Holds (plan : Plan) (n g : ℕ) (xs cs table : List ℕ) (s : Before) : Type 0 where
+  pub rows : take (n * g) table ≡ rowsOf (plan .points) (s .env)
+  pub inputs : s .inputs ≡ xs
+  pub coins : s .coins ≡ cs
 
--- a step over gate g: where the rows of the wires below g stand, the rows of those wires and of wire g stand afterwards
-pub record Stepped (plan : Plan) (n : ℕ) (gate : Gate) (g x : ℕ) (cs old new : List ℕ) : Type 0 where
-  pub next : (env : List (ℕ → ℕ)) → take (n * g) old ≡ rowsOf (plan .points) env → take (n * (g + 1)) new ≡ rowsOf (plan .points) (env ++ (gateShare plan gate env x cs ∷ []))
+-- the row of gate g's wire
+pub record Worked (plan : Plan) (n : ℕ) (gate : Gate) (g : ℕ) (xs cs table row : List ℕ) : Type 0 where
+  pub is : (s : Before) → Holds plan n g xs cs table s → take n row ≡ map (gateShare plan gate s) (plan .points)
+
+-- a step over gate g: the rows of the wires below g and of wire g stand afterwards
+pub record Stepped (plan : Plan) (n : ℕ) (gate : Gate) (g : ℕ) (xs cs old new : List ℕ) : Type 0 where
+  pub next : (s : Before) → Holds plan n g xs cs old s → take (n * (g + 1)) new ≡ rowsOf (plan .points) (past plan gate s .env)
   pub rest : drop (n * (g + 1)) new ≡ drop (n * (g + 1)) old
 
 -- what a run is given: a full list of inputs and a full setting of coins, lent as bytes
 pub record Given (plan : Plan) (inputs coins : List ℕ) : Type 0 where
-  pub inputs-count : length inputs ≡ 2 * inputCount plan
+  pub inputs-count : length inputs ≡ width * inputCount plan
   pub inputs-below : allBelow (plan .p) (numbers inputs) ≡ true
-  pub coins-count : length coins ≡ 2 * coinCount plan
+  pub coins-count : length coins ≡ width * coinCount plan
   pub coins-below : allBelow (plan .p) (numbers coins) ≡ true

@@ -1,16 +1,19 @@
 // Dealings of a run, for all receiving parties at once: the rows of inputs and of multiply gates.
 use field::Field;
 use plan::Gate;
+use plan::Header;
 ghost use mathlib.Core.Path.{_≡_};
 ghost use mathlib.Core.Bool.{true};
 ghost use mathlib.Core.List.{_∷_, map, flatMap};
 ghost use Prim.Native.Nat.{_+_, _-_, _*_, _/_, _<_, _≤_};
 ghost use lib.ListN.{length, take, drop, getD, replicate};
-ghost use Rattle.numbers.specs.Bytes.{numbers, allBelow};
+ghost use Rattle.numbers.specs.Bytes.{width, numbers, allBelow};
 ghost use Rattle.field.specs.Field.{Is, reciprocal, Ready};
 ghost use Rattle.sharing_laws.specs.Poly.{eval, padded};
-ghost use Rattle.run_protocol.specs.Shares.{sharings};
-ghost use Rattle.run_dealings.specs.Rows.{terms, powers, powerRows, productsOf, mixedAt, Powered, Weighted, Coined, Rowed, coinsIn};
+ghost use Rattle.plan.specs.Plans.{coinOwnersAt};
+ghost use Rattle.plan.specs.File.{gateAt, planOf};
+ghost use Rattle.plan.specs.Planned.{Planned};
+ghost use Rattle.run_dealings.specs.Rows.{terms, powers, powerRows, productsOf, sharedBy, mixedAt, Powered, Weighted, Coined, Rowed};
 ghost use Rattle.run_dealings.specs.Columns.{piecesBy, columnAt, columnSum, shareAt, withColumn, withColumns};
 
 // ---- what is worked out once for a plan
@@ -81,7 +84,7 @@ pub fn prepare(f: Field, t: usize, points: &[u64], rows: &mut [u64], weights: &m
 
 // Coefficient i of a dealing's polynomial: the dealt value, then t coins from one place of the list on, then 0.
 fn coefficient(value: u64, coins: &[u8], at: usize, t: usize, i: usize) -> u64
-    requires { ⌜ at + t ≤ length (now coins) / 2 ⌝ }
+    requires { ⌜ at + t ≤ length (now coins) / width ⌝ }
     ensures { λ r. ⌜ r ≡ getD (value ∷ take t (drop at (numbers (now (coins .entry))))) i 0 ⌝ }
 {
     if i == 0 {
@@ -95,7 +98,7 @@ fn coefficient(value: u64, coins: &[u8], at: usize, t: usize, i: usize) -> u64
 
 // The polynomial of a dealing, with as many coefficients as there is room for.
 fn polynomial(value: u64, coins: &[u8], at: usize, t: usize, out: &mut [u64])
-    requires { ⌜ at + t ≤ length (now coins) / 2 ⌝ }
+    requires { ⌜ at + t ≤ length (now coins) / width ⌝ }
     requires { ⌜ t < length (now out) ⌝ }
     ensures { λ _. ⌜ now (out .exit) ≡ padded (length (now (out .entry))) (value ∷ take t (drop at (numbers (now (coins .entry))))) ⌝ }
 {
@@ -109,9 +112,9 @@ fn polynomial(value: u64, coins: &[u8], at: usize, t: usize, out: &mut [u64])
 // The polynomials of the dealings of these values, each with its own t coins and k coefficients, one after the other.
 fn polynomials(t: usize, k: usize, values: &[u64], coins: &[u8], at: usize, out: &mut [u64])
     requires { ⌜ t < k ⌝ }
-    requires { ⌜ at + t * length (now values) ≤ length (now coins) / 2 ⌝ }
+    requires { ⌜ at + t * length (now values) ≤ length (now coins) / width ⌝ }
     requires { ⌜ length (now out) ≡ k * length (now values) ⌝ }
-    ensures { λ _. ⌜ now (out .exit) ≡ flatMap (padded k) (sharings t (now (values .entry)) (drop at (numbers (now (coins .entry))))) ⌝ }
+    ensures { λ _. ⌜ now (out .exit) ≡ flatMap (padded k) (sharedBy t (now (values .entry)) (drop at (numbers (now (coins .entry))))) ⌝ }
 {
     let mut place = at;
     let mut from: usize = 0;
@@ -259,7 +262,7 @@ pub fn multiply_row(
     requires { ⌜ Coined (f .p) t (length (now weights)) at (numbers (now coins)) ⌝ }
     requires { ⌜ Rowed (f .p) (length (now points)) a (now table) ⌝ }
     requires { ⌜ Rowed (f .p) (length (now points)) b (now table) ⌝ }
-    ensures { λ r. ⌜ take (length (now (points .entry))) r ≡ map (mixedAt (f .p) (now (weights .entry)) (sharings t (productsOf (f .p) (length (now (points .entry))) (length (now (weights .entry))) a b (now (table .entry))) (drop at (numbers (now (coins .entry)))))) (now (points .entry)) ⌝ }
+    ensures { λ r. ⌜ take (length (now (points .entry))) r ≡ map (mixedAt (f .p) (now (weights .entry)) (sharedBy t (productsOf (f .p) (length (now (points .entry))) (length (now (weights .entry))) a b (now (table .entry))) (drop at (numbers (now (coins .entry)))))) (now (points .entry)) ⌝ }
 {
     let dealers = weights.len();
     let products = products(f, points.len(), dealers, a, b, table);
@@ -317,16 +320,19 @@ pub fn input_row(
     dealing(f, points, rows, &dealt[..k])
 }
 
-// The coins that a gate takes from the list of all.
-pub fn coins_taken(t: usize, gate: Gate) -> usize
-    requires { ⌜ t ≤ 7 ⌝ }
-    ensures { λ r. ⌜ record { eq : r ≡ coinsIn t gate; most : r ≤ 105 } ⌝ }
+// The coins that gate g takes from the list of all.
+pub fn coins_taken(plan: &[u8], h: Header, g: usize) -> usize
+    requires { ⌜ Planned (now plan) h ⌝ }
+    ensures { λ r. ⌜ record { eq : r ≡ length (coinOwnersAt (planOf (now (plan .entry))) (gateAt (now (plan .entry)) g)); most : r ≤ 105 } ⌝ }
 {
-    match gate {
+    let t = h.t;
+    match plan::gate_at(plan, g) {
         Gate::Input(_) => t,
         Gate::Add(_, _) => 0,
         Gate::Scale(_, _) => 0,
         Gate::Offset(_, _) => 0,
         Gate::Multiply(_, _) => t * (t + t + 1),
+        Gate::Random => t * h.n,
+        Gate::Spend(_, _) => 0,
     }
 }

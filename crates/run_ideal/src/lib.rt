@@ -4,23 +4,26 @@ use plan::Header;
 ghost use mathlib.Core.Path.{_≡_};
 ghost use mathlib.Core.Bool.{true};
 ghost use Prim.Native.Nat.{_<_, _≤_};
-ghost use lib.ListN.{length, getD, take};
+ghost use lib.ListN.{length, getD, take, drop};
 ghost use Rattle.numbers.specs.Bytes.{numbers, allBelow};
-ghost use Rattle.field.specs.Field.{Is, Ready};
-ghost use Rattle.plan.specs.File.{gateOk, planOf};
+ghost use Rattle.field.specs.Field.{Is};
+ghost use Rattle.plan.specs.File.{gateAt, planOf};
 ghost use Rattle.plan.specs.Planned.{Planned};
 ghost use Rattle.run_protocol.specs.Ideal.{inputsTaken, gateValue, values};
 
-// The inputs that a gate takes.
-pub fn inputs_taken(gate: Gate) -> usize
-    ensures { λ r. ⌜ record { eq : r ≡ inputsTaken gate; le : r ≤ 1 } ⌝ }
+// The inputs that gate g takes from the list of all.
+pub fn inputs_taken(plan: &[u8], h: Header, g: usize) -> usize
+    requires { ⌜ Planned (now plan) h ⌝ }
+    ensures { λ r. ⌜ record { eq : r ≡ inputsTaken (planOf (now (plan .entry))) (gateAt (now (plan .entry)) g); le : r ≤ 15 } ⌝ }
 {
-    match gate {
+    match plan::gate_at(plan, g) {
         Gate::Input(_) => 1,
         Gate::Add(_, _) => 0,
         Gate::Scale(_, _) => 0,
         Gate::Offset(_, _) => 0,
         Gate::Multiply(_, _) => 0,
+        Gate::Random => h.n,
+        Gate::Spend(_, _) => 0,
     }
 }
 
@@ -34,21 +37,23 @@ pub fn wire(wires: &[u64], w: usize) -> u64
     0
 }
 
-// The value of a gate's wire, from the values of the wires before it and the next input.
-fn gate_value(h: Header, g: usize, gate: Gate, x: u64, wires: &[u64]) -> u64
-    requires { ⌜ Ready (h .field .p) ⌝ }
-    requires { ⌜ gateOk (h .n) (h .field .p) g gate ≡ true ⌝ }
+// The value of gate g's wire, from the values of the wires before it and the inputs from place `next` on. No plan file has a random wire.
+fn gate_value(plan: &[u8], h: Header, g: usize, inputs: &[u8], next: usize, wires: &[u64]) -> u64
+    requires { ⌜ Planned (now plan) h ⌝ }
+    requires { ⌜ g < h .gates ⌝ }
+    requires { ⌜ allBelow (h .field .p) (numbers (now inputs)) ≡ true ⌝ }
     requires { ⌜ allBelow (h .field .p) (now wires) ≡ true ⌝ }
-    requires { ⌜ x < h .field .p ⌝ }
-    ensures { λ r. ⌜ Is (h .field .p) (gateValue (h .field .p) gate (now (wires .entry)) x) r ⌝ }
+    ensures { λ r. ⌜ Is (h .field .p) (gateValue (planOf (now (plan .entry))) (gateAt (now (plan .entry)) g) (now (wires .entry)) (drop next (numbers (now (inputs .entry))))) r ⌝ }
 {
     let f = h.field;
-    match gate {
-        Gate::Input(_) => x,
+    match plan::gate_at(plan, g) {
+        Gate::Input(_) => numbers::read(inputs, next),
         Gate::Add(a, b) => f.add(wire(wires, a), wire(wires, b)),
         Gate::Scale(a, c) => f.mul(wire(wires, a), c),
         Gate::Offset(a, c) => f.add(wire(wires, a), c),
         Gate::Multiply(a, b) => f.mul(wire(wires, a), wire(wires, b)),
+        Gate::Random => 0,
+        Gate::Spend(a, b) => f.mul(wire(wires, a), wire(wires, b)),
     }
 }
 
@@ -63,11 +68,9 @@ pub fn values(plan: &[u8], h: Header, inputs: &[u8], wires: &mut [u64])
     let mut next: usize = 0;
     let mut g: usize = 0;
     while g < gates {
-        let gate = plan::gate_at(plan, g);
-        let x = numbers::read(inputs, next);
-        let v = gate_value(h, g, gate, x, &wires[..g]);
+        let v = gate_value(plan, h, g, inputs, next, &wires[..g]);
         wires[g] = v;
-        next += inputs_taken(gate);
+        next += inputs_taken(plan, h, g);
         g += 1;
     }
 }

@@ -1,81 +1,119 @@
--- The table of shares: every wire's share as a function of the point, gate by gate, all parties at once.
-use Prim.Native.Nat.{ℕ, zero, suc, _+_, _*_}
+-- The table of shares: every wire's share as a function of the point, gate by gate, all parties at once; and a run's mail read off it.
+-- The triples that a plan spends are functions of the point too: the table of a preparing plan is such a list.
+use Prim.Native.Nat.{ℕ, _+_, _*_}
+use mathlib.Core.Bool.{cond}
 use mathlib.Core.List.{List, [], _∷_, _++_, map, flatMap}
 use lib.ListN.{length, take, drop, getD}
-use Rattle.field.specs.Mod.{add, mul}
+use Rattle.numbers.specs.Tables.{tab}
+use Rattle.field.specs.Mod.{add, mul, sub}
 use Rattle.sharing_laws.specs.Poly.{eval}
 use Rattle.sharing_laws.specs.Interp.{weights, dot}
-use Rattle.plan.specs.declared.Gate.{Gate}
-use Rattle.plan.specs.declared.Gate.the-variants.{Input, Add, Scale, Offset, Multiply}
 use Rattle.sharing_laws.specs.Sharing.{opened}
-use Rattle.plan.specs.Plans.{Plan, parties, pointOf, dealerPoints, dealersOf, isMultiply, wiresWhere, outWires, ownInputs, ownCoins}
-use Rattle.seat_messages.specs.Messages.{wiresByParty}
+use Rattle.seat_messages.specs.Messages.{fromEach, spentShare}
+use Rattle.plan.specs.declared.Gate.{Gate}
+use Rattle.plan.specs.declared.Gate.the-variants.{Input, Add, Scale, Offset, Multiply, Random, Spend}
+use Rattle.plan.specs.declared.Rule.{Rule}
+use Rattle.plan.specs.declared.Rule.the-variants.{Reduction, Truncation}
+use Rattle.plan.specs.declared.Dealing.{Dealing}
+use Rattle.sharing_laws.specs.Basis.{sumAll, row}
+use Rattle.plan.specs.Plans.{Plan, partyCount, dealerPoints, isKind, dealingsAt, coinOwnersAt}
 use Rattle.run_protocol.specs.Ideal.{inputsTaken}
+
+-- the shares of all wires below a gate, and where the run's lists stand: the inputs, the coins and the triples from that gate on
+pub record Before : Type 0 where
+  pub env : List (ℕ → ℕ)
+  pub inputs : List ℕ
+  pub coins : List ℕ
+  pub triples : List (ℕ → ℕ)
 
 -- a wire's share at a point; 0 where there is no such wire
 unfoldable pub wireAt : List (ℕ → ℕ) → ℕ → ℕ → ℕ
 wireAt env w = getD env w (λ x. 0)
 
--- what is dealt at a gate, a value for each of its dealers: the input, or the dealers' products of their two shares
-unfoldable pub dealtAt : Plan → Gate → List (ℕ → ℕ) → ℕ → List ℕ
-dealtAt plan (Input s) env v = v ∷ []
-dealtAt plan (Add a b) env v = []
-dealtAt plan (Scale a c) env v = []
-dealtAt plan (Offset a c) env v = []
-dealtAt plan (Multiply a b) env v = map (λ x. mul (plan .p) (wireAt env a x) (wireAt env b x)) (dealerPoints plan)
+unfoldable pub productOf : Plan → List (ℕ → ℕ) → ℕ → ℕ → ℕ → ℕ
+productOf plan env a b x = mul (plan .p) (wireAt env a x) (wireAt env b x)
 
--- the polynomials of these dealings, each with its t coins
-unfoldable pub sharings : ℕ → List ℕ → List ℕ → List (List ℕ)
-sharings t [] cs = []
-sharings t (s ∷ ss) cs = (s ∷ take t cs) ∷ sharings t ss (drop t cs)
+-- ---- dealings
+-- the pieces at x of the parties' dealings of 0 at degree 2t, a party's 2t coins standing before its t
+unfoldable pub zeroPieces : Plan → List ℕ → ℕ → List ℕ
+zeroPieces plan cs x = tab (λ i. eval (plan .p) (0 ∷ take (plan .t + plan .t) (drop (3 * plan .t * i) cs)) x) (partyCount plan)
 
--- the pieces of these dealings at a point
-unfoldable pub piecesAt : Plan → List ℕ → List ℕ → ℕ → List ℕ
-piecesAt plan ss cs x = map (λ f. eval (plan .p) f x) (sharings (plan .t) ss cs)
+-- the masked product at x
+unfoldable pub maskedAt : Plan → Before → ℕ → ℕ → ℕ → ℕ
+maskedAt plan s a b x = add (plan .p) (productOf plan (s .env) a b x) (sumAll (plan .p) (zeroPieces plan (s .coins) x))
 
--- the share at x of a gate's wire, from the wires before it, the next input and the coins from this gate on
-unfoldable pub gateShare : Plan → Gate → List (ℕ → ℕ) → ℕ → List ℕ → ℕ → ℕ
-gateShare plan (Input s) env v cs x = eval (plan .p) (v ∷ take (plan .t) cs) x
-gateShare plan (Add a b) env v cs x = add (plan .p) (wireAt env a x) (wireAt env b x)
-gateShare plan (Scale a c) env v cs x = mul (plan .p) (wireAt env a x) c
-gateShare plan (Offset a c) env v cs x = add (plan .p) (wireAt env a x) c
-gateShare plan (Multiply a b) env v cs x =
-    dot (plan .p) (weights (plan .p) 0 (dealerPoints plan)) (piecesAt plan (dealtAt plan (Multiply a b) env v) cs x)
+-- what is dealt at a gate, a value for each of its dealings
+unfoldable pub multiplyDealt : Plan → Rule → Before → ℕ → ℕ → List ℕ
+multiplyDealt plan Reduction s a b = map (productOf plan (s .env) a b) (dealerPoints plan)
+multiplyDealt plan Truncation s a b = flatMap (λ x. 0 ∷ maskedAt plan s a b x ∷ []) (plan .points)
 
--- the coins that a gate takes
-unfoldable pub coinsTaken : Plan → Gate → ℕ
-coinsTaken plan g = plan .t * length (dealersOf plan g)
+unfoldable pub dealtAt : Plan → Gate → Before → List ℕ
+dealtAt plan (Input i) s = getD (s .inputs) 0 0 ∷ []
+dealtAt plan (Add a b) s = []
+dealtAt plan (Scale a c) s = []
+dealtAt plan (Offset a c) s = []
+dealtAt plan (Multiply a b) s = multiplyDealt plan (plan .rule) s a b
+dealtAt plan Random s = take (partyCount plan) (s .inputs)
+dealtAt plan (Spend a b) s = []
 
--- the wires after these gates, given those before them
-unfoldable pub sharesFrom : Plan → List Gate → List (ℕ → ℕ) → List ℕ → List ℕ → List (ℕ → ℕ)
-sharesFrom plan [] env xs cs = env
-sharesFrom plan (g ∷ gs) env xs cs =
-    sharesFrom plan gs (env ++ (gateShare plan g env (getD xs 0 0) cs ∷ [])) (drop (inputsTaken g) xs) (drop (coinsTaken plan g) cs)
+-- the polynomials of these dealings of these values, each with its coins
+unfoldable pub sharings : List Dealing → List ℕ → List ℕ → List (List ℕ)
+sharings [] ss cs = []
+sharings (d ∷ ds) ss cs = (getD ss 0 0 ∷ take (d .coins) cs) ∷ sharings ds (drop 1 ss) (drop (d .coins) cs)
 
-unfoldable pub shareTable : Plan → List ℕ → List ℕ → List (ℕ → ℕ)
-shareTable plan xs cs = sharesFrom plan (plan .gates) [] xs cs
+-- the pieces at x of a gate's dealings
+unfoldable pub piecesAt : Plan → Gate → Before → ℕ → List ℕ
+piecesAt plan g s x = map (λ f. eval (plan .p) f x) (sharings (dealingsAt plan g) (dealtAt plan g s) (s .coins))
 
--- ---- a party's view, read off the table
--- the coins taken below gate g
-unfoldable pub coinsBelow : Plan → ℕ → ℕ
-coinsBelow plan g = plan .t * length (flatMap (dealersOf plan) (take g (plan .gates)))
+-- ---- shares
+-- of the pieces at x of the dealings of masked shares, the piece of the truncated share at z
+unfoldable pub truncatedAt : Plan → Gate → Before → ℕ → ℕ → ℕ
+truncatedAt plan g s z x =
+    dot (plan .p) (row (plan .p) (plan .t) (plan .points) z) (fromEach (partyCount plan) 2 1 (piecesAt plan g s x))
 
--- the pieces at x of the dealings at gate g
-unfoldable pub pieces : Plan → List ℕ → List ℕ → ℕ → ℕ → List ℕ
-pieces plan xs cs g x =
-    piecesAt plan (dealtAt plan (getD (plan .gates) g (Input 0)) (shareTable plan xs cs) 0) (drop (coinsBelow plan g) cs) x
+-- the share at x of a multiply's wire
+unfoldable pub multiplyShare : Plan → Rule → Gate → Before → ℕ → ℕ
+multiplyShare plan Reduction g s x = dot (plan .p) (weights (plan .p) 0 (dealerPoints plan)) (piecesAt plan g s x)
+multiplyShare plan Truncation g s x = opened (plan .p) (plan .t) (plan .points) (map (truncatedAt plan g s x) (plan .points))
 
--- the mail of all rounds to party i: its shares of the inputs, the pieces of each multiply, all parties' shares of its outs
-unfoldable pub tableMails : Plan → List ℕ → List ℕ → ℕ → List ℕ
-tableMails plan xs cs i =
-    map (λ w. wireAt (shareTable plan xs cs) w (pointOf plan i)) (wiresByParty plan)
-    ++ (flatMap (λ g. pieces plan xs cs g (pointOf plan i)) (wiresWhere isMultiply plan)
-    ++ flatMap (λ j. map (λ w. wireAt (shareTable plan xs cs) w (pointOf plan j)) (outWires plan i)) (parties plan))
+-- the opened difference of wire w and number j of the next triple
+unfoldable pub differenceAt : Plan → Before → ℕ → ℕ → ℕ → ℕ
+differenceAt plan s w j x = sub (plan .p) (wireAt (s .env) w x) (wireAt (s .triples) j x)
 
-unfoldable pub tableResults : Plan → List ℕ → List ℕ → ℕ → List ℕ
-tableResults plan xs cs i =
-    map (λ w. opened (plan .p) (plan .t) (plan .points) (map (wireAt (shareTable plan xs cs) w) (plan .points))) (outWires plan i)
+unfoldable pub differenceOf : Plan → Before → ℕ → ℕ → ℕ
+differenceOf plan s w j = opened (plan .p) (plan .t) (plan .points) (map (differenceAt plan s w j) (plan .points))
 
-unfoldable pub tableViewOf : Plan → List ℕ → List ℕ → ℕ → List ℕ
-tableViewOf plan xs cs i =
-    ownInputs plan i xs ++ (ownCoins plan i cs ++ (tableMails plan xs cs i ++ tableResults plan xs cs i))
+-- the share at x of a gate's wire
+unfoldable pub gateShare : Plan → Gate → Before → ℕ → ℕ
+gateShare plan (Input i) s x = eval (plan .p) (getD (s .inputs) 0 0 ∷ take (plan .t) (s .coins)) x
+gateShare plan (Add a b) s x = add (plan .p) (wireAt (s .env) a x) (wireAt (s .env) b x)
+gateShare plan (Scale a c) s x = mul (plan .p) (wireAt (s .env) a x) c
+gateShare plan (Offset a c) s x = add (plan .p) (wireAt (s .env) a x) c
+gateShare plan (Multiply a b) s x = multiplyShare plan (plan .rule) (Multiply a b) s x
+gateShare plan Random s x = sumAll (plan .p) (piecesAt plan Random s x)
+gateShare plan (Spend a b) s x =
+    spentShare (plan .p) (wireAt (s .triples) 2 x) (wireAt (s .env) a x) (wireAt (s .env) b x) (differenceOf plan s a 0) (differenceOf plan s b 1)
+
+-- the triple numbers that a gate takes
+unfoldable pub triplesTaken : Gate → ℕ
+triplesTaken g = cond (isKind 7 g) 3 0
+
+-- past one gate
+unfoldable pub past : Plan → Gate → Before → Before
+past plan g s =
+    record {
+      env = s .env ++ (gateShare plan g s ∷ []);
+      inputs = drop (inputsTaken plan g) (s .inputs);
+      coins = drop (length (coinOwnersAt plan g)) (s .coins);
+      triples = drop (triplesTaken g) (s .triples);
+    }
+
+unfoldable pub pastAll : Plan → List Gate → Before → Before
+pastAll plan [] s = s
+pastAll plan (g ∷ gs) s = pastAll plan gs (past plan g s)
+
+unfoldable pub startOf : List ℕ → List ℕ → List (ℕ → ℕ) → Before
+startOf xs cs ts = record { env = []; inputs = xs; coins = cs; triples = ts }
+
+unfoldable pub shareTable : Plan → List ℕ → List ℕ → List (ℕ → ℕ) → List (ℕ → ℕ)
+shareTable plan xs cs ts = pastAll plan (plan .gates) (startOf xs cs ts) .env

@@ -2,11 +2,11 @@
 --     entry-of-wire              an entry of the table is a share
 --     working                    what closes the needs of the function that works one gate
 -- Assumes nothing.
-use mathlib.Core.Path.{_≡_, sym, ap, ap₂, _∙_}
+use mathlib.Core.Path.{_≡_, sym, ap, ap₂, _∙_, fun-ext}
 use mathlib.Core.Bool.{true}
 use mathlib.Core.List.{List, _∷_, map}
 use Prim.Native.Nat.{ℕ, _+_, _*_, _/_, _<_, _≤_}
-use native.Mathlib.Nat.{mul-one, mul-div-cancel-left}
+use native.Mathlib.Nat.{add-zero, mul-one, mul-div-cancel-left}
 use native.Mathlib.Omega.{arith}
 use borrow.Author.Needs.{needs}
 use borrow.Author.Tests.{ltb-true}
@@ -15,26 +15,31 @@ use lib.ListN.{length, take, drop, getD, length-map}
 use lib.Seq.{getD-take, getD-drop, length-take-le}
 use Rattle.numbers.specs.Tables.{tab}
 use Rattle.numbers.specs.Bytes.{allBelow}
-use Rattle.numbers.proofs.Tables.{tab-ext, row-room}
+use Rattle.numbers.proofs.Tables.{length-tab, tab-ext, tab-map, row-room}
 use Rattle.numbers.proofs.Truth.{both-true}
 use Rattle.field.specs.Mod.{add, mul}
 use Rattle.sharing_laws.specs.Poly.{eval}
-use Rattle.sharing_laws.specs.Interp.{weights}
+use Rattle.sharing_laws.specs.Interp.{weights, dot}
 use Rattle.sharing_laws.proofs.Alls.{map-tab}
 use Rattle.sharing_openings.proofs.Rows.{weights-below}
 use Rattle.plan.specs.declared.Gate.{Gate}
-use Rattle.plan.specs.declared.Gate.the-variants.{Input, Add, Scale, Offset, Multiply}
+use Rattle.plan.specs.declared.Gate.the-variants.{Input, Add, Scale, Offset, Multiply, Random, Spend}
+use Rattle.plan.specs.declared.Rule.{Rule}
+use Rattle.plan.specs.declared.Rule.the-variants.{Reduction}
 use Rattle.plan.specs.declared.Header.{Header}
-use Rattle.plan.specs.Plans.{Plan, partyCount, dealerCount, dealerPoints}
+use Rattle.plan.specs.Plans.{Plan, dealerCount, dealerPoints, coinOwnersAt}
 use Rattle.plan.specs.File.{planOf, gateAt, gateOk}
 use Rattle.plan.specs.Planned.{Planned}
 use Rattle.plan.proofs.Planned.{plan-t, plan-p, plan-n, plan-gates, plan-gate}
-use Rattle.plan.proofs.Valid.{valid, planned-ready}
-use Rattle.run_protocol.specs.Shares.{wireAt, sharings, piecesAt, dealtAt, gateShare, coinsTaken}
-use Rattle.run_dealings.specs.Rows.{rowsOf, terms, productsOf, mixedAt, Prepared, Powered, Coined, Rowed, Standing, Taking, Worked, coinsIn}
+use Rattle.plan.proofs.Valid.{valid, plain, planned-ready}
+use Rattle.seat_messages.proofs.PointLaws.{plan-points-long}
+use Rattle.run_protocol.specs.Shares.{Before, wireAt, productOf, multiplyDealt, multiplyShare, gateShare}
+use Rattle.run_protocol.proofs.Dealt.{pieces-reduction}
+use Rattle.run_ideal.proofs.IdealLaws.{no-random, no-spend, wire-below}
+use Rattle.run_dealings.specs.Rows.{rowsOf, terms, productsOf, sharedBy, mixedAt, Prepared, Powered, Coined, Rowed, Standing, Taking, Holds, Worked}
+use Rattle.run_dealings.proofs.CoinLaws.{coins-input, coins-multiply}
 use Rattle.numbers.proofs.Rows.{flat-length, flat-part}
 use Rattle.run_dealings.proofs.RowLaws.{getD-values, standing-row}
-use Rattle.run_tables.proofs.StepLaws.{takes-coins}
 
 -- ---- the rows of a table
 cancel : (n a b : ℕ) → 1 ≤ n → n * a ≡ n * b → a ≡ b
@@ -74,42 +79,61 @@ module _ (points : List ℕ) (n : ℕ) (en : length points ≡ n) where
       is ∙ tab-ext rule (λ j. F (getD points j 0)) n same ∙ sym (map-tab F points ∙ ap (tab (λ j. F (getD points j 0))) en)
 
 -- ---- what each kind of gate makes of them
-module _ (plan : Plan) (n g : ℕ) (en : length (plan .points) ≡ n) (low : 1 ≤ n) (table : List ℕ) (room : n * g ≤ length table) (env : List (ℕ → ℕ)) (front : take (n * g) table ≡ rowsOf (plan .points) env) (x : ℕ) (cs row : List ℕ) where
-  at : (w j : ℕ) → w < g → j < n → getD table (n * w + j) 0 ≡ wireAt env w (getD (plan .points) j 0)
-  at = entry-of-wire (plan .points) n en low table g room env front
+module _ (plan : Plan) (n g : ℕ) (en : length (plan .points) ≡ n) (low : 1 ≤ n) (xs cs table : List ℕ) (room : n * g ≤ length table) (s : Before) (holds : Holds plan n g xs cs table s) (row : List ℕ) where
+  at : (w j : ℕ) → w < g → j < n → getD table (n * w + j) 0 ≡ wireAt (s .env) w (getD (plan .points) j 0)
+  at = entry-of-wire (plan .points) n en low table g room (s .env) (holds .rows)
 
-  add-share : (a b : ℕ) → a < g → b < g → take n row ≡ tab (λ j. add (plan .p) (getD table (n * a + j) 0) (getD table (n * b + j) 0)) n → take n row ≡ map (gateShare plan (Add a b) env x cs) (plan .points)
+  add-share : (a b : ℕ) → a < g → b < g → take n row ≡ tab (λ j. add (plan .p) (getD table (n * a + j) 0) (getD table (n * b + j) 0)) n → take n row ≡ map (gateShare plan (Add a b) s) (plan .points)
   unfolding gateShare
-  add-share a b la lb is = row-by-rule (plan .points) n en _ (gateShare plan (Add a b) env x cs) row is (λ j l. ap₂ (add (plan .p)) (at a j la l) (at b j lb l))
+  add-share a b la lb is = row-by-rule (plan .points) n en _ (gateShare plan (Add a b) s) row is (λ j l. ap₂ (add (plan .p)) (at a j la l) (at b j lb l))
 
-  scale-share : (a c : ℕ) → a < g → take n row ≡ tab (λ j. mul (plan .p) (getD table (n * a + j) 0) c) n → take n row ≡ map (gateShare plan (Scale a c) env x cs) (plan .points)
+  scale-share : (a c : ℕ) → a < g → take n row ≡ tab (λ j. mul (plan .p) (getD table (n * a + j) 0) c) n → take n row ≡ map (gateShare plan (Scale a c) s) (plan .points)
   unfolding gateShare
-  scale-share a c la is = row-by-rule (plan .points) n en _ (gateShare plan (Scale a c) env x cs) row is (λ j l. ap (λ (v : ℕ). mul (plan .p) v c) (at a j la l))
+  scale-share a c la is = row-by-rule (plan .points) n en _ (gateShare plan (Scale a c) s) row is (λ j l. ap (λ (v : ℕ). mul (plan .p) v c) (at a j la l))
 
-  offset-share : (a c : ℕ) → a < g → take n row ≡ tab (λ j. add (plan .p) (getD table (n * a + j) 0) c) n → take n row ≡ map (gateShare plan (Offset a c) env x cs) (plan .points)
+  offset-share : (a c : ℕ) → a < g → take n row ≡ tab (λ j. add (plan .p) (getD table (n * a + j) 0) c) n → take n row ≡ map (gateShare plan (Offset a c) s) (plan .points)
   unfolding gateShare
-  offset-share a c la is = row-by-rule (plan .points) n en _ (gateShare plan (Offset a c) env x cs) row is (λ j l. ap (λ (v : ℕ). add (plan .p) v c) (at a j la l))
+  offset-share a c la is = row-by-rule (plan .points) n en _ (gateShare plan (Offset a c) s) row is (λ j l. ap (λ (v : ℕ). add (plan .p) v c) (at a j la l))
 
-  input-share : (s : ℕ) → take n row ≡ map (eval (plan .p) (x ∷ take (plan .t) cs)) (plan .points) → take n row ≡ map (gateShare plan (Input s) env x cs) (plan .points)
+  input-share : (i : ℕ) → take n row ≡ map (eval (plan .p) (getD xs 0 0 ∷ take (plan .t) cs)) (plan .points) → take n row ≡ map (gateShare plan (Input i) s) (plan .points)
   unfolding gateShare
-  input-share s is = is
+  input-share i is = is ∙ ap₂ (λ (l m : List ℕ). map (eval (plan .p) (getD l 0 0 ∷ take (plan .t) m)) (plan .points)) (sym (holds .inputs)) (sym (holds .coins))
 
-  products-dealt : (a b : ℕ) → a < g → b < g → dealerCount plan ≤ n → productsOf (plan .p) n (dealerCount plan) a b table ≡ dealtAt plan (Multiply a b) env x
-  unfolding productsOf dealtAt dealerPoints
+  products-dealt : (a b : ℕ) → a < g → b < g → dealerCount plan ≤ n → productsOf (plan .p) n (dealerCount plan) a b table ≡ multiplyDealt plan Reduction s a b
+  unfolding productsOf multiplyDealt productOf dealerPoints
   products-dealt a b la lb le =
       let m : ℕ = dealerCount plan in
-      let F : ℕ → ℕ = λ y. mul (plan .p) (wireAt env a y) (wireAt env b y) in
+      let F : ℕ → ℕ = λ y. mul (plan .p) (wireAt (s .env) a y) (wireAt (s .env) b y) in
       let long : length (take m (plan .points)) ≡ m = length-take-le m (plan .points) (rw en le) in
       tab-ext _ (λ j. F (getD (take m (plan .points)) j 0)) m
       (λ j l. rw (getD-take m (plan .points) j 0 l) (ap₂ (mul (plan .p)) (at a j la (omega arith)) (at b j lb (omega arith))))
       ∙ sym (map-tab F (take m (plan .points)) ∙ ap (tab (λ j. F (getD (take m (plan .points)) j 0))) long)
 
-  multiply-share : (a b : ℕ) (ws : List ℕ) → a < g → b < g → dealerCount plan ≤ n → ws ≡ weights (plan .p) 0 (dealerPoints plan)
-      → take n row ≡ map (mixedAt (plan .p) ws (sharings (plan .t) (productsOf (plan .p) n (dealerCount plan) a b table) cs)) (plan .points)
-      → take n row ≡ map (gateShare plan (Multiply a b) env x cs) (plan .points)
-  unfolding gateShare mixedAt piecesAt
-  multiply-share a b ws la lb le ew is =
-      is ∙ ap₂ (λ (vs ss : List ℕ). map (mixedAt (plan .p) vs (sharings (plan .t) ss cs)) (plan .points)) ew (products-dealt a b la lb le)
+  products-count : (a b : ℕ) → length (productsOf (plan .p) n (dealerCount plan) a b table) ≡ dealerCount plan
+  unfolding productsOf
+  products-count a b = length-tab _ (dealerCount plan)
+
+  mixed-share : (a b x : ℕ) → plan .rule ≡ Reduction → a < g → b < g → dealerCount plan ≤ n
+      → mixedAt (plan .p) (weights (plan .p) 0 (dealerPoints plan)) (sharedBy (plan .t) (productsOf (plan .p) n (dealerCount plan) a b table) (s .coins)) x ≡ gateShare plan (Multiply a b) s x
+  unfolding gateShare multiplyShare mixedAt sharedBy
+  mixed-share a b x red la lb le =
+      let ws : List ℕ = weights (plan .p) 0 (dealerPoints plan) in
+      let vs : List ℕ = productsOf (plan .p) n (dealerCount plan) a b table in
+      let piece : List ℕ → ℕ → ℕ = λ us r. eval (plan .p) (getD us r 0 ∷ take (plan .t) (drop (plan .t * r) (s .coins))) x in
+      ap (dot (plan .p) ws)
+      (tab-map (λ f. eval (plan .p) f x) (λ r. getD vs r 0 ∷ take (plan .t) (drop (plan .t * r) (s .coins))) (length vs)
+      ∙ ap (tab (piece vs)) (products-count a b)
+      ∙ ap (λ (us : List ℕ). tab (piece us) (dealerCount plan)) (products-dealt a b la lb le)
+      ∙ sym (pieces-reduction plan a b x s red))
+      ∙ sym (ap (λ (r : Rule). multiplyShare plan r (Multiply a b) s x) red)
+
+  multiply-share : (a b : ℕ) (ws : List ℕ) → plan .rule ≡ Reduction → a < g → b < g → dealerCount plan ≤ n → ws ≡ weights (plan .p) 0 (dealerPoints plan)
+      → take n row ≡ map (mixedAt (plan .p) ws (sharedBy (plan .t) (productsOf (plan .p) n (dealerCount plan) a b table) cs)) (plan .points)
+      → take n row ≡ map (gateShare plan (Multiply a b) s) (plan .points)
+  multiply-share a b ws red la lb le ew is =
+      is
+      ∙ ap₂ (λ (vs ds : List ℕ). map (mixedAt (plan .p) vs (sharedBy (plan .t) (productsOf (plan .p) n (dealerCount plan) a b table) ds)) (plan .points)) ew (sym (holds .coins))
+      ∙ ap (λ (F : ℕ → ℕ). map F (plan .points)) (fun-ext (λ x. mixed-share a b x red la lb le))
 
 -- ---- what is prepared
 module _ (bs : List ℕ) (h : Header) (points rows ws : List ℕ) (prepared : Prepared bs h points rows ws) where
@@ -130,8 +154,7 @@ module _ (bs : List ℕ) (h : Header) (points rows ws : List ℕ) (prepared : Pr
     weights-elements = rw (prepared .weighs) (weights-below (planned-ready bs h k .prime) 0 (take (h .t + h .t + 1) points))
 
     parties : length points ≡ h .n
-    unfolding partyCount
-    parties = ap length (prepared .are) ∙ plan-n k
+    parties = ap length (prepared .are) ∙ plan-points-long bs h k
 
     pub points-few : length points ≤ 15
     points-few = omega (arith, parties, k .n-high)
@@ -196,69 +219,71 @@ module _ (bs : List ℕ) (h : Header) (k : Planned bs h) (g : ℕ) (l : g < h .g
 
     -- coins
     module _ (at : ℕ) (cs : List ℕ) (taking : Taking (planOf bs) (gateAt bs g) at cs) where
-      pub input-coins : (s : ℕ) → read ≡ Input s → Coined (h .field .p) (h .t) 1 at cs
-      unfolding coinsIn
-      input-coins s is =
-          let q : coinsTaken (planOf bs) (gateAt bs g) ≡ h .t * 1 = sym (takes-coins bs h k (gateAt bs g) read e (h .t) (sym (ap (coinsIn (h .t)) is))) ∙ sym (mul-one (h .t)) in
-          record { room = rw q at (taking .room); below = rw (q, plan-p k) at (taking .below) }
+      coined : (m : ℕ) → h .t * m ≡ length (coinOwnersAt (planOf bs) (gateAt bs g)) → Coined (h .field .p) (h .t) m at cs
+      coined m q = record { room = rw (← q) at (taking .room); below = rw (← q, plan-p k) at (taking .below) }
+
+      pub input-coins : (i : ℕ) → read ≡ Input i → Coined (h .field .p) (h .t) 1 at cs
+      input-coins i is = coined 1 (mul-one (h .t) ∙ coins-input bs h k g read e i is)
 
       pub multiply-coins : (a b : ℕ) (points rows ws : List ℕ) → read ≡ Multiply a b → Prepared bs h points rows ws → Coined (h .field .p) (h .t) (length (take (h .t + h .t + 1) ws)) at cs
-      unfolding coinsIn
-      multiply-coins a b points rows ws is prepared =
-          let q : coinsTaken (planOf bs) (gateAt bs g) ≡ h .t * (h .t + h .t + 1) = sym (takes-coins bs h k (gateAt bs g) read e (h .t * (h .t + h .t + 1)) (sym (ap (coinsIn (h .t)) is))) in
-          rw (weights-long bs h points rows ws prepared) (record { room = rw q at (taking .room); below = rw (q, plan-p k) at (taking .below) })
+      multiply-coins a b points rows ws is prepared = rw (weights-long bs h points rows ws prepared) (coined (h .t + h .t + 1) (coins-multiply bs h k g read e a b is))
 
     -- rows
-    module _ (x : ℕ) (cs row : List ℕ) where
-      module _ (gate : Gate) (is : read ≡ gate) (works : (env : List (ℕ → ℕ)) → take (h .n * g) table ≡ rowsOf (planOf bs .points) env → take (h .n) row ≡ map (gateShare (planOf bs) gate env x cs) (planOf bs .points)) where
-        by-kind : Worked (planOf bs) (h .n) (gateAt bs g) g x cs table row
-        by-kind = record { is = λ env front. rw (← e, is) (works env front) }
+    module _ (xs cs row : List ℕ) where
+      module _ (gate : Gate) (is : read ≡ gate) (works : (s : Before) → Holds (planOf bs) (h .n) g xs cs table s → take (h .n) row ≡ map (gateShare (planOf bs) gate s) (planOf bs .points)) where
+        by-kind : Worked (planOf bs) (h .n) (gateAt bs g) g xs cs table row
+        by-kind = record { is = λ s holds. rw (← e, is) (works s holds) }
 
-      n-is : length (planOf bs .points) ≡ h .n
-      unfolding partyCount
-      n-is = plan-n k
-
-      pub worked-add : (a b : ℕ) → read ≡ Add a b → take (h .n) row ≡ tab (λ j. add (h .field .p) (getD table (h .n * a + j) 0) (getD table (h .n * b + j) 0)) (h .n) → Worked (planOf bs) (h .n) (gateAt bs g) g x cs table row
+      pub worked-add : (a b : ℕ) → read ≡ Add a b → take (h .n) row ≡ tab (λ j. add (h .field .p) (getD table (h .n * a + j) 0) (getD table (h .n * b + j) 0)) (h .n) → Worked (planOf bs) (h .n) (gateAt bs g) g xs cs table row
       worked-add a b is made =
           by-kind (Add a b) is
-          (λ env front.
-          add-share (planOf bs) (h .n) g n-is (k .n-low) table (s .room) env front x cs row a b (ltb-true a g (adds a b is .0)) (ltb-true b g (adds a b is .1))
+          (λ before holds.
+          add-share (planOf bs) (h .n) g (plan-points-long bs h k) (k .n-low) xs cs table (s .room) before holds row a b (ltb-true a g (adds a b is .0)) (ltb-true b g (adds a b is .1))
           (made ∙ ap (λ (p : ℕ). tab (λ j. add p (getD table (h .n * a + j) 0) (getD table (h .n * b + j) 0)) (h .n)) (sym (plan-p k))))
 
-      pub worked-scale : (a c : ℕ) → read ≡ Scale a c → take (h .n) row ≡ tab (λ j. mul (h .field .p) (getD table (h .n * a + j) 0) c) (h .n) → Worked (planOf bs) (h .n) (gateAt bs g) g x cs table row
+      pub worked-scale : (a c : ℕ) → read ≡ Scale a c → take (h .n) row ≡ tab (λ j. mul (h .field .p) (getD table (h .n * a + j) 0) c) (h .n) → Worked (planOf bs) (h .n) (gateAt bs g) g xs cs table row
       worked-scale a c is made =
           by-kind (Scale a c) is
-          (λ env front.
-          scale-share (planOf bs) (h .n) g n-is (k .n-low) table (s .room) env front x cs row a c (ltb-true a g (scales a c is .0))
+          (λ before holds.
+          scale-share (planOf bs) (h .n) g (plan-points-long bs h k) (k .n-low) xs cs table (s .room) before holds row a c (ltb-true a g (scales a c is .0))
           (made ∙ ap (λ (p : ℕ). tab (λ j. mul p (getD table (h .n * a + j) 0) c) (h .n)) (sym (plan-p k))))
 
-      pub worked-offset : (a c : ℕ) → read ≡ Offset a c → take (h .n) row ≡ tab (λ j. add (h .field .p) (getD table (h .n * a + j) 0) c) (h .n) → Worked (planOf bs) (h .n) (gateAt bs g) g x cs table row
+      pub worked-offset : (a c : ℕ) → read ≡ Offset a c → take (h .n) row ≡ tab (λ j. add (h .field .p) (getD table (h .n * a + j) 0) c) (h .n) → Worked (planOf bs) (h .n) (gateAt bs g) g xs cs table row
       worked-offset a c is made =
           by-kind (Offset a c) is
-          (λ env front.
-          offset-share (planOf bs) (h .n) g n-is (k .n-low) table (s .room) env front x cs row a c (ltb-true a g (offsets a c is .0))
+          (λ before holds.
+          offset-share (planOf bs) (h .n) g (plan-points-long bs h k) (k .n-low) xs cs table (s .room) before holds row a c (ltb-true a g (offsets a c is .0))
           (made ∙ ap (λ (p : ℕ). tab (λ j. add p (getD table (h .n * a + j) 0) c) (h .n)) (sym (plan-p k))))
 
-      module _ (points rows ws : List ℕ) (prepared : Prepared bs h points rows ws) where
-        pub worked-input : (i : ℕ) → read ≡ Input i → take (length points) row ≡ map (eval (h .field .p) (x ∷ take (h .t) cs)) points → Worked (planOf bs) (h .n) (gateAt bs g) g x cs table row
-        worked-input i is made =
-            by-kind (Input i) is
-            (λ env front.
-            input-share (planOf bs) (h .n) g n-is (k .n-low) table (s .room) env front x cs row i
-            (rw (plan-p k, plan-t k, ← prepared .are, ← parties bs h points rows ws prepared k) made))
+      pub worked-random : read ≡ Random → Worked (planOf bs) (h .n) (gateAt bs g) g xs cs table row
+      worked-random is = absurd (no-random bs h k g l (sym e ∙ is))
 
+      pub worked-spend : (a b : ℕ) → read ≡ Spend a b → Worked (planOf bs) (h .n) (gateAt bs g) g xs cs table row
+      worked-spend a b is = absurd (no-spend bs h k g a b l (sym e ∙ is))
+
+      module _ (points rows ws : List ℕ) (prepared : Prepared bs h points rows ws) where
         pub worked-multiply : (a b : ℕ) → read ≡ Multiply a b
             → take (length points) row
-            ≡ map (mixedAt (h .field .p) (take (h .t + h .t + 1) ws) (sharings (h .t) (productsOf (h .field .p) (length points) (length (take (h .t + h .t + 1) ws)) a b table) cs)) points
-            → Worked (planOf bs) (h .n) (gateAt bs g) g x cs table row
+            ≡ map (mixedAt (h .field .p) (take (h .t + h .t + 1) ws) (sharedBy (h .t) (productsOf (h .field .p) (length points) (length (take (h .t + h .t + 1) ws)) a b table) cs)) points
+            → Worked (planOf bs) (h .n) (gateAt bs g) g xs cs table row
         unfolding dealerCount dealerPoints
         worked-multiply a b is made =
             by-kind (Multiply a b) is
-            (λ env front.
-            multiply-share (planOf bs) (h .n) g n-is (k .n-low) table (s .room) env front x cs row a b (take (h .t + h .t + 1) ws)
+            (λ before holds.
+            multiply-share (planOf bs) (h .n) g (plan-points-long bs h k) (k .n-low) xs cs table (s .room) before holds row a b (take (h .t + h .t + 1) ws) (plain bs (k .passes) .rule)
             (ltb-true a g (multiplies a b is .0)) (ltb-true b g (multiplies a b is .1))
             (rw (plan-t k) (omega (arith, k .majority)))
             (rw (plan-p k, plan-t k, ← prepared .are) (prepared .weighs))
             (rw (plan-p k, plan-t k, ← prepared .are, ← parties bs h points rows ws prepared k) (rw (weights-long bs h points rows ws prepared) at made)))
 
-pub ruleset working = (needs, planned-ready, powered, weights-stand, weights-counted, weights-elements, dealers-within, points-few, coins-few, add-left-stands, add-right-stands, scale-stands, scale-constant, offset-stands, offset-constant, multiply-left-stands, multiply-right-stands, input-coins, multiply-coins, worked-add, worked-scale, worked-offset, worked-input, worked-multiply)
+    -- an input is the next of the list
+    pub worked-input : (xs cs row points rows ws : List ℕ) (i x from : ℕ) → Prepared bs h points rows ws → read ≡ Input i → x ≡ getD xs from 0
+        → take (length points) row ≡ map (eval (h .field .p) (x ∷ take (h .t) cs)) points → Worked (planOf bs) (h .n) (gateAt bs g) g (drop from xs) cs table row
+    worked-input xs cs row points rows ws i x from prepared is ex made =
+        let first : x ≡ getD (drop from xs) 0 0 = ex ∙ ap (λ (m : ℕ). getD xs m 0) (sym (add-zero from)) ∙ sym (getD-drop from xs 0 0) in
+        by-kind (drop from xs) cs row (Input i) is
+        (λ before holds.
+        input-share (planOf bs) (h .n) g (plan-points-long bs h k) (k .n-low) (drop from xs) cs table (s .room) before holds row i
+        (rw (plan-p k, plan-t k, ← prepared .are, ← parties bs h points rows ws prepared k, ← first) made))
+
+pub ruleset working = (needs, planned-ready, wire-below, powered, weights-stand, weights-counted, weights-elements, dealers-within, points-few, coins-few, add-left-stands, add-right-stands, scale-stands, scale-constant, offset-stands, offset-constant, multiply-left-stands, multiply-right-stands, input-coins, multiply-coins, worked-add, worked-scale, worked-offset, worked-random, worked-spend, worked-input, worked-multiply)

@@ -1,43 +1,32 @@
 -- One gate of a run: its row, and the table with it.
 --     planned-sized, placing            what a plan's contents give
 --     Pasting, pasting                  the loop that writes a row
---     takings                           what a gate takes
 -- Assumes nothing.
 use mathlib.Core.Path.{_≡_, sym, ap, _∙_}
 use mathlib.Core.Bool.{true}
 use mathlib.Core.List.{List}
-use Prim.Native.Nat.{ℕ, suc, _+_, _*_, _<_, _≤_}
+use Prim.Native.Nat.{ℕ, _+_, _*_, _<_, _≤_}
 use native.Mathlib.Numerals.{add-one}
 use native.Mathlib.Omega.{arith}
 use borrow.Author.Needs.{needs}
 use lib.ListN.{length, take, set, getD}
 use lib.Seq.{paste, paste-zero, paste-suc, length-paste}
-use Rattle.numbers.specs.Tables.{tab}
 use Rattle.numbers.specs.Bytes.{allBelow}
-use Rattle.numbers.proofs.Tables.{length-tab}
-use Rattle.plan.specs.declared.Gate.{Gate}
 use Rattle.plan.specs.declared.Header.{Header}
 use Rattle.plan.specs.File.{planOf}
 use Rattle.plan.specs.Planned.{Planned}
-use Rattle.plan.proofs.Planned.{plan-t, plan-points}
 use Rattle.plan.proofs.Valid.{planned-ready}
-use Rattle.seat_messages.proofs.PointLaws.{first-points, first-points-below}
-use Rattle.run_protocol.specs.Ideal.{inputsTaken}
-use Rattle.run_protocol.specs.Shares.{coinsTaken}
-use Rattle.run_dealings.specs.Rows.{Sized, terms, Powered, Weighted, Prepared, coinsIn}
-use Rattle.run_dealings.proofs.CoinLaws.{coins-number}
+use Rattle.seat_messages.proofs.PointLaws.{plan-points-long, plan-points-below}
+use Rattle.run_dealings.specs.Rows.{Sized, terms, Powered, Weighted, Prepared}
 
 -- ---- what a plan's contents give
 pub planned-sized : (bs : List ℕ) (h : Header) → Planned bs h → Sized h
 planned-sized bs h k = record { ready = planned-ready bs h k; many = k .n-high; majority = k .majority; small = k .p-low }
 
 -- the parties' points are the first of an array
-module _ (bs : List ℕ) (h : Header) (k : Planned bs h) (ps : List ℕ) (e : ps ≡ tab suc 15) where
-  points-first : take (h .n) ps ≡ planOf bs .points
-  points-first = first-points ps (h .n) e (k .n-high) ∙ sym (plan-points k)
-
+module _ (bs : List ℕ) (h : Header) (k : Planned bs h) (ps : List ℕ) (e : take (h .n) ps ≡ planOf bs .points) where
   points-long : length (take (h .n) ps) ≡ h .n
-  points-long = ap length (first-points ps (h .n) e (k .n-high)) ∙ length-tab suc (h .n)
+  points-long = ap length e ∙ plan-points-long bs h k
 
   pub points-counted : h .n ≡ length (take (h .n) ps)
   points-counted = sym points-long
@@ -49,10 +38,10 @@ module _ (bs : List ℕ) (h : Header) (k : Planned bs h) (ps : List ℕ) (e : ps
   points-majority = omega (arith, points-long, k .majority)
 
   pub points-elements : allBelow (h .field .p) (take (h .n) ps) ≡ true
-  points-elements = first-points-below ps (h .field .p) (h .n) e (k .n-high) (k .p-low)
+  points-elements = rw e (plan-points-below bs h k)
 
   pub prepared : (rows ws : List ℕ) → Powered (h .field .p) (terms (h .t)) (take (h .n) ps) rows → Weighted (h .field .p) (h .t) (take (h .n) ps) ws → Prepared bs h (take (h .n) ps) rows ws
-  prepared rows ws b w = record { are = points-first; room = b .room; powers = b .front; wide = w .wide; weighs = w .weighs }
+  prepared rows ws b w = record { are = e; room = b .room; powers = b .front; wide = w .wide; weighs = w .weighs }
 
 pub ruleset placing = (needs, planned-ready, prepared, points-counted, points-most, points-majority, points-elements)
 
@@ -82,17 +71,3 @@ module _ (d₀ row : List ℕ) (at n : ℕ) where
     pasted-long m e room = ap length (h .is) ∙ length-paste d₀ at row j (omega (arith, h .within)) (omega (arith, h .within))
 
 pub ruleset pasting = (needs, paste-none, paste-within, paste-next, pasted, pasted-long)
-
--- ---- what a gate takes
-module _ (bs : List ℕ) (h : Header) (k : Planned bs h) (gate read : Gate) (e : read ≡ gate) where
-  pub takes-inputs : (r : ℕ) → r ≡ inputsTaken read → r ≡ inputsTaken gate
-  takes-inputs r is = is ∙ ap inputsTaken e
-
-  pub takes-coins : (r : ℕ) → r ≡ coinsIn (h .t) read → r ≡ coinsTaken (planOf bs) gate
-  unfolding coinsTaken
-  takes-coins r is = is ∙ ap (coinsIn (h .t)) e ∙ ap (λ (t : ℕ). coinsIn t gate) (sym (plan-t k)) ∙ coins-number (planOf bs) gate
-
-  pub few-shares : h .t ≤ 7
-  few-shares = omega (arith, k .majority, k .n-high)
-
-pub ruleset takings = (needs, takes-inputs, takes-coins, few-shares)

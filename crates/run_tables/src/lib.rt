@@ -3,17 +3,18 @@ use field::Field;
 use plan::Gate;
 use plan::Header;
 ghost use mathlib.Core.Path.{_≡_};
+ghost use mathlib.Core.Bool.{true};
+ghost use mathlib.Core.List.{[]};
 ghost use Prim.Native.Nat.{_+_, _-_, _*_, _/_, _<_, _≤_};
 ghost use lib.ListN.{length, take, drop, getD};
 ghost use lib.Seq.{paste};
 ghost use Rattle.numbers.specs.Tables.{tab};
-ghost use Rattle.numbers.specs.Bytes.{numbers};
+ghost use Rattle.numbers.specs.Bytes.{numbers, allBelow};
 ghost use Rattle.field.specs.Mod.{add, mul};
 ghost use Rattle.field.specs.Field.{Ready};
 ghost use Rattle.plan.specs.Planned.{Planned};
 ghost use Rattle.plan.specs.File.{planOf, gateAt};
-ghost use Rattle.run_protocol.specs.Ideal.{inputsTaken};
-ghost use Rattle.run_protocol.specs.Shares.{coinsTaken, shareTable};
+ghost use Rattle.run_protocol.specs.Shares.{shareTable};
 ghost use Rattle.run_dealings.specs.Rows.{rowsOf, Prepared, Rowed, Standing, Taking, Worked, Stepped, Given};
 
 // ---- gates that each party works on its own shares
@@ -75,7 +76,7 @@ fn offset_row(f: Field, n: usize, a: usize, c: u64, table: &[u64]) -> [u64; 15]
 
 // ---- one gate
 
-// The row of gate g's wire, from the rows of the wires below it.
+// The row of gate g's wire, from the rows of the wires below it. No plan file has a gate of the last two kinds.
 fn gate_row(
     plan: &[u8],
     h: Header,
@@ -83,7 +84,8 @@ fn gate_row(
     rows: &[u64],
     weights: &[u64],
     g: usize,
-    x: u64,
+    inputs: &[u8],
+    i: usize,
     coins: &[u8],
     at: usize,
     table: &[u64],
@@ -91,10 +93,10 @@ fn gate_row(
     requires { ⌜ Planned (now plan) h ⌝ }
     requires { ⌜ g < h .gates ⌝ }
     requires { ⌜ Prepared (now plan) h (now points) (now rows) (now weights) ⌝ }
-    requires { ⌜ x < h .field .p ⌝ }
+    requires { ⌜ allBelow (h .field .p) (numbers (now inputs)) ≡ true ⌝ }
     requires { ⌜ Taking (planOf (now plan)) (gateAt (now plan) g) at (numbers (now coins)) ⌝ }
     requires { ⌜ Standing (h .field .p) (h .n) g (now table) ⌝ }
-    ensures { λ r. ⌜ Worked (planOf (now (plan .entry))) (h .n) (gateAt (now (plan .entry)) g) g x (drop at (numbers (now (coins .entry)))) (now (table .entry)) r ⌝ }
+    ensures { λ r. ⌜ Worked (planOf (now (plan .entry))) (h .n) (gateAt (now (plan .entry)) g) g (drop i (numbers (now (inputs .entry)))) (drop at (numbers (now (coins .entry)))) (now (table .entry)) r ⌝ }
 {
     let f = h.field;
     let n = h.n;
@@ -102,7 +104,10 @@ fn gate_row(
     let dealers = t + t + 1;
     let gate = plan::gate_at(plan, g);
     match gate {
-        Gate::Input(_) => run_dealings::input_row(f, t, points, rows, x, coins, at),
+        Gate::Input(_) => {
+            let x = numbers::read(inputs, i);
+            run_dealings::input_row(f, t, points, rows, x, coins, at)
+        }
         Gate::Add(a, b) => add_row(f, n, a, b, table),
         Gate::Scale(a, c) => scale_row(f, n, a, c, table),
         Gate::Offset(a, c) => offset_row(f, n, a, c, table),
@@ -118,6 +123,8 @@ fn gate_row(
             at,
             table,
         ),
+        Gate::Random => [0; 15],
+        Gate::Spend(_, _) => [0; 15],
     }
 }
 
@@ -134,7 +141,7 @@ fn put_row(table: &mut [u64], at: usize, row: [u64; 15], n: usize)
     }
 }
 
-// Works gate g for all parties: sets the row of its wire, from the rows of the wires below it. x is the next input; the gate's coins stand from place `at` on.
+// Works gate g for all parties: sets the row of its wire, from the rows of the wires below it. Its inputs stand from place i on, its coins from place `at` on.
 pub fn step(
     plan: &[u8],
     h: Header,
@@ -142,7 +149,8 @@ pub fn step(
     rows: &[u64],
     weights: &[u64],
     g: usize,
-    x: u64,
+    inputs: &[u8],
+    i: usize,
     coins: &[u8],
     at: usize,
     table: &mut [u64],
@@ -150,37 +158,31 @@ pub fn step(
     requires { ⌜ Planned (now plan) h ⌝ }
     requires { ⌜ g < h .gates ⌝ }
     requires { ⌜ Prepared (now plan) h (now points) (now rows) (now weights) ⌝ }
-    requires { ⌜ x < h .field .p ⌝ }
+    requires { ⌜ allBelow (h .field .p) (numbers (now inputs)) ≡ true ⌝ }
     requires { ⌜ Taking (planOf (now plan)) (gateAt (now plan) g) at (numbers (now coins)) ⌝ }
     requires { ⌜ Standing (h .field .p) (h .n) g (now table) ⌝ }
     requires { ⌜ h .n * h .gates ≤ length (now table) ⌝ }
-    ensures { λ _. ⌜ Stepped (planOf (now (plan .entry))) (h .n) (gateAt (now (plan .entry)) g) g x (drop at (numbers (now (coins .entry)))) (now (table .entry)) (now (table .exit)) ⌝ }
+    ensures { λ _. ⌜ Stepped (planOf (now (plan .entry))) (h .n) (gateAt (now (plan .entry)) g) g (drop i (numbers (now (inputs .entry)))) (drop at (numbers (now (coins .entry)))) (now (table .entry)) (now (table .exit)) ⌝ }
 {
     let n = h.n;
     let start = n * g;
-    let row = gate_row(plan, h, points, rows, weights, g, x, coins, at, table);
+    let row = gate_row(
+        plan,
+        h,
+        points,
+        rows,
+        weights,
+        g,
+        inputs,
+        i,
+        coins,
+        at,
+        table,
+    );
     put_row(table, start, row, n);
 }
 
 // ---- a run
-
-// How many inputs and coins are taken.
-pub struct Taken {
-    pub inputs: usize,
-    pub coins: usize,
-}
-
-// What gate g takes of the inputs and of the coins.
-pub fn taken_at(plan: &[u8], h: Header, g: usize) -> Taken
-    requires { ⌜ Planned (now plan) h ⌝ }
-    ensures { λ r. ⌜ (r .inputs ≡ inputsTaken (gateAt (now (plan .entry)) g)) × (r .coins ≡ coinsTaken (planOf (now (plan .entry))) (gateAt (now (plan .entry)) g)) ⌝ }
-{
-    let gate = plan::gate_at(plan, g);
-    Taken {
-        inputs: run_ideal::inputs_taken(gate),
-        coins: run_dealings::coins_taken(h.t, gate),
-    }
-}
 
 // The table of a run, with what is worked out once for the plan: its gates one after the other.
 fn steps(
@@ -197,7 +199,7 @@ fn steps(
     requires { ⌜ Prepared (now plan) h (now points) (now rows) (now weights) ⌝ }
     requires { ⌜ Given (planOf (now plan)) (now inputs) (now coins) ⌝ }
     requires { ⌜ h .n * h .gates ≤ length (now table) ⌝ }
-    ensures { λ _. ⌜ take (h .n * h .gates) (now (table .exit)) ≡ rowsOf (planOf (now (plan .entry)) .points) (shareTable (planOf (now (plan .entry))) (numbers (now (inputs .entry))) (numbers (now (coins .entry)))) ⌝ }
+    ensures { λ _. ⌜ take (h .n * h .gates) (now (table .exit)) ≡ rowsOf (planOf (now (plan .entry)) .points) (shareTable (planOf (now (plan .entry))) (numbers (now (inputs .entry))) (numbers (now (coins .entry))) []) ⌝ }
     ensures { λ _. ⌜ drop (h .n * h .gates) (now (table .exit)) ≡ drop (h .n * h .gates) (now (table .entry)) ⌝ }
 {
     let gates = h.gates;
@@ -205,11 +207,21 @@ fn steps(
     let mut at: usize = 0;
     let mut g: usize = 0;
     while g < gates {
-        let x = numbers::read(inputs, i);
-        step(plan, h, points, rows, weights, g, x, coins, at, table);
-        let taken = taken_at(plan, h, g);
-        i += taken.inputs;
-        at += taken.coins;
+        step(
+            plan,
+            h,
+            points,
+            rows,
+            weights,
+            g,
+            inputs,
+            i,
+            coins,
+            at,
+            table,
+        );
+        i += run_ideal::inputs_taken(plan, h, g);
+        at += run_dealings::coins_taken(plan, h, g);
         g += 1;
     }
 }
@@ -219,11 +231,11 @@ pub fn fill(plan: &[u8], h: Header, inputs: &[u8], coins: &[u8], table: &mut [u6
     requires { ⌜ Planned (now plan) h ⌝ }
     requires { ⌜ Given (planOf (now plan)) (now inputs) (now coins) ⌝ }
     requires { ⌜ h .n * h .gates ≤ length (now table) ⌝ }
-    ensures { λ _. ⌜ take (h .n * h .gates) (now (table .exit)) ≡ rowsOf (planOf (now (plan .entry)) .points) (shareTable (planOf (now (plan .entry))) (numbers (now (inputs .entry))) (numbers (now (coins .entry)))) ⌝ }
+    ensures { λ _. ⌜ take (h .n * h .gates) (now (table .exit)) ≡ rowsOf (planOf (now (plan .entry)) .points) (shareTable (planOf (now (plan .entry))) (numbers (now (inputs .entry))) (numbers (now (coins .entry))) []) ⌝ }
     ensures { λ _. ⌜ drop (h .n * h .gates) (now (table .exit)) ≡ drop (h .n * h .gates) (now (table .entry)) ⌝ }
 {
     let n = h.n;
-    let points = seat_messages::points();
+    let points = seat_messages::points_of(plan, h);
     let mut rows = [0u64; 120];
     let mut weights = [0u64; 15];
     run_dealings::prepare(h.field, h.t, &points[..n], &mut rows, &mut weights);

@@ -12,26 +12,31 @@ use native.Mathlib.Omega.{arith}
 use borrow.Author.Needs.{needs}
 use borrow.Author.Tests.{not-true, not-false}
 use lib.ListN.{length, take}
-use Rattle.numbers.specs.Bytes.{numbers, bytesOf}
+use Rattle.numbers.specs.Bytes.{width, numbers, bytesOf}
 use Rattle.numbers.proofs.Bytes.{numbers-length}
 use Rattle.sharing_laws.specs.Interp.{All}
 use Rattle.plan.specs.declared.Header.{Header}
-use Rattle.plan.specs.Plans.{Plan, partyCount, outWires, coinCount, ownInputs, ownCoins}
+use Rattle.plan.specs.Plans.{Plan, partyCount, pointOf, outWires, coinCount, ownInputs, ownCoins}
 use Rattle.plan.specs.File.{planOf}
 use Rattle.plan.specs.Planned.{Planned}
 use Rattle.plan_coalition.specs.Coalitions.{inSet, membersFrom, members, setFits}
 use Rattle.plan.proofs.Planned.{plan-p, plan-n, plan-gates}
-use Rattle.plan.proofs.Valid.{valid}
+use Rattle.plan.proofs.Valid.{Valid, valid, plain, plain-no-7}
 use Rattle.plan_coalition.proofs.Coalitions.{member-in, in-member, all-members, member-party}
-use Rattle.run_protocol.specs.Shares.{shareTable, tableViewOf}
+use Rattle.run_protocol.specs.Rounds.{viewCount}
+use Rattle.run_protocol.specs.Shares.{shareTable}
+use Rattle.run_protocol.specs.Tables.{tableViewOf}
+use Rattle.run_protocol.proofs.Expected.{Tabled}
+use Rattle.run_protocol.proofs.Given.{tabled-none}
+use Rattle.run_protocol.proofs.Runs.{views-table}
+use Rattle.run_protocol.proofs.ViewCounts.{view-count}
 use Rattle.run_dealings.specs.Rows.{rowsOf, powers, Given}
-use Rattle.run_views.specs.ViewCounts.{viewCount}
-use Rattle.run_views.specs.Flat.{firstIn, middleIn, outsIn, openedIn, mailIn, viewIn, Ran}
+use Rattle.run_views.specs.Flat.{firstIn, stepsIn, outsIn, openedIn, mailIn, viewIn, Ran}
 use Rattle.run_views.specs.Writing.{Wrote, storedFrom}
-use Rattle.run_protocol.proofs.Lists.{flatMap-all, all-map}
-use Rattle.run_views.proofs.ViewLaws.{row-count, power-row}
+use Rattle.sharing_laws.proofs.Lists.{flatMap-all, all-map}
+use Rattle.run_views.proofs.ViewLaws.{few-powers, row-count, power-row}
 use Rattle.run_views.proofs.WriteLaws.{storedFrom-whole, wrote-none, wrote-then, Left, left-none, left-then, left-end}
-use Rattle.run_views.proofs.FlatLaws.{table-long, table-below, view-flat, length-views}
+use Rattle.run_views.proofs.FlatLaws.{table-long, table-below, view-flat}
 
 -- ---- parts
 wrote-most : (m k : ℕ) (xs : List ℕ) (at : ℕ) (old new : List ℕ) (next : ℕ) → m ≤ k → Wrote m xs at old new next → Wrote k xs at old new next
@@ -39,21 +44,18 @@ wrote-most m k xs at old new next l w = record { bytes = w .bytes; place = w .pl
 
 module _ (plan : Plan) (h : Header) (table cs : List ℕ) (i at : ℕ) (old : List ℕ) where
   pub mail-done :
-      (a b next : ℕ) (row da db new : List ℕ) → take (h .t + 1) row ≡ powers (h .field .p) i (h .t + 1) → Wrote 15360 (firstIn plan (h .n) table i) at old da a → Wrote 15360 (middleIn plan h table cs (take (h .t + 1) row)) a da db b
+      (a b next : ℕ) (row da db new : List ℕ) → take (h .t + 1) row ≡ powers (h .field .p) (pointOf plan i) (h .t + 1) → Wrote 15360 (firstIn plan (h .n) table i) at old da a → Wrote 15360 (stepsIn plan h table cs (take (h .t + 1) row) 0 (plan .gates)) a da db b
       → Wrote 960 (outsIn plan (h .n) table i) b db new next → Wrote 31680 (mailIn plan h table cs i) at old new next
   unfolding mailIn
   mail-done a b next row da db new e u v w = wrote-then 15360 16320 _ _ at a next old da new u (wrote-then 15360 960 _ _ a b next da db new (rw e at v) w)
 
   pub view-done :
       (xs : List ℕ) (a b c next : ℕ) (da db dc new : List ℕ) → Wrote 1024 (ownInputs plan i xs) at old da a → Wrote 7168 (ownCoins plan i cs) a da db b
-      → Wrote 31680 (mailIn plan h table cs i) b db dc c → Wrote 64 (map (openedIn h table) (outWires plan i)) c dc new next
+      → Wrote 31680 (mailIn plan h table cs i) b db dc c → Wrote 64 (map (openedIn plan h table) (outWires plan i)) c dc new next
       → Wrote 39936 (viewIn plan h table xs cs i) at old new next
   unfolding viewIn
   view-done xs a b c next da db dc new s u v w =
       wrote-then 1024 38912 _ _ at a next old da new s (wrote-then 7168 31744 _ _ a b next da db new u (wrote-then 31680 64 _ _ b c next db dc new v w))
-
-pub few-powers : (bs : List ℕ) (h : Header) → Planned bs h → h .t ≤ 7
-few-powers bs h pl = omega (arith, pl .majority, pl .n-high)
 
 pub ruleset joining = (needs, few-powers, power-row, row-count, mail-done, view-done)
 
@@ -108,7 +110,7 @@ module _ (vs : ℕ → List ℕ) (set : ℕ) (old new : List ℕ) (at i : ℕ) (
 
 -- ---- the run's coins and table
 module _ {bs : List ℕ} {h : Header} (pl : Planned bs h) (inputs coins table : List ℕ) (given : Given (planOf bs) inputs coins)
-    (is : table ≡ rowsOf (planOf bs .points) (shareTable (planOf bs) (numbers inputs) (numbers coins))) where
+    (is : table ≡ rowsOf (planOf bs .points) (shareTable (planOf bs) (numbers inputs) (numbers coins) [])) where
   full : length (numbers coins) ≡ coinCount (planOf bs)
   full = omega (arith, numbers-length coins, given .coins-count)
 
@@ -123,12 +125,11 @@ module _ {bs : List ℕ} {h : Header} (pl : Planned bs h) (inputs coins table : 
               some = pl .n-low;
               few = pl .n-high;
               threshold = pl .majority;
-              points = pl .p-low;
               gates = pl .gates-high;
               flat =
                   record {
                     long = rw (← plan-n pl, ← plan-gates pl) (table-long (planOf bs) (numbers inputs) (numbers coins) table is);
-                    below = rw (← plan-p pl) (table-below (planOf bs) (numbers inputs) (numbers coins) table is (valid bs (pl .passes)) (given .inputs-below));
+                    below = rw (← plan-p pl) (table-below (planOf bs) (numbers inputs) (numbers coins) table is (valid bs (pl .passes)) (rw (plan-n pl) (pl .n-low)));
                   };
             };
       }
@@ -139,22 +140,24 @@ module _ {bs : List ℕ} {h : Header} (pl : Planned bs h) (inputs coins table : 
         all-members (λ i. (1 ≤ i) × (i ≤ partyCount (planOf bs))) (members set)
         (λ m w. (member-in set m w .from, rw (plan-n pl) (member-party (h .n) (h .t) set ok m w)))
 
-    views-flat : flatMap (viewIn (planOf bs) h table (numbers inputs) (numbers coins)) (members set) ≡ flatMap (tableViewOf (planOf bs) (numbers inputs) (numbers coins)) (members set)
+    views-flat : flatMap (viewIn (planOf bs) h table (numbers inputs) (numbers coins)) (members set) ≡ flatMap (tableViewOf (planOf bs) (numbers inputs) (numbers coins) []) (members set)
     views-flat =
-        flatMap-all (viewIn (planOf bs) h table (numbers inputs) (numbers coins)) (tableViewOf (planOf bs) (numbers inputs) (numbers coins)) (members set)
-        (all-map (λ i. (1 ≤ i) × (i ≤ partyCount (planOf bs))) (λ i. viewIn (planOf bs) h table (numbers inputs) (numbers coins) i ≡ tableViewOf (planOf bs) (numbers inputs) (numbers coins) i) (members set)
+        flatMap-all (viewIn (planOf bs) h table (numbers inputs) (numbers coins)) (tableViewOf (planOf bs) (numbers inputs) (numbers coins) []) (members set)
+        (all-map (λ i. (1 ≤ i) × (i ≤ partyCount (planOf bs))) (λ i. viewIn (planOf bs) h table (numbers inputs) (numbers coins) i ≡ tableViewOf (planOf bs) (numbers inputs) (numbers coins) [] i) (members set)
         (λ i q. view-flat pl (numbers inputs) (numbers coins) table is full i (q .0) (q .1)) parties-only)
 
-    views-long : length (flatMap (tableViewOf (planOf bs) (numbers inputs) (numbers coins)) (members set)) ≡ viewCount (planOf bs) (members set)
+    views-long : length (flatMap (tableViewOf (planOf bs) (numbers inputs) (numbers coins) []) (members set)) ≡ viewCount (planOf bs) (members set)
     views-long =
-        length-views (planOf bs) (valid bs (pl .passes)) (numbers inputs) (numbers coins) full (members set)
-        (all-map (λ i. (1 ≤ i) × (i ≤ partyCount (planOf bs))) (λ i. 1 ≤ i) (members set) (λ i q. q .0) parties-only)
+        let ok : Valid (planOf bs) = valid bs (pl .passes) in
+        let none : Tabled (planOf bs) [] [] = tabled-none (planOf bs) [] (plain-no-7 (planOf bs) (plain bs (pl .passes))) in
+        ap length (sym (views-table (planOf bs) ok (numbers inputs) (numbers coins) [] [] full none (members set) parties-only))
+        ∙ view-count (planOf bs) ok (numbers inputs) (numbers coins) [] [] full none (members set) parties-only
 
     pub views-done :
-        (old new : List ℕ) (at i : ℕ) → length old ≡ 2 * viewCount (planOf bs) (members set) → Viewed (viewIn (planOf bs) h table (numbers inputs) (numbers coins)) set old new at i → 16 < i
-        → new ≡ bytesOf (flatMap (tableViewOf (planOf bs) (numbers inputs) (numbers coins)) (members set))
+        (old new : List ℕ) (at i : ℕ) → length old ≡ width * viewCount (planOf bs) (members set) → Viewed (viewIn (planOf bs) h table (numbers inputs) (numbers coins)) set old new at i → 16 < i
+        → new ≡ bytesOf (flatMap (tableViewOf (planOf bs) (numbers inputs) (numbers coins) []) (members set))
     views-done old new at i room s l =
         views-end _ set old new at i s l ∙ ap (storedFrom old 0) views-flat
-        ∙ storedFrom-whole old (flatMap (tableViewOf (planOf bs) (numbers inputs) (numbers coins)) (members set)) (omega (arith, views-long))
+        ∙ storedFrom-whole old (flatMap (tableViewOf (planOf bs) (numbers inputs) (numbers coins) []) (members set)) (omega (arith, views-long))
 
 pub ruleset viewing = (needs, ran, views-none, views-near, views-next, views-done)

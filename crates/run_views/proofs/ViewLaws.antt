@@ -1,29 +1,29 @@
 -- What each way through the code of a view says of its definition.
 --     putting, putting-or-not  one number, and one after a test
 --     sorting                  a gate by its kind
---     Inputting, inputting     a party's own inputs
+--     putting-input, Inputting, inputting     a party's own inputs
 --     reading                  a share in the table
 --     Sifting, sifting         numbers of the wires whose gate passes a test, and of a party's outs
 --     Rounding, rounding       a list for each party
 -- Assumes nothing.
-use mathlib.Core.Path.{_≡_, refl, sym, ap, _∙_}
+use mathlib.Core.Path.{_≡_, refl, sym, ap, ap₂, _∙_}
 use mathlib.Core.Bool.{Bool, true, false, cond, not}
 use mathlib.Core.List.{List, [], _∷_, _++_, map, flatMap, append-nil}
-use Prim.Native.Nat.{ℕ, suc, _+_, _-_, _*_, _/_, _%_, _^_, _<_, _≤_}
+use Prim.Native.Nat.{ℕ, zero, suc, _+_, _-_, _*_, _/_, _%_, _^_, _<_, _≤_}
 use native.Mathlib.Numerals.{add-one}
-use native.Mathlib.Nat.{mul-le-mul, mul-le-mul-left, mul-le-mul-right, mul-zero, mul-suc, mul-add, add-sub-cancel-left}
+use native.Mathlib.Nat.{add-zero, mul-le-mul, mul-le-mul-left, mul-le-mul-right, mul-zero, mul-suc, mul-add, add-sub-cancel-left}
 use native.Mathlib.Omega.{arith}
 use borrow.Author.Needs.{needs}
-use borrow.Author.Tests.{not-true, not-false, ltb-true, lt-ltb, leb-true, leb-false, le-leb, lt-leb, eq-eqb, ne-eqb}
+use borrow.Author.Tests.{not-true, not-false, ltb-true, lt-ltb, leb-true, leb-false, le-leb, lt-leb, eq-eqb, ne-eqb, eqb-true, eqb-false}
 use lib.Dec.{eqb, leb}
-use lib.ListN.{length, getD, take, drop, drop-of-length-le, length-append, length-drop, take-append-drop, List·getD-eq-default}
-use lib.Seq.{take-suc, take-at, drop-cons, drop-drop, getD-drop, length-take-le}
+use lib.ListN.{length, getD, take, drop, replicate, drop-of-length-le, length-drop, List·getD-eq-default}
+use lib.Seq.{take-at, drop-cons, drop-drop, getD-take, getD-drop, length-take-le}
 use mir.Syntax.{w64}
 use mir.Val.{Fits}
 use Rattle.numbers.specs.Tables.{tab}
 use Rattle.numbers.specs.Bytes.{wordAt, numbers, allBelow}
-use Rattle.numbers.proofs.Tables.{length-tab, getD-tab, row-room}
-use Rattle.numbers.proofs.Below.{allBelow-take, allBelow-drop, allBelow-tab}
+use Rattle.numbers.proofs.Tables.{length-tab, getD-tab, is-tab, row-room}
+use Rattle.numbers.proofs.Below.{allBelow-at, allBelow-take, allBelow-drop}
 use Rattle.numbers.proofs.Bytes.{numbers-length}
 use Rattle.numbers.proofs.Truth.{both-true}
 use Rattle.field.specs.Mod.{mul}
@@ -33,28 +33,26 @@ use Rattle.sharing_laws.specs.Sharing.{opened}
 use Rattle.sharing_openings.specs.Openable.{Openable}
 use Rattle.sharing.proofs.Coding.{entry-below, Summed, sum-none, sum-more, next-fits, sum-next, sum-reducible, sum-reduced}
 use Rattle.plan.specs.declared.Gate.{Gate}
-use Rattle.plan.specs.declared.Gate.the-variants.{Input, Add, Scale, Offset, Multiply}
+use Rattle.plan.specs.declared.Gate.the-variants.{Input, Add, Scale, Offset, Multiply, Random, Spend}
 use Rattle.plan.specs.declared.Output.{Output}
 use Rattle.plan.specs.declared.Header.{Header}
-use Rattle.plan.specs.Plans.{Plan, dealerCount, dealersOf, dealings, coinCount, ownBlocks, ownCoins, partyCount, parties, isInputOf, isMultiply, wiresFrom, wiresWhere, inputWires, outWiresOf, outWires, ownInputsOf, ownInputs}
+use Rattle.plan.specs.Plans.{Plan, partyCount, dealerCount, parties, pointOf, kindOf, isKind, operandsOf, isInputOf, wiresFrom, inputWires, outWiresOf, outWires, inputOwnersAt, inputOwners, dealingsAt, coinOwnersAt, coinOwners, coinCount, ownOf, ownInputs, ownCoins}
 use Rattle.plan.specs.File.{between, gateOf, gateAt, outAt, outOk, planOf}
 use Rattle.plan.specs.Planned.{Planned}
-use Rattle.plan.proofs.Planned.{plan-t, plan-n, plan-gates, plan-outs, plan-gate, plan-out}
-use Rattle.plan.proofs.Valid.{valid}
-use Rattle.seat_sending.specs.Sending.{coinsFrom}
-use Rattle.seat_messages.proofs.PointLaws.{first-points, first-points-below}
-use Rattle.seat_sending.proofs.DealLaws.{length-coinsFrom, coinsFrom-part}
+use Rattle.plan.proofs.Planned.{plan-t, plan-n, plan-dealers, plan-gates, plan-outs, plan-gate, plan-out}
+use Rattle.plan.proofs.Valid.{valid, plain, planned-ready}
+use Rattle.seat_messages.proofs.PointLaws.{plan-points-long, plan-points-below, points-at}
 use Rattle.run_protocol.specs.Ideal.{inputsTaken}
-use Rattle.run_protocol.specs.Shares.{coinsBelow}
-use Rattle.run_dealings.specs.Rows.{powers, coinsIn}
-use Rattle.run_dealings.proofs.CoinLaws.{in-few, coins-number}
-use Rattle.run_views.specs.Flat.{shareIn, rowIn, firstIn, outsIn, openedIn, pieceIn, piecesIn, middleIn, ownAt, Running, PowerRow}
+use Rattle.run_protocol.proofs.Owners.{own-append, own-same, own-other, blocks, length-blocks, own-block}
+use Rattle.run_protocol.proofs.Dealt.{input-owners, reduction-owners, random-owners}
+use Rattle.run_ideal.proofs.IdealLaws.{no-random, taken-next}
+use Rattle.run_dealings.specs.Rows.{powers}
+use Rattle.run_dealings.proofs.CoinLaws.{coins-input, coins-multiply, coins-random}
+use Rattle.run_tables.proofs.FillLaws.{taken-within}
+use Rattle.run_views.specs.Flat.{shareIn, rowIn, firstIn, outsIn, openedIn, pieceIn, piecesIn, stepsIn, Running, PowerRow}
 use Rattle.run_views.specs.Writing.{Wrote}
-use Rattle.run_protocol.proofs.Lists.{flatMap-append}
-use Rattle.run_protocol.proofs.Blocks.{ownBlocks-append, ownBlocks-none, own-dealing}
 use Rattle.run_dealings.proofs.PowerLaws.{length-powers, powers-below}
-use Rattle.run_views.proofs.WriteLaws.{wrote-none, wrote-one, wrote-unwanted, Left, left-none, left-then, left-end}
-use Rattle.sharing_laws.proofs.Alls.{all-tab}
+use Rattle.run_views.proofs.WriteLaws.{wrote-none, wrote-as, wrote-one, wrote-unwanted, Left, left-none, left-then, left-end}
 
 -- ---- one number
 -- the number and the test by other names
@@ -85,7 +83,7 @@ input-at i gate x r e f = f ∙ ap (isInputOf i) e
 -- a gate whose first byte is not 1 is no party's input
 not-input : (j a b : ℕ) (x : Gate) → 1 ≤ j → (z two three four five : Bool)
     → false ≡ isInputOf j (cond z (cond false x (cond two (Add a b) (cond three (Scale a b) (cond four (Offset a b) (cond five (Multiply a b) (Input 0)))))) (Input 0))
-unfolding isInputOf
+unfolding isInputOf isKind kindOf operandsOf
 not-input j a b x l false two three four five = sym (ne-eqb j 0 (λ e. omega arith))
 not-input j a b x l true true three four five = refl
 not-input j a b x l true false true four five = refl
@@ -116,44 +114,60 @@ module _ {bs : List ℕ} {h : Header} (pl : Planned bs h) where
   gates-end g l = drop-of-length-le (planOf bs .gates) {i = g} (omega (arith, plan-gates pl))
 
 -- ---- a party's own inputs
-one-or-none : (b : Bool) (x : ℕ) (xs : List ℕ) → cond b (x ∷ xs) xs ≡ cond b (x ∷ []) [] ++ xs
-one-or-none true x xs = refl
-one-or-none false x xs = refl
+-- of a gate that takes one at most
+one-or-none : (i o x : ℕ) (ys : List ℕ) → x ≡ getD ys 0 0 → cond (eqb i o) (x ∷ []) [] ≡ ownOf i (o ∷ []) ys
+unfolding ownOf
+one-or-none i o x ys e = rw e
 
-inputs-step : (i : ℕ) (x : Gate) (gs : List Gate) (xs : List ℕ) → ownInputsOf i (x ∷ gs) xs ≡ cond (isInputOf i x) (getD xs 0 0 ∷ []) [] ++ ownInputsOf i gs (drop (inputsTaken x) xs)
-unfolding ownInputsOf isInputOf inputsTaken
-inputs-step i (Input s) gs xs = one-or-none (eqb i s) (getD xs 0 0) (ownInputsOf i gs (drop 1 xs))
-inputs-step i (Add a b) gs xs = refl
-inputs-step i (Scale a c) gs xs = refl
-inputs-step i (Offset a c) gs xs = refl
-inputs-step i (Multiply a b) gs xs = refl
+own-input-at : (plan : Plan) (i x : ℕ) (ys : List ℕ) → x ≡ getD ys 0 0 → (gate : Gate) → (gate ≡ Random → ⊥) → cond (isInputOf i gate) (x ∷ []) [] ≡ ownOf i (inputOwnersAt plan gate) ys
+unfolding isInputOf isKind kindOf operandsOf inputOwnersAt ownOf
+own-input-at plan i x ys e (Input s) n = one-or-none i s x ys e
+own-input-at plan i x ys e (Add a b) n = refl
+own-input-at plan i x ys e (Scale a c) n = refl
+own-input-at plan i x ys e (Offset a c) n = refl
+own-input-at plan i x ys e (Multiply a b) n = refl
+own-input-at plan i x ys e Random n = absurd (n refl)
+own-input-at plan i x ys e (Spend a b) n = refl
+
+pub put-input :
+    (bs : List ℕ) (h : Header) (i g k x at next : ℕ) (t : Bool) (gate : Gate) (xs old new : List ℕ) → Planned bs h → g < h .gates → gate ≡ gateAt bs g → t ≡ isInputOf i gate → x ≡ getD xs k 0
+    → Wrote 1 (cond t (x ∷ []) []) at old new next → Wrote 1 (ownOf i (inputOwnersAt (planOf bs) (gateAt bs g)) (drop k xs)) at old new next
+put-input bs h i g k x at next t gate xs old new pl l e et ex w =
+    let first : x ≡ getD (drop k xs) 0 0 = ex ∙ ap (λ (m : ℕ). getD xs m 0) (sym (add-zero k)) ∙ sym (getD-drop k xs 0 0) in
+    rw (← own-input-at (planOf bs) i x (drop k xs) first (gateAt bs g) (no-random bs h pl g l), ← e, ← et) w
+
+pub ruleset putting-input = (needs, put-input)
 
 -- the invariant at gate g, when input k is the next
 pub record Inputting (bs xs : List ℕ) (i at : ℕ) (old new : List ℕ) (next k g : ℕ) : Type 0 where
-  pub left : Left (ownInputs (planOf bs) i xs) at old new next (ownInputsOf i (drop g (planOf bs .gates)) (drop k xs)) g
+  pub left : Left (ownInputs (planOf bs) i xs) at old new next (ownOf i (flatMap (inputOwnersAt (planOf bs)) (drop g (planOf bs .gates))) (drop k xs)) g
   pub within : g ≤ 1024
-  pub taken : k ≤ g
+  pub taken : k ≤ 15 * g
 
 pub inputs-none : (bs xs : List ℕ) (i at : ℕ) (old : List ℕ) → Inputting bs xs i at old old at 0 0
-unfolding ownInputs
+unfolding ownInputs inputOwners
 inputs-none bs xs i at old = record { left = left-none _ at old _ refl; within = omega arith; taken = omega arith }
+
+-- one gate more
+own-step : (i m k : ℕ) (os ps xs : List ℕ) → m ≡ length os → ownOf i (os ++ ps) (drop k xs) ≡ ownOf i os (drop k xs) ++ ownOf i ps (drop (k + m) xs)
+own-step i m k os ps xs e = own-append i os ps (drop k xs) ∙ ap (λ (l : List ℕ). ownOf i os (drop k xs) ++ ownOf i ps l) (drop-drop (length os) k xs ∙ ap (λ (n : ℕ). drop (k + n) xs) (sym e))
 
 module _ (bs : List ℕ) (h : Header) (xs : List ℕ) (i at : ℕ) (old new : List ℕ) (next k g : ℕ) (s : Inputting bs xs i at old new next k g) (pl : Planned bs h) where
   pub inputs-next :
-      (gate : Gate) (b : ℕ) (new′ : List ℕ) (next′ : ℕ) → g < h .gates → gate ≡ gateAt bs g → b ≡ inputsTaken gate → b ≤ 1
-      → Wrote 1 (cond (isInputOf i gate) (getD xs k 0 ∷ []) []) next new new′ next′ → length new′ ≡ length new → Inputting bs xs i at old new′ next′ (k + b) (g + 1)
-  inputs-next gate b new′ next′ l e eb m w n =
-      let z : k + 0 ≡ k = omega arith in
+      (b : ℕ) (new′ : List ℕ) (next′ : ℕ) → g < h .gates → b ≡ inputsTaken (planOf bs) (gateAt bs g) → b ≤ 15
+      → Wrote 1 (ownOf i (inputOwnersAt (planOf bs) (gateAt bs g)) (drop k xs)) next new new′ next′ → length new′ ≡ length new → Inputting bs xs i at old new′ next′ (k + b) (g + 1)
+  unfolding inputsTaken flatMap
+  inputs-next b new′ next′ l eb m w n =
       record {
         left =
             left-then _ at old new next _ g (s .left) 1 _ _ new′ next′ (g + 1)
-            (rw (gates-from pl g gate l e, inputs-step, getD-drop k xs 0 0, z, drop-drop, ← eb)) w n (omega arith);
+            (rw (gates-from pl g (gateAt bs g) l refl) (own-step i b k (inputOwnersAt (planOf bs) (gateAt bs g)) (flatMap (inputOwnersAt (planOf bs)) (drop (g + 1) (planOf bs .gates))) xs eb)) w n (omega arith);
         within = omega (arith, pl .gates-high);
         taken = omega (arith, s .taken);
       }
 
   pub inputs-end : h .gates ≤ g → Wrote 1024 (ownInputs (planOf bs) i xs) at old new next
-  unfolding ownInputsOf
+  unfolding ownOf flatMap
   inputs-end l = left-end _ at old new next _ g (s .left) 1024 (rw (gates-end pl g l)) (s .within)
 
 pub ruleset inputting = (needs, inputs-none, inputs-next, inputs-end)
@@ -190,11 +204,10 @@ sift-step false f w ws = refl
 
 -- the invariant at gate g
 pub record Sifting (test : Gate → Bool) (f : ℕ → ℕ) (bs : List ℕ) (at : ℕ) (old new : List ℕ) (next g : ℕ) : Type 0 where
-  pub left : Left (map f (wiresWhere test (planOf bs))) at old new next (map f (wiresFrom test g (drop g (planOf bs .gates)))) g
+  pub left : Left (map f (wiresFrom test 0 (planOf bs .gates))) at old new next (map f (wiresFrom test g (drop g (planOf bs .gates)))) g
   pub within : g ≤ 1024
 
 pub sift-none : (test : Gate → Bool) (f : ℕ → ℕ) (bs : List ℕ) (at : ℕ) (old : List ℕ) → Sifting test f bs at old old at 0
-unfolding wiresWhere
 sift-none test f bs at old = record { left = left-none _ at old _ refl; within = omega arith }
 
 module _ (test : Gate → Bool) (f : ℕ → ℕ) (bs : List ℕ) (h : Header) (at : ℕ) (old new : List ℕ) (next g : ℕ) (s : Sifting test f bs at old new next g) (pl : Planned bs h) where
@@ -210,13 +223,13 @@ module _ (test : Gate → Bool) (f : ℕ → ℕ) (bs : List ℕ) (h : Header) (
         within = omega (arith, pl .gates-high);
       }
 
-  pub sift-end : h .gates ≤ g → Wrote 1024 (map f (wiresWhere test (planOf bs))) at old new next
+  pub sift-end : h .gates ≤ g → Wrote 1024 (map f (wiresFrom test 0 (planOf bs .gates))) at old new next
   unfolding wiresFrom
   sift-end l = left-end _ at old new next _ g (s .left) 1024 (rw (gates-end pl g l)) (s .within)
 
 -- the same for a party's inputs
 pub inputs-sifted :
-    (j : ℕ) (f : ℕ → ℕ) (bs : List ℕ) (at : ℕ) (old new : List ℕ) (next : ℕ) → Wrote 1024 (map f (wiresWhere (isInputOf j) (planOf bs))) at old new next
+    (j : ℕ) (f : ℕ → ℕ) (bs : List ℕ) (at : ℕ) (old new : List ℕ) (next : ℕ) → Wrote 1024 (map f (wiresFrom (isInputOf j) 0 (planOf bs .gates))) at old new next
     → Wrote 1024 (map f (inputWires (planOf bs) j)) at old new next
 unfolding inputWires
 inputs-sifted j f bs at old new next w = w
@@ -342,25 +355,25 @@ module _ (h : Header) (table : List ℕ) (w : ℕ) (r : Running h table) (l : w 
   unfolding rowIn
   row-below = allBelow-take (h .field .p) (h .n) (drop (h .n * w) table) (allBelow-drop (h .field .p) (h .n * w) table (r .flat .below))
 
-  module _ (all : List ℕ) (e : all ≡ tab suc 15) where
+  module _ (bs : List ℕ) (pl : Planned bs h) (all : List ℕ) (e : take (h .n) all ≡ planOf bs .points) where
     pub points-long : h .n ≡ length (take (h .n) all)
-    points-long = rw (first-points all (h .n) e (r .few), length-tab)
+    points-long = sym (ap length e ∙ plan-points-long bs h pl)
 
     pub openable : Openable (h .field .p) (h .t) (take (h .n) all) (take (h .n * w + h .n - h .n * w) (drop (h .n * w) table))
     openable =
         rw (row-is)
         (record {
           ready = r .ready;
-          elements = first-points-below all (h .field .p) (h .n) e (r .few) (r .points);
+          elements = rw e (plan-points-below bs h pl);
           known = row-below;
           threshold = omega (arith, points-long, r .threshold);
           few = omega (arith, points-long, r .few);
           each = row-long ∙ points-long;
         })
 
-    pub opened-is : (v : ℕ) → Is (h .field .p) (opened (h .field .p) (h .t) (take (h .n) all) (take (h .n * w + h .n - h .n * w) (drop (h .n * w) table))) v → Is (h .field .p) (openedIn h table w) v
+    pub opened-is : (v : ℕ) → Is (h .field .p) (opened (h .field .p) (h .t) (take (h .n) all) (take (h .n * w + h .n - h .n * w) (drop (h .n * w) table))) v → Is (h .field .p) (openedIn (planOf bs) h table w) v
     unfolding openedIn
-    opened-is v q = rw (row-is, first-points all (h .n) e (r .few)) at q
+    opened-is v q = rw (row-is, e) at q
 
 pub ruleset opening = (needs, row-within, start-fits, end-fits, bytes-fit, points-long, openable, opened-is)
 
@@ -395,66 +408,91 @@ module _ (f : ℕ → ℕ) (m at : ℕ) (old new : List ℕ) (next j : ℕ) (s :
   tab-done k l q = left-end _ at old new next _ j (s .left) k (drop-of-length-le (tab f m) {i = j} (rw length-tab l)) (omega (arith, s .within))
 
 -- ---- the coins of a dealing
-pub coins-done :
-    (t from : ℕ) (cs : List ℕ) (at : ℕ) (old new : List ℕ) (next j : ℕ) → Tabbing (λ k. getD cs (from + k) 0) t at old new next j → t ≤ j → t ≤ 7
-    → Wrote 7 (coinsFrom t from cs) at old new next
-unfolding coinsFrom
-coins-done t from cs at old new next j s l few = tab-done _ t at old new next j s 7 l few
+coins-tab : (t from : ℕ) (cs : List ℕ) → from + t ≤ length cs → tab (λ k. getD cs (from + k) 0) t ≡ take t (drop from cs)
+coins-tab t from cs l =
+    sym (is-tab (λ k. getD cs (from + k) 0) t (take t (drop from cs)) 0 (length-take-le t (drop from cs) (omega (arith, length-drop from cs)))
+    (λ k m. getD-take t (drop from cs) k 0 m ∙ getD-drop from cs k 0))
 
-pub ruleset copying = (needs, tab-none, tab-put, coins-done)
+pub coins-done :
+    (t from : ℕ) (coins : List ℕ) (at : ℕ) (old new : List ℕ) (next j : ℕ) → Tabbing (λ k. getD (numbers coins) (from + k) 0) t at old new next j → t ≤ j → t ≤ 7
+    → from + t ≤ length coins / 2 → Wrote 7 (take t (drop from (numbers coins))) at old new next
+coins-done t from coins at old new next j s l few room =
+    rw (← coins-tab t from (numbers coins) (omega (arith, numbers-length coins))) (tab-done _ t at old new next j s 7 l few)
+
+module _ (t from j : ℕ) (coins : List ℕ) (room : from + t ≤ length coins / 2) (l : j < t) where
+  pub coin-within : from + j < length coins / 2
+  coin-within = omega arith
+
+  pub coin-fits : length coins < 2 ^ 64 → Fits w64 (from + j)
+  coin-fits f = record { fits = omega arith }
+
+pub ruleset copying = (needs, tab-none, tab-put, coins-done, coin-within, coin-fits)
 
 -- ---- the share of a dealing
-coin-at : (t from : ℕ) (cs : List ℕ) (j : ℕ) → j < t → getD (coinsFrom t from cs) j 0 ≡ getD cs (from + j) 0
-unfolding coinsFrom
-coin-at t from cs j l = getD-tab (λ k. getD cs (from + k) 0) t j 0 l
+module _ (p t from s : ℕ) (ws coins : List ℕ) (room : from + t ≤ length coins / 2) where
+  abbrev cs : List ℕ
+  cs = numbers coins
 
-module _ (p t from s : ℕ) (ws cs : List ℕ) where
+  own : List ℕ
+  own = take t (drop from (numbers coins))
+
+  own-long : length own ≡ t
+  unfolding own
+  own-long = length-take-le t (drop from cs) (omega (arith, length-drop from cs, numbers-length coins))
+
   -- the polynomial, and that it fits the powers
-  coefficients-long : length (s ∷ coinsFrom t from cs) ≡ t + 1
-  coefficients-long = omega (arith, length-coinsFrom t from cs)
+  coefficients-long : length (s ∷ own) ≡ t + 1
+  coefficients-long = omega (arith, own-long)
 
-  coefficients-below : Ready p → allBelow p cs ≡ true → s < p → allBelow p (s ∷ coinsFrom t from cs) ≡ true
-  unfolding allBelow coinsFrom
-  coefficients-below r b l = rw (lt-ltb s p l) (allBelow-tab p (λ k. getD cs (from + k) 0) t (λ k m. entry-below p cs (from + k) r b))
+  coefficients-below : Ready p → allBelow p cs ≡ true → s < p → allBelow p (s ∷ own) ≡ true
+  unfolding allBelow own
+  coefficients-below r b l = rw (lt-ltb s p l) (allBelow-take p t (drop from cs) (allBelow-drop p from cs b))
 
-  next-coefficient : (j : ℕ) → j < t → getD (s ∷ coinsFrom t from cs) (j + 1) 0 ≡ getD cs (from + j) 0
-  next-coefficient j l = rw add-one (coin-at t from cs j l)
+  next-coefficient : (j : ℕ) → j < t → getD (s ∷ own) (j + 1) 0 ≡ getD cs (from + j) 0
+  unfolding own
+  next-coefficient j l = rw add-one (getD-take t (drop from cs) j 0 l ∙ getD-drop from cs j 0)
 
-  module _ (r : Ready p) (bw : allBelow p ws ≡ true) (long : length ws ≡ t + 1) (b : allBelow p cs ≡ true) (l : s < p) where
+  module _ (r : Ready p) (bw : allBelow p ws ≡ true) (long : length ws ≡ t + 1) (b : allBelow p (numbers coins) ≡ true) (l : s < p) where
     pub dealt-start : 0 < length ws
     dealt-start = omega arith
 
     pub dealt-first-below : Below2 p (getD ws 0 0) s
     dealt-first-below = record { above = r .prime .above; small = r .small; left = entry-below p ws 0 r bw; right = l }
 
-    pub dealt-first : (z : ℕ) → z ≡ getD ws 0 0 * s → Summed ws (s ∷ coinsFrom t from cs) z 1
+    pub dealt-first : (z : ℕ) → z ≡ getD ws 0 0 * s → Summed ws (s ∷ take t (drop from (numbers coins))) z 1
+    unfolding own
     dealt-first z e =
         let q : z ≡ 0 + getD ws 0 0 * s = omega arith in
-        rw q (sum-more ws (s ∷ coinsFrom t from cs) p 0 0 r bw (coefficients-below r b l) (omega (arith, coefficients-long)) (sum-none ws (s ∷ coinsFrom t from cs)) (omega arith))
+        rw q (sum-more ws (s ∷ take t (drop from (numbers coins))) p 0 0 r bw (coefficients-below r b l) (omega (arith, coefficients-long)) (sum-none ws (s ∷ take t (drop from (numbers coins)))) (omega arith))
 
-    module _ (sum j : ℕ) (v : Summed ws (s ∷ coinsFrom t from cs) sum (j + 1)) where
+    module _ (sum j : ℕ) (v : Summed ws (s ∷ take t (drop from (numbers coins))) sum (j + 1)) where
       pub dealt-place : j < t → j + 1 < length ws
       dealt-place m = omega arith
 
-      module _ (y : ℕ) (e : y ≡ getD cs (from + j) 0) where
+      module _ (y : ℕ) (e : y ≡ getD (numbers coins) (from + j) 0) where
         pub dealt-below : Below2 p (getD ws (j + 1) 0) y
         dealt-below = record { above = r .prime .above; small = r .small; left = entry-below p ws (j + 1) r bw; right = rw e (entry-below p cs (from + j) r b) }
 
         module _ (z : ℕ) (f : z ≡ getD ws (j + 1) 0 * y) (m : j < t) where
-          same-term : z ≡ getD ws (j + 1) 0 * getD (s ∷ coinsFrom t from cs) (j + 1) 0
+          same-term : z ≡ getD ws (j + 1) 0 * getD (s ∷ take t (drop from (numbers coins))) (j + 1) 0
+          unfolding own
           same-term = rw (f, e, ← next-coefficient j m)
 
           pub dealt-fits : t ≤ 7 → sum + z < 2 ^ 64
-          dealt-fits few = next-fits ws (s ∷ coinsFrom t from cs) p r bw (coefficients-below r b l) sum (j + 1) v z same-term (omega arith)
+          unfolding own
+          dealt-fits few = next-fits ws (s ∷ take t (drop from (numbers coins))) p r bw (coefficients-below r b l) sum (j + 1) v z same-term (omega arith)
 
-          pub dealt-more : Summed ws (s ∷ coinsFrom t from cs) (sum + z) (j + 1 + 1)
-          dealt-more = sum-next ws (s ∷ coinsFrom t from cs) p r bw (coefficients-below r b l) sum (j + 1) v z same-term (omega (arith, coefficients-long)) (omega arith)
+          pub dealt-more : Summed ws (s ∷ take t (drop from (numbers coins))) (sum + z) (j + 1 + 1)
+          unfolding own
+          dealt-more = sum-next ws (s ∷ take t (drop from (numbers coins))) p r bw (coefficients-below r b l) sum (j + 1) v z same-term (omega (arith, coefficients-long)) (omega arith)
 
       pub dealt-reducible : (m : ℕ) → m ≡ reciprocal p → t ≤ 7 → Reducible p m sum
-      dealt-reducible m e few = sum-reducible ws (s ∷ coinsFrom t from cs) p r bw (coefficients-below r b l) sum (j + 1) v m e (omega arith)
+      unfolding own
+      dealt-reducible m e few = sum-reducible ws (s ∷ take t (drop from (numbers coins))) p r bw (coefficients-below r b l) sum (j + 1) v m e (omega arith)
 
-      pub dealt-done : (y : ℕ) → t ≤ j → Is p (sum % p) y → Is p (dot p ws (s ∷ coinsFrom t from cs)) y
-      dealt-done y m e = sum-reduced ws (s ∷ coinsFrom t from cs) p r bw (coefficients-below r b l) sum (j + 1) v y (omega arith) e
+      pub dealt-done : (y : ℕ) → t ≤ j → Is p (sum % p) y → Is p (dot p ws (s ∷ take t (drop from (numbers coins)))) y
+      unfolding own
+      dealt-done y m e = sum-reduced ws (s ∷ take t (drop from (numbers coins))) p r bw (coefficients-below r b l) sum (j + 1) v y (omega arith) e
 
 pub ruleset dealing = (needs, dealt-start, dealt-first-below, dealt-first, dealt-place, dealt-below, dealt-fits, dealt-more, dealt-reducible, dealt-done)
 
@@ -482,164 +520,188 @@ module _ (p x y z : ℕ) (e : z ≡ x * y) where
 pub ruleset multiplying = (needs, share-under, running-field, product-reducible, product-of)
 
 -- ---- where the coins of gate g begin
-module _ (plan : Plan) where
-  coins-start : coinsBelow plan 0 ≡ 0
-  unfolding coinsBelow flatMap
-  coins-start = mul-zero (plan .t)
-
-  module _ (g : ℕ) (l : g < length (plan .gates)) where
-    pub coins-next : coinsBelow plan (g + 1) ≡ coinsBelow plan g + plan .t * length (dealersOf plan (getD (plan .gates) g (Input 0)))
-    unfolding coinsBelow flatMap
-    coins-next =
-        rw (add-one, take-suc (plan .gates) g (Input 0) l, flatMap-append (dealersOf plan) (take g (plan .gates)) (getD (plan .gates) g (Input 0) ∷ []), length-append, append-nil, mul-add)
-
-    pub coins-room : coinsBelow plan (g + 1) ≤ coinCount plan
-    unfolding coinsBelow coinCount dealings
-    coins-room =
-        let e : length (flatMap (dealersOf plan) (plan .gates)) ≡ length (flatMap (dealersOf plan) (take (g + 1) (plan .gates))) + length (flatMap (dealersOf plan) (drop (g + 1) (plan .gates))) =
-        ap (λ (l : List Gate). length (flatMap (dealersOf plan) l)) (sym (take-append-drop (g + 1) (plan .gates)))
-        ∙ ap length (flatMap-append (dealersOf plan) (take (g + 1) (plan .gates)) (drop (g + 1) (plan .gates)))
-        ∙ length-append (flatMap (dealersOf plan) (take (g + 1) (plan .gates))) (flatMap (dealersOf plan) (drop (g + 1) (plan .gates))) in
-        mul-le-mul-left (plan .t) (omega (arith, e))
-
 -- the coins before gate g are drawn: those of gate g begin at `from`
 pub record Drawn (bs : List ℕ) (from g : ℕ) : Type 0 where
-  pub place : from ≡ coinsBelow (planOf bs) g
+  pub place : from ≡ length (flatMap (coinOwnersAt (planOf bs)) (take g (planOf bs .gates)))
   pub near : from ≤ 105 * g
   pub within : g ≤ 1024
 
 draw-none : (bs : List ℕ) → Drawn bs 0 0
-draw-none bs = record { place = sym (coins-start (planOf bs)); near = omega arith; within = omega arith }
+unfolding flatMap
+draw-none bs = record { place = refl; near = omega arith; within = omega arith }
 
-module _ (bs : List ℕ) (h : Header) (from g : ℕ) (w : Drawn bs from g) (pl : Planned bs h) (gate : Gate) (d : ℕ) (l : g < h .gates) (e : gate ≡ gateAt bs g) (ed : d ≡ coinsIn (h .t) gate) (m : d ≤ 105) where
-  drawn-here : d ≡ planOf bs .t * length (dealersOf (planOf bs) gate)
-  drawn-here = rw (ed, ← plan-t pl, coins-number (planOf bs) gate)
+module _ (bs : List ℕ) (h : Header) (from g : ℕ) (w : Drawn bs from g) (pl : Planned bs h) (l : g < h .gates) where
+  draw-next : (d : ℕ) → d ≡ length (coinOwnersAt (planOf bs) (gateAt bs g)) → d ≤ 105 → Drawn bs (from + d) (g + 1)
+  draw-next d ed m = record {
+    place = taken-next (coinOwnersAt (planOf bs)) bs h from g d pl (w .place) l ed;
+    near = omega (arith, w .near);
+    within = omega (arith, pl .gates-high);
+  }
 
-  draw-next : Drawn bs (from + d) (g + 1)
-  draw-next =
-      let q : g < length (planOf bs .gates) = omega (arith, plan-gates pl) in
-      record {
-        place = rw (coins-next (planOf bs) g q, plan-gate pl g l, ← e, ← w .place, drawn-here);
-        near = omega (arith, w .near);
-        within = omega (arith, pl .gates-high);
-      }
-
-  draw-room : from + planOf bs .t * length (dealersOf (planOf bs) gate) ≤ coinCount (planOf bs)
-  draw-room =
-      let q : g < length (planOf bs .gates) = omega (arith, plan-gates pl) in
-      rw (← drawn-here, draw-next .place) (coins-room (planOf bs) g q)
+  draw-room : (coins : List ℕ) → length (numbers coins) ≡ coinCount (planOf bs) → from + length (coinOwnersAt (planOf bs) (gateAt bs g)) ≤ length coins / 2
+  unfolding coinCount coinOwners
+  draw-room coins full =
+      omega (
+        arith,
+        full,
+        numbers-length coins,
+        taken-next (coinOwnersAt (planOf bs)) bs h from g _ pl (w .place) l refl,
+        taken-within (coinOwnersAt (planOf bs)) (planOf bs .gates) (g + 1),
+      )
 
 -- ---- a party's coins at a gate
-module _ (t i : ℕ) (cs : List ℕ) (from : ℕ) (gate : Gate) (at : ℕ) (old : List ℕ) where
+module _ (t i m : ℕ) (from at : ℕ) (coins old : List ℕ) where
+  pub block-own : (new : List ℕ) (next : ℕ) → i ≤ m → Wrote 7 (take t (drop (from + t * (i - 1)) (numbers coins))) at old new next
+      → Wrote 7 (cond (leb i m) (take t (drop (from + t * (i - 1)) (numbers coins))) []) at old new next
+  block-own new next l w = rw (le-leb i m l) w
+
+  pub block-not : m < i → Wrote 7 (cond (leb i m) (take t (drop (from + t * (i - 1)) (numbers coins))) []) at old old at
+  block-not l = rw (lt-leb i m l) (wrote-none 7 at old)
+
+  module _ (low : 1 ≤ i) (l : i ≤ m) (room : from + t * m ≤ length coins / 2) where
+    block-near : t * (i - 1) + t ≤ t * m
+    block-near = row-room t (i - 1) m (omega arith)
+
+    pub block-room : from + t * (i - 1) + t ≤ length coins / 2
+    block-room = omega (arith, block-near)
+
+    pub block-fits : length coins < 2 ^ 64 → Fits w64 (t * (i - 1))
+    block-fits f = record { fits = omega (arith, block-near) }
+
+    pub block-place-fits : length coins < 2 ^ 64 → Fits w64 (from + t * (i - 1))
+    block-place-fits f = record { fits = omega (arith, block-near) }
+
+module _ (t i s from at : ℕ) (coins old : List ℕ) where
+  pub dealing-own : (new : List ℕ) (next : ℕ) → i ≡ s → Wrote 7 (take t (drop from (numbers coins))) at old new next → Wrote 7 (cond (eqb i s) (take t (drop from (numbers coins))) []) at old new next
+  dealing-own new next e w = rw (eq-eqb i s e) w
+
+  pub dealing-not : (i ≡ s → ⊥) → Wrote 7 (cond (eqb i s) (take t (drop from (numbers coins))) []) at old old at
+  dealing-not n = rw (ne-eqb i s n) (wrote-none 7 at old)
+
+pub ruleset blocking = (needs, block-own, block-not, block-room, block-fits, block-place-fits, dealing-own, dealing-not)
+
+-- they are the party's own
+blocks-before : (i c r n : ℕ) (xs : List ℕ) → r + n < i → ownOf i (blocks c r n) xs ≡ []
+unfolding blocks ownOf
+blocks-before i c r zero xs l = refl
+blocks-before i c r (suc n) xs l =
+    own-append i (replicate c (suc r)) (blocks c (suc r) n) xs
+    ∙ ap₂ (λ (u v : List ℕ). u ++ v) (own-other i c (suc r) xs (λ e. omega arith)) (blocks-before i c (suc r) n (drop (length (replicate c (suc r))) xs) (omega arith))
+
+module _ (t i from : ℕ) (cs : List ℕ) where
+  own-by-block : (m : ℕ) → 1 ≤ i → from + t * m ≤ length cs → (b : Bool) → leb i m ≡ b → cond b (take t (drop (from + t * (i - 1)) cs)) [] ≡ ownOf i (blocks t 0 m) (drop from cs)
+  own-by-block m low room true e =
+      let le : i ≤ m = leb-true i m e in
+      let q : suc (i - 1) ≡ i = omega arith in
+      sym (ap (λ (j : ℕ). ownOf j (blocks t 0 m) (drop from cs)) (sym q)
+      ∙ own-block t m (i - 1) (drop from cs) (omega arith) (omega (arith, length-drop from cs))
+      ∙ ap (take t) (drop-drop (t * (i - 1)) from cs))
+  own-by-block m low room false e = sym (blocks-before i t 0 m (drop from cs) (omega (arith, leb-false i m e)))
+
+  own-by-dealing : (s : ℕ) → from + t ≤ length cs → (b : Bool) → eqb i s ≡ b → cond b (take t (drop from cs)) [] ≡ ownOf i (replicate t s) (drop from cs)
+  own-by-dealing s room true e =
+      sym (ap (λ (o : ℕ). ownOf i (replicate t o) (drop from cs)) (sym (eqb-true i s e)) ∙ own-same i t (drop from cs) (omega (arith, length-drop from cs)))
+  own-by-dealing s room false e = sym (own-other i t s (drop from cs) (eqb-false i s e))
+
+module _ (bs : List ℕ) (h : Header) (pl : Planned bs h) (i g from at : ℕ) (coins old : List ℕ) (gate : Gate) (is : gate ≡ gateAt bs g)
+    (room : from + length (coinOwnersAt (planOf bs) (gateAt bs g)) ≤ length coins / 2) where
+  pub coins-few : h .t ≤ 7
+  coins-few = omega (arith, pl .majority, pl .n-high)
+
+  room-as : (m : ℕ) → m ≡ length (coinOwnersAt (planOf bs) (gateAt bs g)) → from + m ≤ length coins / 2
+  room-as m e = omega arith
+
   module _ (s : ℕ) (e : gate ≡ Input s) where
-    pub own-input : (new : List ℕ) (next : ℕ) → i ≡ s → Wrote 7 (coinsFrom t from cs) at old new next → Wrote 7 (ownAt t i cs from gate) at old new next
-    unfolding ownAt
-    own-input new next q w = rw (e, eq-eqb i s q) w
+    pub input-room : from + h .t ≤ length coins / 2
+    input-room = room-as (h .t) (coins-input bs h pl g gate is s e)
 
-    pub own-input-not : (i ≡ s → ⊥) → Wrote 7 (ownAt t i cs from gate) at old old at
-    unfolding ownAt
-    own-input-not n = rw (e, ne-eqb i s n) (wrote-none 7 at old)
+    pub own-input : (new : List ℕ) (next : ℕ) → Wrote 7 (cond (eqb i s) (take (h .t) (drop from (numbers coins))) []) at old new next
+        → Wrote 7 (ownOf i (coinOwnersAt (planOf bs) (gateAt bs g)) (drop from (numbers coins))) at old new next
+    own-input new next w =
+        rw (← is, e, input-owners (planOf bs) s, plan-t pl, ← own-by-dealing (h .t) i from (numbers coins) s (omega (arith, input-room, numbers-length coins)) (eqb i s) refl) w
 
-  pub own-add : (a b : ℕ) → gate ≡ Add a b → Wrote 7 (ownAt t i cs from gate) at old old at
-  unfolding ownAt
-  own-add a b e = rw e (wrote-none 7 at old)
-
-  pub own-scale : (a c : ℕ) → gate ≡ Scale a c → Wrote 7 (ownAt t i cs from gate) at old old at
-  unfolding ownAt
-  own-scale a c e = rw e (wrote-none 7 at old)
-
-  pub own-offset : (a c : ℕ) → gate ≡ Offset a c → Wrote 7 (ownAt t i cs from gate) at old old at
-  unfolding ownAt
-  own-offset a c e = rw e (wrote-none 7 at old)
+  -- at a gate where each of the parties 1 to m deals
+  by-blocks : (m k : ℕ) → 1 ≤ i → from + h .t * m ≤ length coins / 2 → m ≡ k → (x : Gate) → gate ≡ x → coinOwnersAt (planOf bs) x ≡ blocks (planOf bs .t) 0 k → (new : List ℕ) (next : ℕ)
+      → Wrote 7 (cond (leb i m) (take (h .t) (drop (from + h .t * (i - 1)) (numbers coins))) []) at old new next
+      → Wrote 7 (ownOf i (coinOwnersAt (planOf bs) (gateAt bs g)) (drop from (numbers coins))) at old new next
+  by-blocks m k low here same x e owners new next w =
+      wrote-as 7 _ _ at next old new
+      (own-by-block (h .t) i from (numbers coins) m low (omega (arith, numbers-length coins)) (leb i m) refl
+      ∙ ap₂ (λ (t n : ℕ). ownOf i (blocks t 0 n) (drop from (numbers coins))) (sym (plan-t pl)) same
+      ∙ sym (ap (λ (o : List ℕ). ownOf i o (drop from (numbers coins))) owners)
+      ∙ ap (λ (y : Gate). ownOf i (coinOwnersAt (planOf bs) y) (drop from (numbers coins))) (sym e ∙ is)) w
 
   module _ (a b : ℕ) (e : gate ≡ Multiply a b) where
-    pub own-product : (new : List ℕ) (next : ℕ) → i ≤ t + t + 1 → Wrote 7 (coinsFrom t (from + t * (i - 1)) cs) at old new next → Wrote 7 (ownAt t i cs from gate) at old new next
-    unfolding ownAt
-    own-product new next q w = rw (e, le-leb i (t + t + 1) q) w
+    pub multiply-room : from + h .t * (h .t + h .t + 1) ≤ length coins / 2
+    multiply-room = room-as (h .t * (h .t + h .t + 1)) (coins-multiply bs h pl g gate is a b e)
 
-    pub own-product-not : t + t + 1 < i → Wrote 7 (ownAt t i cs from gate) at old old at
-    unfolding ownAt
-    own-product-not q = rw (e, lt-leb i (t + t + 1) q) (wrote-none 7 at old)
+    pub own-multiply : (new : List ℕ) (next : ℕ) → 1 ≤ i → Wrote 7 (cond (leb i (h .t + h .t + 1)) (take (h .t) (drop (from + h .t * (i - 1)) (numbers coins))) []) at old new next
+        → Wrote 7 (ownOf i (coinOwnersAt (planOf bs) (gateAt bs g)) (drop from (numbers coins))) at old new next
+    own-multiply new next low w =
+        by-blocks (h .t + h .t + 1) (dealerCount (planOf bs)) low multiply-room (sym (plan-dealers pl)) (Multiply a b) e (reduction-owners (planOf bs) a b (plain bs (pl .passes) .rule)) new next w
 
-own-few : (t i : ℕ) → t ≤ 7 → i ≤ 15 → t * (i - 1) ≤ 98
-own-few t i few m = mul-le-mul {n₂ = 7} {m₂ = 14} few (omega arith)
+  module _ (e : gate ≡ Random) where
+    pub random-room : from + h .t * h .n ≤ length coins / 2
+    random-room = room-as (h .t * h .n) (coins-random bs h pl g gate is e)
 
-pub own-fits : (t i : ℕ) → t ≤ 7 → i ≤ 15 → Fits w64 (t * (i - 1))
-own-fits t i few m = record { fits = omega (arith, own-few t i few m) }
+    pub own-random : (new : List ℕ) (next : ℕ) → 1 ≤ i → Wrote 7 (cond (leb i (h .n)) (take (h .t) (drop (from + h .t * (i - 1)) (numbers coins))) []) at old new next
+        → Wrote 7 (ownOf i (coinOwnersAt (planOf bs) (gateAt bs g)) (drop from (numbers coins))) at old new next
+    own-random new next low w = by-blocks (h .n) (partyCount (planOf bs)) low random-room (sym (plan-n pl)) Random e (random-owners (planOf bs)) new next w
 
-pub own-place-fits : (t i from : ℕ) → t ≤ 7 → i ≤ 15 → from ≤ 500000 → Fits w64 (from + t * (i - 1))
-own-place-fits t i from few m l = record { fits = omega (arith, own-few t i few m) }
+  none-own : (x : Gate) → gate ≡ x → coinOwnersAt (planOf bs) x ≡ [] → Wrote 7 (ownOf i (coinOwnersAt (planOf bs) (gateAt bs g)) (drop from (numbers coins))) at old old at
+  unfolding ownOf
+  none-own x e none = rw (← is, e, none) (wrote-none 7 at old)
 
-pub own-near : (t i from : ℕ) → t ≤ 7 → i ≤ 15 → from ≤ 500000 → from + t * (i - 1) ≤ 1000000
-own-near t i from few m l = omega (arith, own-few t i few m)
+  pub own-add : (a b : ℕ) → gate ≡ Add a b → Wrote 7 (ownOf i (coinOwnersAt (planOf bs) (gateAt bs g)) (drop from (numbers coins))) at old old at
+  unfolding coinOwnersAt dealingsAt flatMap
+  own-add a b e = none-own (Add a b) e refl
 
-pub ruleset drawing = (needs, own-fits, own-place-fits, own-near, own-input, own-input-not, own-add, own-scale, own-offset, own-product, own-product-not)
+  pub own-scale : (a c : ℕ) → gate ≡ Scale a c → Wrote 7 (ownOf i (coinOwnersAt (planOf bs) (gateAt bs g)) (drop from (numbers coins))) at old old at
+  unfolding coinOwnersAt dealingsAt flatMap
+  own-scale a c e = none-own (Scale a c) e refl
 
--- they are the party's own of the gate's coins
-module _ (plan : Plan) (i from : ℕ) (cs : List ℕ) (from1 : 1 ≤ i) where
-  at-input : (b : Bool) → from + plan .t ≤ length cs → cond b (coinsFrom (plan .t) from cs) [] ≡ cond b (take (plan .t) (drop from cs) ++ []) []
-  at-input true l = coinsFrom-part (plan .t) from cs l ∙ sym (append-nil (take (plan .t) (drop from cs)))
-  at-input false l = refl
+  pub own-offset : (a c : ℕ) → gate ≡ Offset a c → Wrote 7 (ownOf i (coinOwnersAt (planOf bs) (gateAt bs g)) (drop from (numbers coins))) at old old at
+  unfolding coinOwnersAt dealingsAt flatMap
+  own-offset a c e = none-own (Offset a c) e refl
 
-  at-multiply : (b : Bool) → leb i (dealerCount plan) ≡ b → from + plan .t * dealerCount plan ≤ length cs
-      → cond b (coinsFrom (plan .t) (from + plan .t * (i - 1)) cs) [] ≡ ownBlocks (plan .t) i (tab suc (dealerCount plan)) (drop from cs)
-  at-multiply true e l =
-      let m : i ≤ dealerCount plan = leb-true i (dealerCount plan) e in
-      let q : plan .t * (i - 1) + plan .t ≡ plan .t * i = sym (mul-suc (plan .t) (i - 1)) ∙ ap (λ (k : ℕ). plan .t * k) (suc-pred i from1) in
-      coinsFrom-part (plan .t) (from + plan .t * (i - 1)) cs (omega (arith, q, mul-le-mul-left {m = i} {n = dealerCount plan} (plan .t) m))
-      ∙ sym (own-dealing (plan .t) i (dealerCount plan) (drop from cs) from1 m ∙ ap (take (plan .t)) (drop-drop (plan .t * (i - 1)) from cs))
-    where
-      suc-pred : (k : ℕ) → 1 ≤ k → suc (k - 1) ≡ k
-      suc-pred k h = omega arith
-  at-multiply false e l =
-      let m : dealerCount plan < i = leb-false i (dealerCount plan) e in
-      sym (ownBlocks-none (plan .t) i (tab suc (dealerCount plan)) (drop from cs) (all-tab (λ d. i ≡ d → ⊥) suc (dealerCount plan) (λ k q. omega arith)))
+  pub own-spend : (a b : ℕ) → gate ≡ Spend a b → Wrote 7 (ownOf i (coinOwnersAt (planOf bs) (gateAt bs g)) (drop from (numbers coins))) at old old at
+  unfolding coinOwnersAt dealingsAt flatMap
+  own-spend a b e = none-own (Spend a b) e refl
 
-  own-at : (x : Gate) → from + plan .t * length (dealersOf plan x) ≤ length cs → ownAt (plan .t) i cs from x ≡ ownBlocks (plan .t) i (dealersOf plan x) (drop from cs)
-  unfolding ownAt ownBlocks dealersOf dealerCount
-  own-at (Input s) l = at-input (eqb i s) (omega arith)
-  own-at (Add a b) l = refl
-  own-at (Scale a c) l = refl
-  own-at (Offset a c) l = refl
-  own-at (Multiply a b) l = at-multiply (leb i (dealerCount plan)) refl (rw length-tab at l)
-
-  own-step :
-      (x : Gate) (gs : List Gate) → from + plan .t * length (dealersOf plan x) ≤ length cs
-      → ownBlocks (plan .t) i (flatMap (dealersOf plan) (x ∷ gs)) (drop from cs)
-      ≡ ownAt (plan .t) i cs from x ++ ownBlocks (plan .t) i (flatMap (dealersOf plan) gs) (drop (from + plan .t * length (dealersOf plan x)) cs)
-  unfolding flatMap
-  own-step x gs l =
-      ownBlocks-append (plan .t) i (dealersOf plan x) (flatMap (dealersOf plan) gs) (drop from cs)
-      ∙ rw (own-at x l, drop-drop)
+pub ruleset drawing = (needs, coins-few, input-room, multiply-room, random-room, own-input, own-add, own-scale, own-offset, own-multiply, own-random, own-spend)
 
 -- ---- a party's own coins
 pub record Owning (bs cs : List ℕ) (i at : ℕ) (old new : List ℕ) (next from g : ℕ) : Type 0 where
-  pub left : Left (ownCoins (planOf bs) i cs) at old new next (ownBlocks (planOf bs .t) i (flatMap (dealersOf (planOf bs)) (drop g (planOf bs .gates))) (drop from cs)) (7 * g)
+  pub left : Left (ownCoins (planOf bs) i cs) at old new next (ownOf i (flatMap (coinOwnersAt (planOf bs)) (drop g (planOf bs .gates))) (drop from cs)) (7 * g)
   pub drawn : Drawn bs from g
 
 pub coins-none : (bs cs : List ℕ) (i at : ℕ) (old : List ℕ) → Owning bs cs i at old old at 0 0
-unfolding ownCoins dealings
+unfolding ownCoins coinOwners
 coins-none bs cs i at old = record { left = left-none _ at old _ refl; drawn = draw-none bs }
 
 module _ (bs : List ℕ) (h : Header) (cs : List ℕ) (i at : ℕ) (old new : List ℕ) (next from g : ℕ) (s : Owning bs cs i at old new next from g) (pl : Planned bs h) where
   pub coins-drawn :
-      (gate : Gate) (d : ℕ) (new′ : List ℕ) (next′ : ℕ) → g < h .gates → gate ≡ gateAt bs g → d ≡ coinsIn (h .t) gate → d ≤ 105 → 1 ≤ i → length cs ≡ coinCount (planOf bs)
-      → Wrote 7 (ownAt (h .t) i cs from gate) next new new′ next′ → length new′ ≡ length new → Owning bs cs i at old new′ next′ (from + d) (g + 1)
+      (d : ℕ) (new′ : List ℕ) (next′ : ℕ) → g < h .gates → d ≡ length (coinOwnersAt (planOf bs) (gateAt bs g)) → d ≤ 105
+      → Wrote 7 (ownOf i (coinOwnersAt (planOf bs) (gateAt bs g)) (drop from cs)) next new new′ next′ → length new′ ≡ length new → Owning bs cs i at old new′ next′ (from + d) (g + 1)
   unfolding flatMap
-  coins-drawn gate d new′ next′ l e ed m from1 full w n =
-      let room : from + planOf bs .t * length (dealersOf (planOf bs) gate) ≤ length cs = omega (arith, full, draw-room bs h from g (s .drawn) pl gate d l e ed m) in
+  coins-drawn d new′ next′ l ed m w n =
       record {
         left =
-            left-then _ at old new next _ (7 * g) (s .left) 7 (ownAt (h .t) i cs from gate) _ new′ next′ (7 * (g + 1))
-            (rw (gates-from pl g gate l e, drawn-here bs h from g (s .drawn) pl gate d l e ed m, ← plan-t pl) (own-step (planOf bs) i from cs from1 gate (drop (g + 1) (planOf bs .gates)) room)) w n (omega arith);
-        drawn = draw-next bs h from g (s .drawn) pl gate d l e ed m;
+            left-then _ at old new next _ (7 * g) (s .left) 7 _ _ new′ next′ (7 * (g + 1))
+            (rw (gates-from pl g (gateAt bs g) l refl) (own-step i d from (coinOwnersAt (planOf bs) (gateAt bs g)) (flatMap (coinOwnersAt (planOf bs)) (drop (g + 1) (planOf bs .gates))) cs ed)) w n (omega arith);
+        drawn = draw-next bs h from g (s .drawn) pl l d ed m;
       }
 
   pub coins-end : h .gates ≤ g → Wrote 7168 (ownCoins (planOf bs) i cs) at old new next
-  unfolding ownBlocks flatMap
+  unfolding ownOf flatMap
   coins-end l = left-end _ at old new next _ (7 * g) (s .left) 7168 (rw (gates-end pl g l)) (omega (arith, s .drawn .within))
 
-pub ruleset owning = (needs, coins-none, coins-drawn, coins-end)
+pub coins-room :
+    (bs : List ℕ) (h : Header) (coins : List ℕ) (i at : ℕ) (old new : List ℕ) (next from g : ℕ) → Owning bs (numbers coins) i at old new next from g → Planned bs h → g < h .gates
+    → length (numbers coins) ≡ coinCount (planOf bs) → from + length (coinOwnersAt (planOf bs) (gateAt bs g)) ≤ length coins / 2
+coins-room bs h coins i at old new next from g s pl l full = draw-room bs h from g (s .drawn) pl l coins full
+
+pub ruleset owning = (needs, coins-none, coins-drawn, coins-end, coins-room)
 
 -- ---- a piece
 pub piece-put :
@@ -662,7 +724,7 @@ module _
     (r : Running h table) where
   pub pieces-next :
       (new′ : List ℕ) (next′ : ℕ) → d < h .t + h .t + 1
-      → Wrote 1 (dot (h .field .p) ws (mul (h .field .p) (shareIn (h .n) table (d + 1) a) (shareIn (h .n) table (d + 1) b) ∷ coinsFrom (h .t) place cs) ∷ []) next new new′ next′
+      → Wrote 1 (dot (h .field .p) ws (mul (h .field .p) (shareIn (h .n) table (d + 1) a) (shareIn (h .n) table (d + 1) b) ∷ take (h .t) (drop place cs)) ∷ []) next new new′ next′
       → length new′ ≡ length new → Piecing h table a b cs from ws at old new′ next′ (place + h .t) (d + 1)
   unfolding pieceIn
   pieces-next new′ next′ l w n =
@@ -683,90 +745,73 @@ module _
 
 pub ruleset pieces = (needs, running-field, pieces-none, pieces-next, pieces-end, piece-room, piece-place-fits)
 
--- ---- the pieces of a gate
-module _ (h : Header) (table cs : List ℕ) (from : ℕ) (ws : List ℕ) (gate : Gate) (at : ℕ) (old : List ℕ) where
-  pub no-input-pieces : (s : ℕ) → gate ≡ Input s → Wrote 15 (piecesIn h table cs from ws gate) at old old at
+-- ---- the mail of a gate's steps
+module _ (bs : List ℕ) (h : Header) (table cs : List ℕ) (from : ℕ) (ws : List ℕ) (g : ℕ) (gate : Gate) (is : gate ≡ gateAt bs g) (at : ℕ) (old : List ℕ) where
+  pub no-input-pieces : (s : ℕ) → gate ≡ Input s → Wrote 15 (piecesIn h table cs from ws (gateAt bs g)) at old old at
   unfolding piecesIn
-  no-input-pieces s e = rw e (wrote-none 15 at old)
+  no-input-pieces s e = rw (← is, e) (wrote-none 15 at old)
 
-  pub no-add-pieces : (a b : ℕ) → gate ≡ Add a b → Wrote 15 (piecesIn h table cs from ws gate) at old old at
+  pub no-add-pieces : (a b : ℕ) → gate ≡ Add a b → Wrote 15 (piecesIn h table cs from ws (gateAt bs g)) at old old at
   unfolding piecesIn
-  no-add-pieces a b e = rw e (wrote-none 15 at old)
+  no-add-pieces a b e = rw (← is, e) (wrote-none 15 at old)
 
-  pub no-scale-pieces : (a c : ℕ) → gate ≡ Scale a c → Wrote 15 (piecesIn h table cs from ws gate) at old old at
+  pub no-scale-pieces : (a c : ℕ) → gate ≡ Scale a c → Wrote 15 (piecesIn h table cs from ws (gateAt bs g)) at old old at
   unfolding piecesIn
-  no-scale-pieces a c e = rw e (wrote-none 15 at old)
+  no-scale-pieces a c e = rw (← is, e) (wrote-none 15 at old)
 
-  pub no-offset-pieces : (a c : ℕ) → gate ≡ Offset a c → Wrote 15 (piecesIn h table cs from ws gate) at old old at
+  pub no-offset-pieces : (a c : ℕ) → gate ≡ Offset a c → Wrote 15 (piecesIn h table cs from ws (gateAt bs g)) at old old at
   unfolding piecesIn
-  no-offset-pieces a c e = rw e (wrote-none 15 at old)
+  no-offset-pieces a c e = rw (← is, e) (wrote-none 15 at old)
+
+  pub no-random-pieces : gate ≡ Random → Wrote 15 (piecesIn h table cs from ws (gateAt bs g)) at old old at
+  unfolding piecesIn
+  no-random-pieces e = rw (← is, e) (wrote-none 15 at old)
+
+  pub no-spend-pieces : (a b : ℕ) → gate ≡ Spend a b → Wrote 15 (piecesIn h table cs from ws (gateAt bs g)) at old old at
+  unfolding piecesIn
+  no-spend-pieces a b e = rw (← is, e) (wrote-none 15 at old)
 
   pub multiply-pieces :
       (a b : ℕ) (new : List ℕ) (next : ℕ) → gate ≡ Multiply a b → Wrote 15 (tab (pieceIn h table a b cs from ws) (h .t + h .t + 1)) at old new next
-      → Wrote 15 (piecesIn h table cs from ws gate) at old new next
+      → Wrote 15 (piecesIn h table cs from ws (gateAt bs g)) at old new next
   unfolding piecesIn
-  multiply-pieces a b new next e w = rw e w
+  multiply-pieces a b new next e w = rw (← is, e) w
 
-pub multiply-room : (t from : ℕ) (coins : List ℕ) (gate : Gate) (a b : ℕ) → gate ≡ Multiply a b → from + coinsIn t gate ≤ length coins / 2 → from + t * (t + t + 1) ≤ length coins / 2
-unfolding coinsIn
-multiply-room t from coins gate a b e l = rw e at l
+pub ruleset gate-pieces = (needs, no-input-pieces, no-add-pieces, no-scale-pieces, no-offset-pieces, no-random-pieces, no-spend-pieces, multiply-pieces, multiply-room)
 
-pub ruleset gate-pieces = (needs, no-input-pieces, no-add-pieces, no-scale-pieces, no-offset-pieces, multiply-pieces, multiply-room)
-
--- ---- the pieces of all multiplies
-unfoldable pub piecesOf : List ℕ → Header → List ℕ → List ℕ → List ℕ → ℕ → List ℕ
-piecesOf bs h table cs ws g = piecesIn h table cs (coinsBelow (planOf bs) g) ws (getD (planOf bs .gates) g (Input 0))
-
--- of a gate that is none there are none
-middle-step :
-    (f : ℕ → List ℕ) (h : Header) (table cs : List ℕ) (from : ℕ) (ws : List ℕ) (gate : Gate) (g : ℕ) (gs : List ℕ) → f g ≡ piecesIn h table cs from ws gate
-    → flatMap f (cond (isMultiply gate) (g ∷ gs) gs) ≡ piecesIn h table cs from ws gate ++ flatMap f gs
-unfolding isMultiply piecesIn flatMap
-middle-step f h table cs from ws (Input s) g gs e = refl
-middle-step f h table cs from ws (Add a b) g gs e = refl
-middle-step f h table cs from ws (Scale a c) g gs e = refl
-middle-step f h table cs from ws (Offset a c) g gs e = refl
-middle-step f h table cs from ws (Multiply a b) g gs e = ap (λ (l : List ℕ). l ++ flatMap f gs) e
-
-pub record Middle (bs : List ℕ) (h : Header) (table cs ws : List ℕ) (at : ℕ) (old new : List ℕ) (next from g : ℕ) : Type 0 where
-  pub left : Left (middleIn (planOf bs) h table cs ws) at old new next (flatMap (piecesOf bs h table cs ws) (wiresFrom isMultiply g (drop g (planOf bs .gates)))) (15 * g)
+-- ---- the mail of all gates' steps
+pub record Stepping (bs : List ℕ) (h : Header) (table cs ws : List ℕ) (at : ℕ) (old new : List ℕ) (next from g : ℕ) : Type 0 where
+  pub left : Left (stepsIn (planOf bs) h table cs ws 0 (planOf bs .gates)) at old new next (stepsIn (planOf bs) h table cs ws from (drop g (planOf bs .gates))) (15 * g)
   pub drawn : Drawn bs from g
 
-pub middle-none : (bs : List ℕ) (h : Header) (table cs ws : List ℕ) (at : ℕ) (old : List ℕ) → Middle bs h table cs ws at old old at 0 0
-unfolding middleIn piecesOf wiresWhere
-middle-none bs h table cs ws at old = record { left = left-none _ at old _ refl; drawn = draw-none bs }
+pub steps-none : (bs : List ℕ) (h : Header) (table cs ws : List ℕ) (at : ℕ) (old : List ℕ) → Stepping bs h table cs ws at old old at 0 0
+steps-none bs h table cs ws at old = record { left = left-none _ at old _ refl; drawn = draw-none bs }
 
 module _
-    (bs : List ℕ) (h : Header) (table cs ws : List ℕ) (at : ℕ) (old new : List ℕ) (next from g : ℕ) (s : Middle bs h table cs ws at old new next from g) (pl : Planned bs h) where
-  middle-here : (gate : Gate) → g < h .gates → gate ≡ gateAt bs g → piecesOf bs h table cs ws g ≡ piecesIn h table cs from ws gate
-  unfolding piecesOf
-  middle-here gate l e = rw (plan-gate pl g l, ← e, ← s .drawn .place)
-
-  pub middle-next :
-      (gate : Gate) (d : ℕ) (new′ : List ℕ) (next′ : ℕ) → g < h .gates → gate ≡ gateAt bs g → d ≡ coinsIn (h .t) gate → d ≤ 105
-      → Wrote 15 (piecesIn h table cs from ws gate) next new new′ next′ → length new′ ≡ length new → Middle bs h table cs ws at old new′ next′ (from + d) (g + 1)
-  unfolding wiresFrom
-  middle-next gate d new′ next′ l e ed m w n =
+    (bs : List ℕ) (h : Header) (table cs ws : List ℕ) (at : ℕ) (old new : List ℕ) (next from g : ℕ) (s : Stepping bs h table cs ws at old new next from g) (pl : Planned bs h) where
+  pub steps-next :
+      (d : ℕ) (new′ : List ℕ) (next′ : ℕ) → g < h .gates → d ≡ length (coinOwnersAt (planOf bs) (gateAt bs g)) → d ≤ 105
+      → Wrote 15 (piecesIn h table cs from ws (gateAt bs g)) next new new′ next′ → length new′ ≡ length new → Stepping bs h table cs ws at old new′ next′ (from + d) (g + 1)
+  unfolding stepsIn
+  steps-next d new′ next′ l ed m w n =
       record {
         left =
-            left-then _ at old new next _ (15 * g) (s .left) 15 (piecesIn h table cs from ws gate) _ new′ next′ (15 * (g + 1))
-            (rw (gates-from pl g gate l e, ← add-one g) (middle-step (piecesOf bs h table cs ws) h table cs from ws gate g (wiresFrom isMultiply (g + 1) (drop (g + 1) (planOf bs .gates))) (middle-here gate l e))) w n (omega arith);
-        drawn = draw-next bs h from g (s .drawn) pl gate d l e ed m;
+            left-then _ at old new next _ (15 * g) (s .left) 15 (piecesIn h table cs from ws (gateAt bs g)) _ new′ next′ (15 * (g + 1))
+            (rw (gates-from pl g (gateAt bs g) l refl, ed)) w n (omega arith);
+        drawn = draw-next bs h from g (s .drawn) pl l d ed m;
       }
 
-  pub middle-end : h .gates ≤ g → Wrote 15360 (middleIn (planOf bs) h table cs ws) at old new next
-  unfolding wiresFrom flatMap
-  middle-end l = left-end _ at old new next _ (15 * g) (s .left) 15360 (rw (gates-end pl g l)) (omega (arith, s .drawn .within))
+  pub steps-end : h .gates ≤ g → Wrote 15360 (stepsIn (planOf bs) h table cs ws 0 (planOf bs .gates)) at old new next
+  unfolding stepsIn
+  steps-end l = left-end _ at old new next _ (15 * g) (s .left) 15360 (rw (gates-end pl g l)) (omega (arith, s .drawn .within))
 
 -- the coins of gate g are there
-pub middle-room :
-    (bs : List ℕ) (h : Header) (table coins ws : List ℕ) (at : ℕ) (old new : List ℕ) (next from g : ℕ) (gate : Gate) → Middle bs h table (numbers coins) ws at old new next from g → Planned bs h
-    → g < h .gates → gate ≡ gateAt bs g → length (numbers coins) ≡ coinCount (planOf bs) → from + coinsIn (h .t) gate ≤ length coins / 2
-middle-room bs h table coins ws at old new next from g gate s pl l e full =
-    let few : coinsIn (h .t) gate ≤ 105 = in-few (h .t) gate (omega (arith, pl .majority, pl .n-high)) in
-    omega (arith, numbers-length coins, draw-room bs h from g (s .drawn) pl gate (coinsIn (h .t) gate) l e refl few, drawn-here bs h from g (s .drawn) pl gate (coinsIn (h .t) gate) l e refl few)
+pub steps-room :
+    (bs : List ℕ) (h : Header) (table coins ws : List ℕ) (at : ℕ) (old new : List ℕ) (next from g : ℕ) → Stepping bs h table (numbers coins) ws at old new next from g → Planned bs h
+    → g < h .gates → length (numbers coins) ≡ coinCount (planOf bs) → from + length (coinOwnersAt (planOf bs) (gateAt bs g)) ≤ length coins / 2
+steps-room bs h table coins ws at old new next from g s pl l full = draw-room bs h from g (s .drawn) pl l coins full
 
-pub ruleset middle = (needs, middle-none, middle-next, middle-end, middle-room)
+pub ruleset stepping = (needs, steps-none, steps-next, steps-end, steps-room)
 
 -- ---- the powers of a point
 module _ (t : ℕ) (few : t ≤ 7) (row : List ℕ) (l : length row ≡ 8) where
@@ -778,7 +823,29 @@ module _ (t : ℕ) (few : t ≤ 7) (row : List ℕ) (l : length row ≡ 8) where
       let f : ys ≡ powers p x (t + 1) = e ∙ ap (powers p x) (sym row-count) in
       take-at ys (drop (t + 1) row) (t + 1) (ap length f ∙ length-powers p x (t + 1)) ∙ f
 
-pub power-row : (h : Header) (i : ℕ) (row : List ℕ) → Ready (h .field .p) → take (h .t + 1) row ≡ powers (h .field .p) i (h .t + 1) → PowerRow h (take (h .t + 1) row)
-power-row h i row r e = record { long = ap length e ∙ length-powers (h .field .p) i (h .t + 1); below = rw e (powers-below (h .field .p) i (h .t + 1) r) }
+module _ (bs : List ℕ) (h : Header) (pl : Planned bs h) (i : ℕ) (from1 : 1 ≤ i) (upto : i ≤ h .n) where
+  pub power-row : (row : List ℕ) → take (h .t + 1) row ≡ powers (h .field .p) (pointOf (planOf bs) i) (h .t + 1) → PowerRow h (take (h .t + 1) row)
+  power-row row e =
+      record {
+        long = ap length e ∙ length-powers (h .field .p) (pointOf (planOf bs) i) (h .t + 1);
+        below = rw e (powers-below (h .field .p) (pointOf (planOf bs) i) (h .t + 1) (planned-ready bs h pl));
+      }
 
-pub ruleset powering = (needs, row-count, power-front)
+  -- party i's point
+  module _ (all : List ℕ) (e : take (h .n) all ≡ planOf bs .points) where
+    point-at : getD all (i - 1) 0 ≡ pointOf (planOf bs) i
+    unfolding pointOf
+    point-at = points-at bs h pl all e (i - 1) (omega arith)
+
+    pub point-below : getD all (i - 1) 0 < h .field .p
+    point-below =
+        rw (points-at bs h pl all e (i - 1) (omega arith))
+        (allBelow-at (h .field .p) (planOf bs .points) (i - 1) (plan-points-below bs h pl) (omega (arith, plan-points-long bs h pl)))
+
+    pub powers-of : (k : ℕ) (r : List ℕ) → take k r ≡ powers (h .field .p) (getD all (i - 1) 0) k → take k r ≡ powers (h .field .p) (pointOf (planOf bs) i) k
+    powers-of k r q = q ∙ ap (λ (x : ℕ). powers (h .field .p) x k) point-at
+
+pub few-powers : (bs : List ℕ) (h : Header) → Planned bs h → h .t ≤ 7
+few-powers bs h pl = omega (arith, pl .majority, pl .n-high)
+
+pub ruleset powering = (needs, planned-ready, few-powers, row-count, power-front, point-below, powers-of)

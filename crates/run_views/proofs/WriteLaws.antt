@@ -11,7 +11,7 @@ use native.Mathlib.Numerals.{add-one}
 use native.Mathlib.Omega.{arith}
 use lib.ListN.{length, take, length-append}
 use lib.Seq.{take-all}
-use Rattle.numbers.specs.Bytes.{stored, bytesOf}
+use Rattle.numbers.specs.Bytes.{width, stored, bytesFrom, bytesOf}
 use Rattle.numbers.proofs.Bytes.{length-stored, take-stored, bytesOf-append}
 use Rattle.run_views.specs.Writing.{storedFrom, Wrote}
 
@@ -30,13 +30,13 @@ length-storedFrom bs at (x ∷ xs) = length-storedFrom (stored bs at x) (suc at)
 
 -- a buffer that is filled to its end
 storedFrom-end : (bs : List ℕ) (at : ℕ) (xs : List ℕ) → length bs ≡ 2 * (at + length xs) → storedFrom bs at xs ≡ take (2 * at) bs ++ bytesOf xs
-unfolding storedFrom bytesOf
+unfolding storedFrom bytesOf bytesFrom
 storedFrom-end bs at [] e = sym (append-nil (take (2 * at) bs) ∙ take-all (2 * at) bs (omega arith))
 storedFrom-end bs at (x ∷ xs) e =
     storedFrom-end (stored bs at x) (suc at) xs (omega (arith, length-stored bs at x))
     ∙ rw (← add-one at, take-stored bs at x (omega arith)) (append-assoc (take (2 * at) bs) (bytesOf (x ∷ [])) (bytesOf xs))
 
-pub storedFrom-whole : (bs xs : List ℕ) → length bs ≡ 2 * length xs → storedFrom bs 0 xs ≡ bytesOf xs
+pub storedFrom-whole : (bs xs : List ℕ) → length bs ≡ width * length xs → storedFrom bs 0 xs ≡ bytesOf xs
 storedFrom-whole bs xs e = storedFrom-end bs 0 xs (omega arith)
 
 -- ---- in parts

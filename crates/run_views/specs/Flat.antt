@@ -1,9 +1,8 @@
 -- The table of shares as the code holds it: flat, a row for each wire, in it a share for each party.
-use Prim.Native.Nat.{ℕ, suc, _+_, _-_, _*_, _<_, _≤_}
+use Prim.Native.Nat.{ℕ, _+_, _-_, _*_, _<_, _≤_}
 use mathlib.Core.Path.{_≡_}
-use mathlib.Core.Bool.{true, cond}
+use mathlib.Core.Bool.{true}
 use mathlib.Core.List.{List, [], _∷_, _++_, map, flatMap}
-use lib.Dec.{eqb, leb}
 use lib.ListN.{length, take, drop, getD}
 use Rattle.numbers.specs.Tables.{tab}
 use Rattle.numbers.specs.Bytes.{allBelow}
@@ -12,11 +11,9 @@ use Rattle.sharing_laws.specs.Interp.{dot}
 use Rattle.sharing_laws.specs.Sharing.{opened}
 use Rattle.field.specs.Field.{Ready}
 use Rattle.plan.specs.declared.Gate.{Gate}
-use Rattle.plan.specs.declared.Gate.the-variants.{Input, Add, Scale, Offset, Multiply}
+use Rattle.plan.specs.declared.Gate.the-variants.{Input, Add, Scale, Offset, Multiply, Random, Spend}
 use Rattle.plan.specs.declared.Header.{Header}
-use Rattle.plan.specs.Plans.{Plan, parties, isMultiply, wiresWhere, inputWires, outWires, coinCount, ownInputs, ownCoins}
-use Rattle.seat_sending.specs.Sending.{coinsFrom}
-use Rattle.run_protocol.specs.Shares.{coinsBelow}
+use Rattle.plan.specs.Plans.{Plan, parties, pointOf, inputWires, outWires, coinOwnersAt, coinCount, ownInputs, ownCoins}
 use Rattle.run_dealings.specs.Rows.{powers}
 
 -- party i's share of wire w, of n parties
@@ -35,36 +32,30 @@ firstIn plan n table i = flatMap (λ j. map (shareIn n table i) (inputWires plan
 unfoldable pub outsIn : Plan → ℕ → List ℕ → ℕ → List ℕ
 outsIn plan n table i = flatMap (λ j. map (shareIn n table j) (outWires plan i)) (parties plan)
 
--- wire w's opening, where p is the prime, t the threshold and 1 to n the points
-unfoldable pub openedIn : Header → List ℕ → ℕ → ℕ
-openedIn h table w = opened (h .field .p) (h .t) (tab suc (h .n)) (rowIn (h .n) table w)
+-- wire w's opening
+unfoldable pub openedIn : Plan → Header → List ℕ → ℕ → ℕ
+openedIn plan h table w = opened (h .field .p) (h .t) (plan .points) (rowIn (h .n) table w)
 
 -- the piece of dealer d's product of its shares of two wires at the point whose powers are ws, d counted from 0, when the
 -- dealings' coins begin at `from`
 unfoldable pub pieceIn : Header → List ℕ → ℕ → ℕ → List ℕ → ℕ → List ℕ → ℕ → ℕ
 pieceIn h table a b cs from ws d =
-    dot (h .field .p) ws (mul (h .field .p) (shareIn (h .n) table (d + 1) a) (shareIn (h .n) table (d + 1) b) ∷ coinsFrom (h .t) (from + h .t * d) cs)
+    dot (h .field .p) ws (mul (h .field .p) (shareIn (h .n) table (d + 1) a) (shareIn (h .n) table (d + 1) b) ∷ take (h .t) (drop (from + h .t * d) cs))
 
--- the pieces of a multiply's dealings
+-- the mail of a gate's steps; no plan file has a gate of the last two kinds
 unfoldable pub piecesIn : Header → List ℕ → List ℕ → ℕ → List ℕ → Gate → List ℕ
 piecesIn h table cs from ws (Input s) = []
 piecesIn h table cs from ws (Add a b) = []
 piecesIn h table cs from ws (Scale a c) = []
 piecesIn h table cs from ws (Offset a c) = []
 piecesIn h table cs from ws (Multiply a b) = tab (pieceIn h table a b cs from ws) (h .t + h .t + 1)
+piecesIn h table cs from ws Random = []
+piecesIn h table cs from ws (Spend a b) = []
 
--- the mail of all multiplies' rounds
-unfoldable pub middleIn : Plan → Header → List ℕ → List ℕ → List ℕ → List ℕ
-middleIn plan h table cs ws =
-    flatMap (λ g. piecesIn h table cs (coinsBelow plan g) ws (getD (plan .gates) g (Input 0))) (wiresWhere isMultiply plan)
-
--- party i's coins at a gate whose coins begin at `from`
-unfoldable pub ownAt : ℕ → ℕ → List ℕ → ℕ → Gate → List ℕ
-ownAt t i cs from (Input s) = cond (eqb i s) (coinsFrom t from cs) []
-ownAt t i cs from (Add a b) = []
-ownAt t i cs from (Scale a c) = []
-ownAt t i cs from (Offset a c) = []
-ownAt t i cs from (Multiply a b) = cond (leb i (t + t + 1)) (coinsFrom t (from + t * (i - 1)) cs) []
+-- of the steps of these gates, when the first gate's coins begin at `from`
+unfoldable pub stepsIn : Plan → Header → List ℕ → List ℕ → List ℕ → ℕ → List Gate → List ℕ
+stepsIn plan h table cs ws from [] = []
+stepsIn plan h table cs ws from (x ∷ gs) = piecesIn h table cs from ws x ++ stepsIn plan h table cs ws (from + length (coinOwnersAt plan x)) gs
 
 -- a flat table of elements of the field of p, for n parties and so many gates
 pub record Flat (p n gates : ℕ) (table : List ℕ) : Type 0 where
@@ -77,7 +68,6 @@ pub record Running (h : Header) (table : List ℕ) : Type 0 where
   pub some : 1 ≤ h .n
   pub few : h .n ≤ 15
   pub threshold : 2 * h .t < h .n
-  pub points : h .n < h .field .p
   pub gates : h .gates ≤ 1024
   pub flat : Flat (h .field .p) (h .n) (h .gates) table
 
@@ -92,12 +82,13 @@ pub record Ran (plan : Plan) (h : Header) (cs table : List ℕ) : Type 0 where
   pub below : allBelow (h .field .p) cs ≡ true
   pub running : Running h table
 
--- all mail to party i, whose point is i
+-- all mail to party i
 unfoldable pub mailIn : Plan → Header → List ℕ → List ℕ → ℕ → List ℕ
 mailIn plan h table cs i =
-    firstIn plan (h .n) table i ++ (middleIn plan h table cs (powers (h .field .p) i (h .t + 1)) ++ outsIn plan (h .n) table i)
+    firstIn plan (h .n) table i
+    ++ (stepsIn plan h table cs (powers (h .field .p) (pointOf plan i) (h .t + 1)) 0 (plan .gates) ++ outsIn plan (h .n) table i)
 
 -- party i's view
 unfoldable pub viewIn : Plan → Header → List ℕ → List ℕ → List ℕ → ℕ → List ℕ
 viewIn plan h table xs cs i =
-    ownInputs plan i xs ++ (ownCoins plan i cs ++ (mailIn plan h table cs i ++ map (openedIn h table) (outWires plan i)))
+    ownInputs plan i xs ++ (ownCoins plan i cs ++ (mailIn plan h table cs i ++ map (openedIn plan h table) (outWires plan i)))

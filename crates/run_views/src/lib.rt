@@ -7,23 +7,23 @@ use plan::Output;
 ghost use mathlib.Core.Path.{_≡_};
 ghost use mathlib.Core.Bool.{true, cond};
 ghost use mathlib.Core.List.{[], _∷_, map, flatMap};
-ghost use Prim.Native.Nat.{_+_, _*_, _/_, _<_, _≤_};
-ghost use lib.Dec.{eqb};
-ghost use lib.ListN.{getD, length, take};
+ghost use Prim.Native.Nat.{_+_, _-_, _*_, _/_, _<_, _≤_};
+ghost use lib.Dec.{eqb, leb};
+ghost use lib.ListN.{length, take, drop};
 ghost use Rattle.numbers.specs.Tables.{tab};
-ghost use Rattle.numbers.specs.Bytes.{numbers, bytesOf, allBelow};
+ghost use Rattle.numbers.specs.Bytes.{width, numbers, bytesOf, allBelow};
 ghost use Rattle.field.specs.Mod.{mul};
 ghost use Rattle.field.specs.Field.{Is, reciprocal, Ready};
 ghost use Rattle.sharing_laws.specs.Interp.{dot};
-ghost use Rattle.plan.specs.Plans.{isInputOf, inputWires, outWires, coinCount, ownInputs, ownCoins};
-ghost use Rattle.seat_sending.specs.Sending.{coinsFrom};
+ghost use Rattle.plan.specs.Plans.{pointOf, isInputOf, inputWires, outWires, inputOwnersAt, coinOwnersAt, coinCount, ownOf, ownInputs, ownCoins};
 ghost use Rattle.plan.specs.File.{planOf, gateAt};
 ghost use Rattle.plan.specs.Planned.{Planned};
 ghost use Rattle.plan_coalition.specs.Coalitions.{inSet, members, setFits};
-ghost use Rattle.run_protocol.specs.Shares.{shareTable, tableViewOf};
-ghost use Rattle.run_dealings.specs.Rows.{rowsOf, powers, Given, coinsIn};
-ghost use Rattle.run_views.specs.ViewCounts.{viewCount};
-ghost use Rattle.run_views.specs.Flat.{shareIn, firstIn, outsIn, openedIn, pieceIn, piecesIn, middleIn, ownAt, mailIn, viewIn, Running, PowerRow, Ran};
+ghost use Rattle.run_protocol.specs.Rounds.{viewCount};
+ghost use Rattle.run_protocol.specs.Shares.{shareTable};
+ghost use Rattle.run_protocol.specs.Tables.{tableViewOf};
+ghost use Rattle.run_dealings.specs.Rows.{rowsOf, powers, Given};
+ghost use Rattle.run_views.specs.Flat.{shareIn, firstIn, outsIn, openedIn, pieceIn, piecesIn, stepsIn, mailIn, viewIn, Running, PowerRow, Ran};
 ghost use Rattle.run_views.specs.Writing.{Wrote};
 
 // One number, of which the two low bytes are kept.
@@ -46,11 +46,23 @@ fn put_if(wanted: bool, v: u64, at: usize, out: &mut [u8]) -> usize
     put(v, at, out)
 }
 
-// Input k, where its gate is party i's.
-fn put_input(i: usize, gate: Gate, inputs: &[u8], k: usize, at: usize, out: &mut [u8]) -> usize
+// Party i's own of the inputs that gate g takes, which begin at number k. No plan file has a gate of draws.
+fn put_input(
+    plan: &[u8],
+    h: Header,
+    i: usize,
+    g: usize,
+    inputs: &[u8],
+    k: usize,
+    at: usize,
+    out: &mut [u8],
+) -> usize
+    requires { ⌜ Planned (now plan) h ⌝ }
+    requires { ⌜ g < h .gates ⌝ }
     requires { ⌜ at ≤ 2000000 ⌝ }
-    ensures { λ r. ⌜ Wrote 1 (cond (isInputOf i gate) (getD (numbers (now (inputs .entry))) k 0 ∷ []) []) at (now (out .entry)) (now (out .exit)) r ⌝ }
+    ensures { λ r. ⌜ Wrote 1 (ownOf i (inputOwnersAt (planOf (now (plan .entry))) (gateAt (now (plan .entry)) g)) (drop k (numbers (now (inputs .entry))))) at (now (out .entry)) (now (out .exit)) r ⌝ }
 {
+    let gate = plan::gate_at(plan, g);
     put_if(
         plan_counts::is_input_of(i, gate),
         numbers::read(inputs, k),
@@ -69,9 +81,8 @@ fn write_inputs(plan: &[u8], h: Header, i: usize, inputs: &[u8], at: usize, out:
     let mut k: usize = 0;
     let mut g: usize = 0;
     while g < h.gates {
-        let gate = plan::gate_at(plan, g);
-        next = put_input(i, gate, inputs, k, next, out);
-        k += run_ideal::inputs_taken(gate);
+        next = put_input(plan, h, i, g, inputs, k, next, out);
+        k += run_ideal::inputs_taken(plan, h, g);
         g += 1;
     }
     next
@@ -247,12 +258,13 @@ fn write_outs(plan: &[u8], h: Header, table: &[u64], i: usize, at: usize, out: &
 // ---- results
 
 // Wire w's opening, from the shares of the first t + 1 parties.
-fn opening(h: Header, table: &[u64], w: usize) -> u64
+fn opening(plan: &[u8], h: Header, table: &[u64], w: usize) -> u64
+    requires { ⌜ Planned (now plan) h ⌝ }
     requires { ⌜ Running h (now table) ⌝ }
     requires { ⌜ w < h .gates ⌝ }
-    ensures { λ r. ⌜ Is (h .field .p) (openedIn h (now (table .entry)) w) r ⌝ }
+    ensures { λ r. ⌜ Is (h .field .p) (openedIn (planOf (now (plan .entry))) h (now (table .entry)) w) r ⌝ }
 {
-    let points = seat_messages::points();
+    let points = seat_messages::points_of(plan, h);
     let n = h.n;
     let a = n * w;
     let e = a + n;
@@ -260,16 +272,25 @@ fn opening(h: Header, table: &[u64], w: usize) -> u64
 }
 
 // The result of an out, where it is party i's.
-fn put_result(i: usize, o: Output, h: Header, table: &[u64], at: usize, out: &mut [u8]) -> usize
+fn put_result(
+    plan: &[u8],
+    h: Header,
+    i: usize,
+    o: Output,
+    table: &[u64],
+    at: usize,
+    out: &mut [u8],
+) -> usize
+    requires { ⌜ Planned (now plan) h ⌝ }
     requires { ⌜ Running h (now table) ⌝ }
     requires { ⌜ o .wire < h .gates ⌝ }
     requires { ⌜ at ≤ 2000000 ⌝ }
-    ensures { λ r. ⌜ Wrote 1 (cond (eqb i (o .party)) (openedIn h (now (table .entry)) (o .wire) ∷ []) []) at (now (out .entry)) (now (out .exit)) r ⌝ }
+    ensures { λ r. ⌜ Wrote 1 (cond (eqb i (o .party)) (openedIn (planOf (now (plan .entry))) h (now (table .entry)) (o .wire) ∷ []) []) at (now (out .entry)) (now (out .exit)) r ⌝ }
 {
     if i != o.party {
         return at;
     }
-    put(opening(h, table, o.wire), at, out)
+    put(opening(plan, h, table, o.wire), at, out)
 }
 
 // Party i's results.
@@ -284,13 +305,13 @@ fn write_results(
     requires { ⌜ Planned (now plan) h ⌝ }
     requires { ⌜ Running h (now table) ⌝ }
     requires { ⌜ at ≤ 1000000 ⌝ }
-    ensures { λ r. ⌜ Wrote 64 (map (openedIn h (now (table .entry))) (outWires (planOf (now (plan .entry))) i)) at (now (out .entry)) (now (out .exit)) r ⌝ }
+    ensures { λ r. ⌜ Wrote 64 (map (openedIn (planOf (now (plan .entry))) h (now (table .entry))) (outWires (planOf (now (plan .entry))) i)) at (now (out .entry)) (now (out .exit)) r ⌝ }
 {
     let mut next = at;
     let mut k: usize = 0;
     while k < h.outs {
         let o = plan::out_at(plan, k);
-        next = put_result(i, o, h, table, next, out);
+        next = put_result(plan, h, i, o, table, next, out);
         k += 1;
     }
     next
@@ -301,24 +322,24 @@ fn write_results(
 // The t coins from number `from` on.
 fn put_coins(t: usize, coins: &[u8], from: usize, at: usize, out: &mut [u8]) -> usize
     requires { ⌜ t ≤ 7 ⌝ }
-    requires { ⌜ from ≤ 1000000 ⌝ }
+    requires { ⌜ from + t ≤ length (now coins) / width ⌝ }
     requires { ⌜ at ≤ 1500000 ⌝ }
-    ensures { λ r. ⌜ Wrote 7 (coinsFrom t from (numbers (now (coins .entry)))) at (now (out .entry)) (now (out .exit)) r ⌝ }
+    ensures { λ r. ⌜ Wrote 7 (take t (drop from (numbers (now (coins .entry))))) at (now (out .entry)) (now (out .exit)) r ⌝ }
 {
     let mut next = at;
     let mut j: usize = 0;
     while j < t {
-        next = put(numbers::read(coins, from + j), next, out);
+        next = put(numbers::number(coins, from + j), next, out);
         j += 1;
     }
     next
 }
 
-// Party i's coins of its dealing at a gate, whose coins begin at number `from`.
-fn put_dealing(
+// Party i's t coins where parties 1 to m have t each, the first party's from number `from` on.
+fn put_block(
     t: usize,
     i: usize,
-    gate: Gate,
+    m: usize,
     coins: &[u8],
     from: usize,
     at: usize,
@@ -326,27 +347,63 @@ fn put_dealing(
 ) -> usize
     requires { ⌜ t ≤ 7 ⌝ }
     requires { ⌜ 1 ≤ i ⌝ }
-    requires { ⌜ i ≤ 15 ⌝ }
-    requires { ⌜ from ≤ 500000 ⌝ }
+    requires { ⌜ from + t * m ≤ length (now coins) / width ⌝ }
     requires { ⌜ at ≤ 1500000 ⌝ }
-    ensures { λ r. ⌜ Wrote 7 (ownAt t i (numbers (now (coins .entry))) from gate) at (now (out .entry)) (now (out .exit)) r ⌝ }
+    ensures { λ r. ⌜ Wrote 7 (cond (leb i m) (take t (drop (from + t * (i - 1)) (numbers (now (coins .entry))))) []) at (now (out .entry)) (now (out .exit)) r ⌝ }
 {
-    match gate {
-        Gate::Input(s) => {
-            if i == s {
-                return put_coins(t, coins, from, at, out);
-            }
-            at
-        }
+    if i <= m {
+        return put_coins(t, coins, from + t * (i - 1), at, out);
+    }
+    at
+}
+
+// Party i's coins of its dealing of the input of party s.
+fn put_dealing(
+    t: usize,
+    i: usize,
+    s: usize,
+    coins: &[u8],
+    from: usize,
+    at: usize,
+    out: &mut [u8],
+) -> usize
+    requires { ⌜ t ≤ 7 ⌝ }
+    requires { ⌜ from + t ≤ length (now coins) / width ⌝ }
+    requires { ⌜ at ≤ 1500000 ⌝ }
+    ensures { λ r. ⌜ Wrote 7 (cond (eqb i s) (take t (drop from (numbers (now (coins .entry))))) []) at (now (out .entry)) (now (out .exit)) r ⌝ }
+{
+    if i == s {
+        return put_coins(t, coins, from, at, out);
+    }
+    at
+}
+
+// Party i's own of the coins that gate g takes, which begin at number `from`.
+fn put_own(
+    plan: &[u8],
+    h: Header,
+    i: usize,
+    g: usize,
+    coins: &[u8],
+    from: usize,
+    at: usize,
+    out: &mut [u8],
+) -> usize
+    requires { ⌜ Planned (now plan) h ⌝ }
+    requires { ⌜ 1 ≤ i ⌝ }
+    requires { ⌜ from + length (coinOwnersAt (planOf (now plan)) (gateAt (now plan) g)) ≤ length (now coins) / width ⌝ }
+    requires { ⌜ at ≤ 1500000 ⌝ }
+    ensures { λ r. ⌜ Wrote 7 (ownOf i (coinOwnersAt (planOf (now (plan .entry))) (gateAt (now (plan .entry)) g)) (drop from (numbers (now (coins .entry))))) at (now (out .entry)) (now (out .exit)) r ⌝ }
+{
+    let t = h.t;
+    match plan::gate_at(plan, g) {
+        Gate::Input(s) => put_dealing(t, i, s, coins, from, at, out),
         Gate::Add(_, _) => at,
         Gate::Scale(_, _) => at,
         Gate::Offset(_, _) => at,
-        Gate::Multiply(_, _) => {
-            if i <= t + t + 1 {
-                return put_coins(t, coins, from + t * (i - 1), at, out);
-            }
-            at
-        }
+        Gate::Multiply(_, _) => put_block(t, i, t + t + 1, coins, from, at, out),
+        Gate::Random => put_block(t, i, h.n, coins, from, at, out),
+        Gate::Spend(_, _) => at,
     }
 }
 
@@ -354,19 +411,16 @@ fn put_dealing(
 fn write_coins(plan: &[u8], h: Header, i: usize, coins: &[u8], at: usize, out: &mut [u8]) -> usize
     requires { ⌜ Planned (now plan) h ⌝ }
     requires { ⌜ 1 ≤ i ⌝ }
-    requires { ⌜ i ≤ 15 ⌝ }
     requires { ⌜ length (numbers (now coins)) ≡ coinCount (planOf (now plan)) ⌝ }
     requires { ⌜ at ≤ 1000000 ⌝ }
     ensures { λ r. ⌜ Wrote 7168 (ownCoins (planOf (now (plan .entry))) i (numbers (now (coins .entry)))) at (now (out .entry)) (now (out .exit)) r ⌝ }
 {
-    let t = h.t;
     let mut next = at;
     let mut from: usize = 0;
     let mut g: usize = 0;
     while g < h.gates {
-        let gate = plan::gate_at(plan, g);
-        next = put_dealing(t, i, gate, coins, from, next, out);
-        from += run_dealings::coins_taken(t, gate);
+        next = put_own(plan, h, i, g, coins, from, next, out);
+        from += run_dealings::coins_taken(plan, h, g);
         g += 1;
     }
     next
@@ -382,9 +436,9 @@ fn dealt(f: Field, m: u64, t: usize, powers: &[u64], s: u64, coins: &[u8], from:
     requires { ⌜ length (now powers) ≡ t + 1 ⌝ }
     requires { ⌜ allBelow (f .p) (now powers) ≡ true ⌝ }
     requires { ⌜ s < f .p ⌝ }
-    requires { ⌜ from + t ≤ length (now coins) / 2 ⌝ }
+    requires { ⌜ from + t ≤ length (now coins) / width ⌝ }
     requires { ⌜ allBelow (f .p) (numbers (now coins)) ≡ true ⌝ }
-    ensures { λ r. ⌜ Is (f .p) (dot (f .p) (now (powers .entry)) (s ∷ coinsFrom t from (numbers (now (coins .entry))))) r ⌝ }
+    ensures { λ r. ⌜ Is (f .p) (dot (f .p) (now (powers .entry)) (s ∷ take t (drop from (numbers (now (coins .entry)))))) r ⌝ }
 {
     let mut sum = f.product(powers[0], s);
     let mut j: usize = 0;
@@ -431,9 +485,9 @@ fn put_piece(
     requires { ⌜ PowerRow h (now powers) ⌝ }
     requires { ⌜ allBelow (h .field .p) (numbers (now coins)) ≡ true ⌝ }
     requires { ⌜ d ≤ 14 ⌝ }
-    requires { ⌜ from + h .t ≤ length (now coins) / 2 ⌝ }
+    requires { ⌜ from + h .t ≤ length (now coins) / width ⌝ }
     requires { ⌜ at ≤ 2000000 ⌝ }
-    ensures { λ r. ⌜ Wrote 1 (dot (h .field .p) (now (powers .entry)) (mul (h .field .p) (shareIn (h .n) (now (table .entry)) (d + 1) a) (shareIn (h .n) (now (table .entry)) (d + 1) b) ∷ coinsFrom (h .t) from (numbers (now (coins .entry)))) ∷ []) at (now (out .entry)) (now (out .exit)) r ⌝ }
+    ensures { λ r. ⌜ Wrote 1 (dot (h .field .p) (now (powers .entry)) (mul (h .field .p) (shareIn (h .n) (now (table .entry)) (d + 1) a) (shareIn (h .n) (now (table .entry)) (d + 1) b) ∷ take (h .t) (drop from (numbers (now (coins .entry))))) ∷ []) at (now (out .entry)) (now (out .exit)) r ⌝ }
 {
     let s = product(h, m, table, a, b, d + 1);
     put(dealt(h.field, m, h.t, powers, s, coins, from), at, out)
@@ -454,7 +508,7 @@ fn put_pieces(
     requires { ⌜ Running h (now table) ⌝ }
     requires { ⌜ PowerRow h (now powers) ⌝ }
     requires { ⌜ allBelow (h .field .p) (numbers (now coins)) ≡ true ⌝ }
-    requires { ⌜ from + h .t * (h .t + h .t + 1) ≤ length (now coins) / 2 ⌝ }
+    requires { ⌜ from + h .t * (h .t + h .t + 1) ≤ length (now coins) / width ⌝ }
     requires { ⌜ at ≤ 1500000 ⌝ }
     ensures { λ r. ⌜ Wrote 15 (tab (pieceIn h (now (table .entry)) a b (numbers (now (coins .entry))) from (now (powers .entry))) (h .t + h .t + 1)) at (now (out .entry)) (now (out .exit)) r ⌝ }
 {
@@ -472,10 +526,12 @@ fn put_pieces(
     next
 }
 
-// The pieces of a gate's products.
-fn put_multiply(
+// The mail of gate g's steps at the point whose powers are lent, when the gate's coins begin at number `from`. No plan file has a gate of the
+// last two kinds.
+fn put_steps(
+    plan: &[u8],
     h: Header,
-    gate: Gate,
+    g: usize,
     table: &[u64],
     coins: &[u8],
     from: usize,
@@ -483,24 +539,27 @@ fn put_multiply(
     at: usize,
     out: &mut [u8],
 ) -> usize
+    requires { ⌜ Planned (now plan) h ⌝ }
     requires { ⌜ Running h (now table) ⌝ }
     requires { ⌜ PowerRow h (now powers) ⌝ }
     requires { ⌜ allBelow (h .field .p) (numbers (now coins)) ≡ true ⌝ }
-    requires { ⌜ from + coinsIn (h .t) gate ≤ length (now coins) / 2 ⌝ }
+    requires { ⌜ from + length (coinOwnersAt (planOf (now plan)) (gateAt (now plan) g)) ≤ length (now coins) / width ⌝ }
     requires { ⌜ at ≤ 1500000 ⌝ }
-    ensures { λ r. ⌜ Wrote 15 (piecesIn h (now (table .entry)) (numbers (now (coins .entry))) from (now (powers .entry)) gate) at (now (out .entry)) (now (out .exit)) r ⌝ }
+    ensures { λ r. ⌜ Wrote 15 (piecesIn h (now (table .entry)) (numbers (now (coins .entry))) from (now (powers .entry)) (gateAt (now (plan .entry)) g)) at (now (out .entry)) (now (out .exit)) r ⌝ }
 {
-    match gate {
+    match plan::gate_at(plan, g) {
         Gate::Input(_) => at,
         Gate::Add(_, _) => at,
         Gate::Scale(_, _) => at,
         Gate::Offset(_, _) => at,
         Gate::Multiply(a, b) => put_pieces(h, a, b, table, coins, from, powers, at, out),
+        Gate::Random => at,
+        Gate::Spend(_, _) => at,
     }
 }
 
-// The mail of the multiplies' rounds at the point whose powers are lent: the pieces of each.
-fn write_middle(
+// The mail of all gates' steps at the point whose powers are lent.
+fn write_steps(
     plan: &[u8],
     h: Header,
     table: &[u64],
@@ -513,16 +572,14 @@ fn write_middle(
     requires { ⌜ Ran (planOf (now plan)) h (numbers (now coins)) (now table) ⌝ }
     requires { ⌜ PowerRow h (now powers) ⌝ }
     requires { ⌜ at ≤ 1000000 ⌝ }
-    ensures { λ r. ⌜ Wrote 15360 (middleIn (planOf (now (plan .entry))) h (now (table .entry)) (numbers (now (coins .entry))) (now (powers .entry))) at (now (out .entry)) (now (out .exit)) r ⌝ }
+    ensures { λ r. ⌜ Wrote 15360 (stepsIn (planOf (now (plan .entry))) h (now (table .entry)) (numbers (now (coins .entry))) (now (powers .entry)) 0 (planOf (now (plan .entry)) .gates)) at (now (out .entry)) (now (out .exit)) r ⌝ }
 {
-    let t = h.t;
     let mut next = at;
     let mut from: usize = 0;
     let mut g: usize = 0;
     while g < h.gates {
-        let gate = plan::gate_at(plan, g);
-        next = put_multiply(h, gate, table, coins, from, powers, next, out);
-        from += run_dealings::coins_taken(t, gate);
+        next = put_steps(plan, h, g, table, coins, from, powers, next, out);
+        from += run_dealings::coins_taken(plan, h, g);
         g += 1;
     }
     next
@@ -531,15 +588,15 @@ fn write_middle(
 // ---- views
 
 // The powers of party i's point, t + 1 of them.
-fn power_row(h: Header, i: usize) -> [u64; 8]
-    requires { ⌜ Ready (h .field .p) ⌝ }
-    requires { ⌜ h .t ≤ 7 ⌝ }
-    requires { ⌜ i < h .field .p ⌝ }
-    ensures { λ r. ⌜ take (h .t + 1) r ≡ powers (h .field .p) i (h .t + 1) ⌝ }
+fn power_row(plan: &[u8], h: Header, i: usize) -> [u64; 8]
+    requires { ⌜ Planned (now plan) h ⌝ }
+    requires { ⌜ (1 ≤ i) × (i ≤ h .n) ⌝ }
+    ensures { λ r. ⌜ take (h .t + 1) r ≡ powers (h .field .p) (pointOf (planOf (now (plan .entry))) i) (h .t + 1) ⌝ }
 {
+    let points = seat_messages::points_of(plan, h);
     let mut row = [0u64; 8];
     let k = h.t + 1;
-    run_dealings::powers(h.field, i as u64, &mut row[..k]);
+    run_dealings::powers(h.field, points[i - 1], &mut row[..k]);
     row
 }
 
@@ -560,10 +617,10 @@ fn write_mail(
     requires { ⌜ at ≤ 900000 ⌝ }
     ensures { λ r. ⌜ Wrote 31680 (mailIn (planOf (now (plan .entry))) h (now (table .entry)) (numbers (now (coins .entry))) i) at (now (out .entry)) (now (out .exit)) r ⌝ }
 {
-    let row = power_row(h, i);
+    let row = power_row(plan, h, i);
     let k = h.t + 1;
     let a = write_first(plan, h, table, i, at, out);
-    let b = write_middle(plan, h, table, coins, &row[..k], a, out);
+    let b = write_steps(plan, h, table, coins, &row[..k], a, out);
     write_outs(plan, h, table, i, b, out)
 }
 
@@ -629,10 +686,10 @@ pub fn write_views(
 )
     requires { ⌜ Planned (now plan) h ⌝ }
     requires { ⌜ Given (planOf (now plan)) (now inputs) (now coins) ⌝ }
-    requires { ⌜ now table ≡ rowsOf (planOf (now plan) .points) (shareTable (planOf (now plan)) (numbers (now inputs)) (numbers (now coins))) ⌝ }
+    requires { ⌜ now table ≡ rowsOf (planOf (now plan) .points) (shareTable (planOf (now plan)) (numbers (now inputs)) (numbers (now coins)) []) ⌝ }
     requires { ⌜ setFits (h .n) (h .t) set ≡ true ⌝ }
-    requires { ⌜ length (now out) ≡ 2 * viewCount (planOf (now plan)) (members set) ⌝ }
-    ensures { λ _. ⌜ now (out .exit) ≡ bytesOf (flatMap (tableViewOf (planOf (now (plan .entry))) (numbers (now (inputs .entry))) (numbers (now (coins .entry)))) (members set)) ⌝ }
+    requires { ⌜ length (now out) ≡ width * viewCount (planOf (now plan)) (members set) ⌝ }
+    ensures { λ _. ⌜ now (out .exit) ≡ bytesOf (flatMap (tableViewOf (planOf (now (plan .entry))) (numbers (now (inputs .entry))) (numbers (now (coins .entry))) []) (members set)) ⌝ }
 {
     let mut at: usize = 0;
     let mut i: usize = 1;

@@ -10,6 +10,7 @@ use mathlib.Core.Bool.{Bool, true, false, cond}
 use mathlib.Core.List.{List, [], _∷_, _++_}
 use Prim.Native.Nat.{ℕ, suc, _+_, _*_, _<_, _≤_}
 use native.Mathlib.Nat.{mul-le-mul}
+use native.Mathlib.Numerals.{add-one}
 use native.Mathlib.Omega.{arith}
 use borrow.Author.Needs.{needs}
 use borrow.Author.Tests.{not-true, not-false, le-leb, lt-leb, eq-eqb, ne-eqb}
@@ -20,9 +21,8 @@ use mir.Syntax.{w64}
 use mir.Val.{Fits}
 use Rattle.numbers.specs.declared.Found.{Found}
 use Rattle.numbers.specs.declared.Found.the-variants.{At, Nothing}
-use Rattle.numbers.specs.Tables.{tab, countWhere}
-use Rattle.numbers.specs.Bytes.{numbers, holdsCount, firstOver, allBelow}
-use Rattle.numbers.proofs.Tables.{length-tab}
+use Rattle.numbers.specs.Tables.{tab}
+use Rattle.numbers.specs.Bytes.{width, numbers, holdsCount, firstOver, allBelow}
 use Rattle.numbers.proofs.Below.{firstOver-nothing}
 use Rattle.sharing_laws.specs.Sharing.{firstOff, openingRow, openingRows}
 use Rattle.sharing_laws.proofs.OffLine.{off-within}
@@ -33,16 +33,16 @@ use Rattle.plan.specs.declared.Checked.the-variants.{Passed, Refused}
 use Rattle.plan.specs.declared.Refusal.{Refusal}
 use Rattle.plan.specs.declared.Refusal.the-variants as refusal
 use Rattle.plan.specs.Refusals.{andThen, firstOf, need, unlessFound}
-use Rattle.plan.specs.Plans.{partyCount, deals, ownInputCount, ownCoinCount, ownOutCount, mailCount, writtenCount, multiplies}
+use Rattle.plan.specs.Plans.{partyCount, ownInputCount, ownCoinCount, ownOutCount, lastCall, mailCount, writtenCount}
 use Rattle.plan.specs.File.{between, planOf}
 use Rattle.plan.specs.Planned.{Planned}
 use Rattle.plan.proofs.Refusals.{andThen-passed, andThen-refused, andThen-end, firstOf-nil, firstOf-cons, firstOf-append, need-true, need-false, found-at, found-nothing, passed-both, passed-found, trying}
-use Rattle.plan.proofs.Planned.{plan-t, plan-p, plan-n, plan-points, plan-gates}
+use Rattle.plan.proofs.Planned.{plan-t, plan-p, plan-n, plan-gates}
 use Rattle.plan.proofs.Valid.{planned-ready}
-use Rattle.seat_messages.specs.Messages.{sharesOfOut}
+use Rattle.seat_messages.specs.Messages.{fromEach}
 use Rattle.seat_messages.specs.Calls.{onPolynomial, outsCheck, openingCheck, partyChecks}
-use Rattle.seat_messages.proofs.PointLaws.{first-points, points-below}
-use Rattle.seat_admission.specs.Parts.{listChecks, ownChecks, stateChecks, mailChecks, outCheck, OwnOuts}
+use Rattle.seat_messages.proofs.PointLaws.{plan-points-long, plan-points-below, points-within, points-count}
+use Rattle.seat_admission.specs.Parts.{listChecks, ownChecks, stateChecks, mailChecks, outCheck}
 use Rattle.seat_results.proofs.ResultLaws.{shares-long, shares-below}
 
 -- ---- a lent list
@@ -63,74 +63,74 @@ module _ (few : Refusal) (over : ℕ → Refusal) (p count : ℕ) (bs : List ℕ
 pub ruleset listing = (needs, not-true, not-false, list-few, list-over, list-passed)
 
 -- ---- the state
-module _ (p gates mults : ℕ) (bs : List ℕ) (t : Bool) (et : t ≡ holdsCount (1 + gates) bs) where
-  pub state-few : t ≡ false → Refused refusal.StateCount ≡ firstOf (stateChecks p gates mults bs)
+module _ (p gates last : ℕ) (bs : List ℕ) (t : Bool) (et : t ≡ holdsCount (1 + gates) bs) where
+  pub state-few : t ≡ false → Refused refusal.StateCount ≡ firstOf (stateChecks p gates last bs)
   unfolding stateChecks firstOf andThen need
   state-few h = rw (← et, h)
 
   module _ (ht : t ≡ true) (k : ℕ) (ek : k ≡ getD (numbers bs) 0 0) where
-    pub state-past : mults + 3 < k → Refused refusal.StateValue ≡ firstOf (stateChecks p gates mults bs)
+    pub state-past : last + 1 < k → Refused refusal.StateValue ≡ firstOf (stateChecks p gates last bs)
     unfolding stateChecks firstOf andThen need
-    state-past h = rw (← et, ht, ← ek, lt-leb k (mults + 3) h)
+    state-past h = rw (← et, ht, ← ek, lt-leb k (suc last) (rw (add-one) at h))
 
-    module _ (hk : k ≤ mults + 3) (b : Bool) (eb : b ≡ allBelow p (drop 1 (numbers bs))) where
-      pub state-over : b ≡ false → Refused refusal.StateValue ≡ firstOf (stateChecks p gates mults bs)
+    module _ (hk : k ≤ last + 1) (b : Bool) (eb : b ≡ allBelow p (drop 1 (numbers bs))) where
+      pub state-over : b ≡ false → Refused refusal.StateValue ≡ firstOf (stateChecks p gates last bs)
       unfolding stateChecks firstOf andThen need
-      state-over h = rw (← et, ht, ← ek, le-leb k (mults + 3) hk, ← eb, h)
+      state-over h = rw (← et, ht, ← ek, le-leb k (suc last) (rw add-one at hk), ← eb, h)
 
-      pub state-finished : b ≡ true → k ≡ mults + 3 → Refused refusal.Finished ≡ firstOf (stateChecks p gates mults bs)
+      pub state-finished : b ≡ true → k ≡ last + 1 → Refused refusal.Finished ≡ firstOf (stateChecks p gates last bs)
       unfolding stateChecks firstOf andThen need
-      state-finished h e = rw (← et, ht, ← ek, le-leb k (mults + 3) hk, ← eb, h, eq-eqb k (mults + 3) e)
+      state-finished h e = rw (← et, ht, ← ek, le-leb k (suc last) (rw add-one at hk), ← eb, h, eq-eqb k (suc last) (rw add-one at e))
 
-      pub state-passed : b ≡ true → (k ≡ mults + 3 → ⊥) → Passed ≡ firstOf (stateChecks p gates mults bs)
+      pub state-passed : b ≡ true → (k ≡ last + 1 → ⊥) → Passed ≡ firstOf (stateChecks p gates last bs)
       unfolding stateChecks firstOf andThen need
-      state-passed h e = rw (← et, ht, ← ek, le-leb k (mults + 3) hk, ← eb, h, ne-eqb k (mults + 3) e)
+      state-passed h e = rw (← et, ht, ← ek, le-leb k (suc last) (rw add-one at hk), ← eb, h, ne-eqb k (suc last) (λ q. e (q ∙ sym (add-one last))))
 
 pub ruleset stating = (needs, not-true, not-false, state-few, state-past, state-over, state-finished, state-passed)
 
-pub shares-count : (n own j : ℕ) (mail xs : List ℕ) → xs ≡ sharesOfOut n own j mail → n ≡ length xs
+pub shares-count : (n own j : ℕ) (mail xs : List ℕ) → xs ≡ fromEach n own j mail → n ≡ length xs
 shares-count n own j mail xs e = sym (ap length e ∙ shares-long n own j mail)
 
-module _ (h : Header) (own : ℕ) (o : OwnOuts h own) where
-  module _ (points : List ℕ) (is : points ≡ tab suc (h .n)) where
+module _ (bs : List ℕ) (h : Header) (k : Planned bs h) (own : ℕ) where
+  module _ (points : List ℕ) (is : points ≡ planOf bs .points) where
     points-long : length points ≡ h .n
-    points-long = ap length is ∙ length-tab suc (h .n)
+    points-long = ap length is ∙ plan-points-long bs h k
 
     pub points-over : h .t < length points
-    points-over = omega (arith, points-long, o .majority)
+    points-over = omega (arith, points-long, k .majority)
 
     pub points-few : length points ≤ 65536
-    points-few = omega (arith, points-long, o .n-high)
+    points-few = omega (arith, points-long, k .n-high)
 
-    pub points-each : (j : ℕ) (mail xs : List ℕ) → xs ≡ sharesOfOut (h .n) own j mail → length xs ≡ length points
+    pub points-each : (j : ℕ) (mail xs : List ℕ) → xs ≡ fromEach (h .n) own j mail → length xs ≡ length points
     points-each j mail xs e = ap length e ∙ shares-long (h .n) own j mail ∙ sym points-long
 
-  pub gathered-below : (j : ℕ) (mail xs : List ℕ) → allBelow (h .field .p) mail ≡ true → xs ≡ sharesOfOut (h .n) own j mail → allBelow (h .field .p) xs ≡ true
-  gathered-below j mail xs b e = rw e (shares-below (h .field .p) (h .n) own j mail (o .ready) b)
+  pub gathered-below : (j : ℕ) (mail xs : List ℕ) → allBelow (h .field .p) mail ≡ true → xs ≡ fromEach (h .n) own j mail → allBelow (h .field .p) xs ≡ true
+  gathered-below j mail xs b e = rw e (shares-below (h .field .p) (h .n) own j mail (planned-ready bs h k) b)
 
-module _ (h : Header) (own : ℕ) (mail : List ℕ) (j : ℕ) (points xs : List ℕ) (f : Found) (is : points ≡ tab suc (h .n)) (e : xs ≡ sharesOfOut (h .n) own j mail) (ef : f ≡ firstOff (h .field .p) (h .t) points xs) where
-  out-is : outCheck h own mail j ≡ unlessFound (λ i. refusal.OffPolynomial (i + 1)) f
-  unfolding outCheck onPolynomial
-  out-is = rw (ef, is, e)
+  module _ (mail : List ℕ) (j : ℕ) (points xs : List ℕ) (f : Found) (is : points ≡ planOf bs .points) (e : xs ≡ fromEach (h .n) own j mail) (ef : f ≡ firstOff (h .field .p) (h .t) points xs) where
+    out-is : outCheck (planOf bs) own mail j ≡ unlessFound (λ i. refusal.OffPolynomial (i + 1)) f
+    unfolding outCheck onPolynomial
+    out-is = sym (rw (ef, is, e, ← plan-p k, ← plan-t k, ← plan-n k))
 
-  pub out-off : (i : ℕ) → f ≡ At i → Refused (refusal.OffPolynomial (i + 1)) ≡ outCheck h own mail j
-  out-off i q = sym (out-is ∙ found-at (λ i. refusal.OffPolynomial (i + 1)) f i q)
+    pub out-off : (i : ℕ) → f ≡ At i → Refused (refusal.OffPolynomial (i + 1)) ≡ outCheck (planOf bs) own mail j
+    out-off i q = sym (out-is ∙ found-at (λ i. refusal.OffPolynomial (i + 1)) f i q)
 
-  pub out-on : f ≡ Nothing → Passed ≡ outCheck h own mail j
-  out-on q = sym (out-is ∙ found-nothing (λ i. refusal.OffPolynomial (i + 1)) f q)
+    pub out-on : f ≡ Nothing → Passed ≡ outCheck (planOf bs) own mail j
+    out-on q = sym (out-is ∙ found-nothing (λ i. refusal.OffPolynomial (i + 1)) f q)
 
 pub off-fits : (p t : ℕ) (points xs : List ℕ) (f : Found) (i : ℕ) → length points ≤ 65536 → f ≡ firstOff p t points xs → f ≡ At i → Fits w64 (i + 1)
 off-fits p t points xs f i l ef e = record { fits = omega (arith, off-within p t points xs i (sym ef ∙ e)) }
 
-pub ruleset opening = (needs, shares-count, points-over, points-few, points-each, gathered-below, off-fits, out-off, out-on)
+pub ruleset opening = (needs, planned-ready, shares-count, points-over, points-few, points-each, gathered-below, off-fits, out-off, out-on)
 
 -- the party's own outs, one after the other
 pub ruleset each = (needs, trying)
 
 -- the room of the opening rows
-module _ (h : Header) (own : ℕ) (o : OwnOuts h own) where
+module _ (bs : List ℕ) (h : Header) (k : Planned bs h) where
   used-small : (h .t + 1) * h .n ≤ 120
-  used-small = mul-le-mul {n₁ = h .t + 1} {m₁ = h .n} {n₂ = 8} {m₂ = 15} (omega (arith, o .majority, o .n-high)) (o .n-high)
+  used-small = mul-le-mul {n₁ = h .t + 1} {m₁ = h .n} {n₂ = 8} {m₂ = 15} (omega (arith, k .majority, k .n-high)) (k .n-high)
 
   pub used-fits : Fits w64 ((h .t + 1) * h .n)
   used-fits = record { fits = omega (arith, used-small) }
@@ -142,20 +142,20 @@ module _ (h : Header) (own : ℕ) (o : OwnOuts h own) where
     pub used-count : (h .t + 1) * h .n ≡ length (take ((h .t + 1) * h .n) room)
     used-count = sym (length-take-le ((h .t + 1) * h .n) room used-within)
 
-  module _ (points : List ℕ) (is : points ≡ tab suc (h .n)) where
+  module _ (points : List ℕ) (is : points ≡ planOf bs .points) where
     pub opened-below : allBelow (h .field .p) points ≡ true
-    opened-below = rw is (points-below (h .field .p) (h .n) (o .p-low))
+    opened-below = rw is (plan-points-below bs h k)
 
     pub used-rows : (room : List ℕ) → length room ≡ 120 → length (take ((h .t + 1) * h .n) room) ≡ (h .t + 1) * length points
-    used-rows room size = rw (points-long h own o points is) (sym (used-count room size))
+    used-rows room size = rw (points-long bs h k 0 points is) (sym (used-count room size))
 
     module _ (room ys : List ℕ) (e : ys ≡ openingRows (h .field .p) (h .t) points) where
       rows-long : length ys ≡ (h .t + 1) * h .n
       unfolding openingRows
       rows-long =
           ap length e
-          ∙ length-rows (openingRow (h .field .p) (h .t) points) (h .t + 1) (λ j. length-row (h .field .p) (h .t) points j (points-over h own o points is)) (length points)
-          ∙ ap (λ (n : ℕ). (h .t + 1) * n) (points-long h own o points is)
+          ∙ length-rows (openingRow (h .field .p) (h .t) points) (h .t + 1) (λ j. length-row (h .field .p) (h .t) points j (points-over bs h k 0 points is)) (length points)
+          ∙ ap (λ (n : ℕ). (h .t + 1) * n) (points-long bs h k 0 points is)
 
       pub rows-within : (h .t + 1) * h .n ≤ length (ys ++ drop ((h .t + 1) * h .n) room)
       rows-within = rw length-append (omega (arith, rows-long))
@@ -166,28 +166,20 @@ module _ (h : Header) (own : ℕ) (o : OwnOuts h own) where
       pub rows-count : (h .t + 1) * h .n ≡ length (take ((h .t + 1) * h .n) (ys ++ drop ((h .t + 1) * h .n) room))
       rows-count = sym (length-take-le ((h .t + 1) * h .n) (ys ++ drop ((h .t + 1) * h .n) room) rows-within)
 
-pub first-count : (n : ℕ) (xs : List ℕ) → xs ≡ tab suc 15 → n ≤ 15 → n ≡ length (take n xs)
-first-count n xs e l = rw (first-points xs n e l) (sym (length-tab suc n))
+  module _ (xs : List ℕ) (e : take (h .n) xs ≡ planOf bs .points) where
+    pub first-count : h .n ≡ length (take (h .n) xs)
+    first-count = sym (points-count bs h k xs e (h .n) (omega arith))
 
-pub fifteen : (n : ℕ) (xs : List ℕ) → xs ≡ tab suc 15 → n ≤ 15 → n ≤ length xs
-fifteen n xs e l = rw (e, length-tab suc 15) l
+    pub fifteen : h .n ≤ length xs
+    fifteen = points-within bs h k xs e (h .n) (omega arith)
 
-pub ruleset rowing = (needs, used-fits, used-within, used-count, opened-below, points-over, used-rows, rows-within, rows-front, rows-count, first-count, fifteen, first-points)
-
-pub plan-own-outs : (bs : List ℕ) (h : Header) (own : ℕ) → Planned bs h → own ≤ 64 → OwnOuts h own
-plan-own-outs bs h own pl l = record { ready = planned-ready bs h pl; n-high = pl .n-high; majority = pl .majority; p-low = pl .p-low; own-high = l }
-
-outs-by : ℕ → ℕ → List ℕ → ℕ → ℕ → List ℕ → Checked
-outs-by p t points n own mail = firstOf (tab (λ j. onPolynomial p t points (sharesOfOut n own j mail)) own)
-
-same-outs : {p q t u : ℕ} {xs ys : List ℕ} {n m a b : ℕ} → p ≡ q → t ≡ u → xs ≡ ys → n ≡ m → a ≡ b → (mail : List ℕ) → outs-by p t xs n a mail ≡ outs-by q u ys m b mail
-same-outs ep et ex en ea mail = rw (ep, et, ex, en, ea)
+pub ruleset rowing = (needs, planned-ready, used-fits, used-within, used-count, opened-below, points-over, used-rows, rows-within, rows-front, rows-count, first-count, fifteen)
 
 module _ (bs : List ℕ) (h : Header) (pl : Planned bs h) (i : ℕ) where
   -- refusal 20
-  pub outs-are : (mail : List ℕ) (own : ℕ) → own ≡ ownOutCount (planOf bs) i → (r : Checked) → r ≡ firstOf (tab (outCheck h own mail) own) → r ≡ outsCheck (planOf bs) i mail
-  unfolding outsCheck outCheck outs-by
-  outs-are mail own eo r er = er ∙ sym (same-outs (plan-p pl) (plan-t pl) (plan-points pl) (plan-n pl) (sym eo) mail)
+  pub outs-are : (mail : List ℕ) (own : ℕ) → own ≡ ownOutCount (planOf bs) i → (r : Checked) → r ≡ firstOf (tab (outCheck (planOf bs) own mail) own) → r ≡ outsCheck (planOf bs) i mail
+  unfolding outsCheck outCheck
+  outs-are mail own eo r er = er ∙ ap (λ (m : ℕ). firstOf (tab (outCheck (planOf bs) m mail) m)) eo
 
   -- refusals 9 to 13
   module _ (inputs coins : List ℕ) where
@@ -221,20 +213,16 @@ module _ (bs : List ℕ) (h : Header) (pl : Planned bs h) (i : ℕ) where
       pub own-inputs : (r : Refusal) → c ≡ Refused r → c ≡ firstOf (ownChecks (planOf bs) i inputs coins)
       own-inputs r e = e ∙ sym (own-parts ∙ andThen-refused c _ r e)
 
-      pub own-coins : c ≡ Passed → (d : ℕ) → d ≡ countWhere (deals (planOf bs) i) (planOf bs .gates) → (r : Checked) → r ≡ firstOf (listChecks refusal.CoinCount refusal.CoinValue (h .field .p) (h .t * d) coins)
+      pub own-coins : c ≡ Passed → (d : ℕ) → d ≡ ownCoinCount (planOf bs) i → (r : Checked) → r ≡ firstOf (listChecks refusal.CoinCount refusal.CoinValue (h .field .p) d coins)
           → r ≡ firstOf (ownChecks (planOf bs) i inputs coins)
-      unfolding ownCoinCount
       own-coins e d ed r er =
           er
           ∙ sym
           (own-parts
           ∙ andThen-passed c _ e
-          ∙ ap (λ (n : ℕ). firstOf (listChecks refusal.CoinCount refusal.CoinValue (h .field .p) n coins)) (ap₂ _*_ (plan-t pl) (sym ed)))
+          ∙ ap (λ (n : ℕ). firstOf (listChecks refusal.CoinCount refusal.CoinValue (h .field .p) n coins)) (sym ed))
 
-pub coins-fit : (bs : List ℕ) (h : Header) → Planned bs h → (d : ℕ) → d ≤ 1024 → Fits w64 (h .t * d)
-coins-fit bs h pl d l = record { fits = omega (arith, mul-le-mul {n₁ = h .t} {m₁ = d} {n₂ = 15} {m₂ = 1024} (omega (arith, pl .majority, pl .n-high)) l) }
-
-pub ruleset owning = (needs, plan-own-outs, outs-are, own-under, own-over, own-inputs, own-coins, coins-fit)
+pub ruleset owning = (needs, outs-are, own-under, own-over, own-inputs, own-coins)
 
 -- refusals 17 to 20
 pub list-below : (few : Refusal) (over : ℕ → Refusal) (p n : ℕ) (bs : List ℕ) (c : Checked) → c ≡ firstOf (listChecks few over p n bs) → c ≡ Passed → allBelow p (numbers bs) ≡ true
@@ -248,41 +236,41 @@ mail-below = list-below refusal.MailCount refusal.MailValue
 module _ (bs : List ℕ) (h : Header) (pl : Planned bs h) (i k : ℕ) (mail : List ℕ) (room : ℕ) where
   module _ (n : ℕ) (en : n ≡ mailCount (planOf bs) i k) (c : Checked) (ec : c ≡ firstOf (listChecks refusal.MailCount refusal.MailValue (h .field .p) n mail)) where
     mail-parts : firstOf (mailChecks (planOf bs) i k mail room)
-        ≡ andThen c (andThen (need refusal.BufferLength (eqb room (2 * writtenCount (planOf bs) i k))) (openingCheck (planOf bs) i k (numbers mail)))
+        ≡ andThen c (andThen (need refusal.BufferLength (eqb room (width * writtenCount (planOf bs) i k))) (openingCheck (planOf bs) i k (numbers mail)))
     unfolding mailChecks
     mail-parts =
         firstOf-append (listChecks refusal.MailCount refusal.MailValue (planOf bs .p) (mailCount (planOf bs) i k) mail)
-        (need refusal.BufferLength (eqb room (2 * writtenCount (planOf bs) i k)) ∷ openingCheck (planOf bs) i k (numbers mail) ∷ [])
+        (need refusal.BufferLength (eqb room (width * writtenCount (planOf bs) i k)) ∷ openingCheck (planOf bs) i k (numbers mail) ∷ [])
         ∙ ap₂ andThen
         (ap₂ (λ (p m : ℕ). firstOf (listChecks refusal.MailCount refusal.MailValue p m mail)) (plan-p pl) (sym en) ∙ sym ec)
-        (firstOf-cons _ _ ∙ ap (andThen (need refusal.BufferLength (eqb room (2 * writtenCount (planOf bs) i k)))) (firstOf-cons _ _ ∙ ap (andThen (openingCheck (planOf bs) i k (numbers mail))) firstOf-nil ∙ andThen-end (openingCheck (planOf bs) i k (numbers mail))))
+        (firstOf-cons _ _ ∙ ap (andThen (need refusal.BufferLength (eqb room (width * writtenCount (planOf bs) i k)))) (firstOf-cons _ _ ∙ ap (andThen (openingCheck (planOf bs) i k (numbers mail))) firstOf-nil ∙ andThen-end (openingCheck (planOf bs) i k (numbers mail))))
 
     pub mail-refused : (r : Refusal) → c ≡ Refused r → c ≡ firstOf (mailChecks (planOf bs) i k mail room)
     mail-refused r e = e ∙ sym (mail-parts ∙ andThen-refused c _ r e)
 
     module _ (e : c ≡ Passed) (w : ℕ) (ew : w ≡ writtenCount (planOf bs) i k) where
-      room-parts : firstOf (mailChecks (planOf bs) i k mail room) ≡ andThen (need refusal.BufferLength (eqb room (2 * w))) (openingCheck (planOf bs) i k (numbers mail))
+      room-parts : firstOf (mailChecks (planOf bs) i k mail room) ≡ andThen (need refusal.BufferLength (eqb room (width * w))) (openingCheck (planOf bs) i k (numbers mail))
       room-parts =
           mail-parts
           ∙ andThen-passed c _ e
-          ∙ ap (λ (v : ℕ). andThen (need refusal.BufferLength (eqb room (2 * v))) (openingCheck (planOf bs) i k (numbers mail))) (sym ew)
+          ∙ ap (λ (v : ℕ). andThen (need refusal.BufferLength (eqb room (width * v))) (openingCheck (planOf bs) i k (numbers mail))) (sym ew)
 
-      pub mail-room : (room ≡ 2 * w → ⊥) → Refused refusal.BufferLength ≡ firstOf (mailChecks (planOf bs) i k mail room)
-      mail-room q = sym (room-parts ∙ andThen-refused _ _ refusal.BufferLength (need-false refusal.BufferLength (eqb room (2 * w)) (ne-eqb room (2 * w) q)))
+      pub mail-room : (room ≡ width * w → ⊥) → Refused refusal.BufferLength ≡ firstOf (mailChecks (planOf bs) i k mail room)
+      mail-room q = sym (room-parts ∙ andThen-refused _ _ refusal.BufferLength (need-false refusal.BufferLength (eqb room (width * w)) (ne-eqb room (width * w) q)))
 
-      module _ (q : room ≡ 2 * w) (m : ℕ) (em : m ≡ multiplies (planOf bs)) where
-        last-parts : firstOf (mailChecks (planOf bs) i k mail room) ≡ cond (eqb k (m + 2)) (outsCheck (planOf bs) i (numbers mail)) Passed
+      module _ (q : room ≡ width * w) (m : ℕ) (em : m ≡ lastCall (planOf bs)) where
+        last-parts : firstOf (mailChecks (planOf bs) i k mail room) ≡ cond (eqb k m) (outsCheck (planOf bs) i (numbers mail)) Passed
         unfolding openingCheck
         last-parts =
             room-parts
-            ∙ andThen-passed _ _ (need-true refusal.BufferLength (eqb room (2 * w)) (eq-eqb room (2 * w) q))
-            ∙ ap (λ (v : ℕ). cond (eqb k (v + 2)) (outsCheck (planOf bs) i (numbers mail)) Passed) (sym em)
+            ∙ andThen-passed _ _ (need-true refusal.BufferLength (eqb room (width * w)) (eq-eqb room (width * w) q))
+            ∙ ap (λ (v : ℕ). cond (eqb k v) (outsCheck (planOf bs) i (numbers mail)) Passed) (sym em)
 
-        pub mail-early : (k ≡ m + 2 → ⊥) → Passed ≡ firstOf (mailChecks (planOf bs) i k mail room)
-        mail-early z = sym (last-parts ∙ rw (ne-eqb k (m + 2) z))
+        pub mail-early : (k ≡ m → ⊥) → Passed ≡ firstOf (mailChecks (planOf bs) i k mail room)
+        mail-early z = sym (last-parts ∙ rw (ne-eqb k m z))
 
-        pub mail-last : k ≡ m + 2 → (r : Checked) → r ≡ outsCheck (planOf bs) i (numbers mail) → r ≡ firstOf (mailChecks (planOf bs) i k mail room)
-        mail-last z r er = er ∙ sym (last-parts ∙ rw (eq-eqb k (m + 2) z))
+        pub mail-last : k ≡ m → (r : Checked) → r ≡ outsCheck (planOf bs) i (numbers mail) → r ≡ firstOf (mailChecks (planOf bs) i k mail room)
+        mail-last z r er = er ∙ sym (last-parts ∙ rw (eq-eqb k m z))
 
 pub ruleset mailing = (needs, mail-below, mail-refused, mail-room, mail-early, mail-last)
 
@@ -290,20 +278,20 @@ pub ruleset mailing = (needs, mail-below, mail-refused, mail-room, mail-early, m
 module _ (bs : List ℕ) (h : Header) (pl : Planned bs h) (i : ℕ) (inputs coins state mail : List ℕ) (room : ℕ) where
   all-parts : firstOf (partyChecks (planOf bs) i inputs coins state mail room)
       ≡ andThen (firstOf (ownChecks (planOf bs) i inputs coins))
-      (andThen (firstOf (stateChecks (planOf bs .p) (length (planOf bs .gates)) (multiplies (planOf bs)) state)) (firstOf (mailChecks (planOf bs) i (getD (numbers state) 0 0) mail room)))
+      (andThen (firstOf (stateChecks (planOf bs .p) (length (planOf bs .gates)) (lastCall (planOf bs)) state)) (firstOf (mailChecks (planOf bs) i (getD (numbers state) 0 0) mail room)))
   unfolding partyChecks ownChecks stateChecks mailChecks listChecks
   all-parts =
       firstOf-append (ownChecks (planOf bs) i inputs coins)
-      (stateChecks (planOf bs .p) (length (planOf bs .gates)) (multiplies (planOf bs)) state ++ mailChecks (planOf bs) i (getD (numbers state) 0 0) mail room)
+      (stateChecks (planOf bs .p) (length (planOf bs .gates)) (lastCall (planOf bs)) state ++ mailChecks (planOf bs) i (getD (numbers state) 0 0) mail room)
       ∙ ap (andThen (firstOf (ownChecks (planOf bs) i inputs coins)))
-      (firstOf-append (stateChecks (planOf bs .p) (length (planOf bs .gates)) (multiplies (planOf bs)) state) (mailChecks (planOf bs) i (getD (numbers state) 0 0) mail room))
+      (firstOf-append (stateChecks (planOf bs .p) (length (planOf bs .gates)) (lastCall (planOf bs)) state) (mailChecks (planOf bs) i (getD (numbers state) 0 0) mail room))
 
   module _ (a : Checked) (ea : a ≡ firstOf (ownChecks (planOf bs) i inputs coins)) where
     pub check-own : (r : Refusal) → a ≡ Refused r → a ≡ firstOf (partyChecks (planOf bs) i inputs coins state mail room)
     check-own r e = e ∙ sym (all-parts ∙ andThen-refused _ _ r (sym ea ∙ e))
 
-    module _ (pa : a ≡ Passed) (m : ℕ) (em : m ≡ multiplies (planOf bs)) (b : Checked) (eb : b ≡ firstOf (stateChecks (h .field .p) (h .gates) m state)) where
-      kept : b ≡ firstOf (stateChecks (planOf bs .p) (length (planOf bs .gates)) (multiplies (planOf bs)) state)
+    module _ (pa : a ≡ Passed) (m : ℕ) (em : m ≡ lastCall (planOf bs)) (b : Checked) (eb : b ≡ firstOf (stateChecks (h .field .p) (h .gates) m state)) where
+      kept : b ≡ firstOf (stateChecks (planOf bs .p) (length (planOf bs .gates)) (lastCall (planOf bs)) state)
       kept = eb ∙ ap₂ (λ (p g : ℕ). firstOf (stateChecks p g m state)) (sym (plan-p pl)) (sym (plan-gates pl)) ∙ ap (λ (n : ℕ). firstOf (stateChecks (planOf bs .p) (length (planOf bs .gates)) n state)) em
 
       pub check-kept : (r : Refusal) → b ≡ Refused r → b ≡ firstOf (partyChecks (planOf bs) i inputs coins state mail room)

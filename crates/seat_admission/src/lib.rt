@@ -6,7 +6,7 @@ use plan::Refusal;
 use plan_counts::Tally;
 ghost use mathlib.Core.Path.{_≡_};
 ghost use mathlib.Core.Bool.{true};
-ghost use Prim.Native.Nat.{suc, _<_, _≤_, _+_, _*_};
+ghost use Prim.Native.Nat.{_<_, _≤_, _+_, _*_};
 ghost use lib.ListN.{length};
 ghost use Rattle.numbers.specs.Tables.{tab};
 ghost use Rattle.numbers.specs.Bytes.{numbers, allBelow};
@@ -17,7 +17,7 @@ ghost use Rattle.plan.specs.File.{planOf};
 ghost use Rattle.plan.specs.Planned.{Planned};
 ghost use Rattle.plan_counts.specs.Counts.{Tallied};
 ghost use Rattle.seat_messages.specs.Calls.{outsCheck, partyChecks};
-ghost use Rattle.seat_admission.specs.Parts.{listChecks, ownChecks, stateChecks, mailChecks, outCheck, OwnOuts};
+ghost use Rattle.seat_admission.specs.Parts.{listChecks, ownChecks, stateChecks, mailChecks, outCheck};
 
 // Refusals 10 and 11.
 pub fn check_inputs(inputs: &[u8], count: usize, p: u64) -> Checked
@@ -45,17 +45,17 @@ pub fn check_coins(coins: &[u8], count: usize, p: u64) -> Checked
     Checked::Passed
 }
 
-// Refusals 14 to 16, for a plan of so many gates, of which so many are multiplies.
-fn check_state(state: &[u8], gates: usize, mults: usize, p: u64) -> Checked
+// Refusals 14 to 16, for a plan of so many gates, with this last call.
+fn check_state(state: &[u8], gates: usize, last: usize, p: u64) -> Checked
     requires { ⌜ gates ≤ 1024 ⌝ }
-    requires { ⌜ mults ≤ 1024 ⌝ }
-    ensures { λ r. ⌜ r ≡ firstOf (stateChecks p gates mults (now (state .entry))) ⌝ }
+    requires { ⌜ last ≤ 1026 ⌝ }
+    ensures { λ r. ⌜ r ≡ firstOf (stateChecks p gates last (now (state .entry))) ⌝ }
 {
     if !numbers::count_is(state, 1 + gates) {
         return Checked::Refused(Refusal::StateCount);
     }
     let k = numbers::read(state, 0);
-    let finished = mults as u64 + 3;
+    let finished = last as u64 + 1;
     if finished < k {
         return Checked::Refused(Refusal::StateValue);
     }
@@ -84,16 +84,25 @@ fn check_mail_list(mail: &[u8], count: usize, p: u64) -> Checked
 // ---- refusal 20
 
 // Refusal 20 of a party's own out j, by the opening rows: the place is the first party whose share is off.
-fn check_out(h: Header, points: &[u64], rows: &[u64], own: usize, j: usize, mail: &[u8]) -> Checked
-    requires { ⌜ OwnOuts h own ⌝ }
+fn check_out(
+    plan: &[u8],
+    h: Header,
+    points: &[u64],
+    rows: &[u64],
+    own: usize,
+    j: usize,
+    mail: &[u8],
+) -> Checked
+    requires { ⌜ Planned (now plan) h ⌝ }
+    requires { ⌜ own ≤ 64 ⌝ }
     requires { ⌜ j < own ⌝ }
-    requires { ⌜ now points ≡ tab suc (h .n) ⌝ }
+    requires { ⌜ now points ≡ planOf (now plan) .points ⌝ }
     requires { ⌜ now rows ≡ openingRows (h .field .p) (h .t) (now points) ⌝ }
     requires { ⌜ allBelow (h .field .p) (numbers (now mail)) ≡ true ⌝ }
-    ensures { λ r. ⌜ r ≡ outCheck h own (numbers (now (mail .entry))) j ⌝ }
+    ensures { λ r. ⌜ r ≡ outCheck (planOf (now (plan .entry))) own (numbers (now (mail .entry))) j ⌝ }
 {
     let n = h.n;
-    let shares = seat_results::shares_of_out(n, own, j, mail);
+    let shares = seat_results::from_each(n, own, j, mail);
     let off = sharing_openings::first_off_by(h.field, h.t, points, rows, &shares[..n]);
     if let Found::At(i) = off {
         let party = i + 1;
@@ -103,16 +112,24 @@ fn check_out(h: Header, points: &[u64], rows: &[u64], own: usize, j: usize, mail
 }
 
 // Refusal 20 of the first of a party's own outs that breaks, by the opening rows.
-fn check_each(h: Header, points: &[u64], rows: &[u64], own: usize, mail: &[u8]) -> Checked
-    requires { ⌜ OwnOuts h own ⌝ }
-    requires { ⌜ now points ≡ tab suc (h .n) ⌝ }
+fn check_each(
+    plan: &[u8],
+    h: Header,
+    points: &[u64],
+    rows: &[u64],
+    own: usize,
+    mail: &[u8],
+) -> Checked
+    requires { ⌜ Planned (now plan) h ⌝ }
+    requires { ⌜ own ≤ 64 ⌝ }
+    requires { ⌜ now points ≡ planOf (now plan) .points ⌝ }
     requires { ⌜ now rows ≡ openingRows (h .field .p) (h .t) (now points) ⌝ }
     requires { ⌜ allBelow (h .field .p) (numbers (now mail)) ≡ true ⌝ }
-    ensures { λ r. ⌜ r ≡ firstOf (tab (outCheck h own (numbers (now (mail .entry)))) own) ⌝ }
+    ensures { λ r. ⌜ r ≡ firstOf (tab (outCheck (planOf (now (plan .entry))) own (numbers (now (mail .entry)))) own) ⌝ }
 {
     let mut j: usize = 0;
     while j < own {
-        let c = check_out(h, points, rows, own, j, mail);
+        let c = check_out(plan, h, points, rows, own, j, mail);
         let Checked::Passed = c else {
             return c;
         };
@@ -122,28 +139,37 @@ fn check_each(h: Header, points: &[u64], rows: &[u64], own: usize, mail: &[u8]) 
 }
 
 // The same, with the opening rows worked in a room that is lent.
-fn check_each_in(h: Header, points: &[u64], room: &mut [u64], own: usize, mail: &[u8]) -> Checked
-    requires { ⌜ OwnOuts h own ⌝ }
-    requires { ⌜ now points ≡ tab suc (h .n) ⌝ }
+fn check_each_in(
+    plan: &[u8],
+    h: Header,
+    points: &[u64],
+    room: &mut [u64],
+    own: usize,
+    mail: &[u8],
+) -> Checked
+    requires { ⌜ Planned (now plan) h ⌝ }
+    requires { ⌜ own ≤ 64 ⌝ }
+    requires { ⌜ now points ≡ planOf (now plan) .points ⌝ }
     requires { ⌜ length (now room) ≡ 120 ⌝ }
     requires { ⌜ allBelow (h .field .p) (numbers (now mail)) ≡ true ⌝ }
-    ensures { λ r. ⌜ r ≡ firstOf (tab (outCheck h own (numbers (now (mail .entry)))) own) ⌝ }
+    ensures { λ r. ⌜ r ≡ firstOf (tab (outCheck (planOf (now (plan .entry))) own (numbers (now (mail .entry)))) own) ⌝ }
 {
     let used = (h.t + 1) * h.n;
     sharing_openings::opening_rows(h.field, h.t, points, &mut room[..used]);
-    check_each(h, points, &room[..used], own, mail)
+    check_each(plan, h, points, &room[..used], own, mail)
 }
 
-// The same from the plan's header alone.
-fn check_each_of(h: Header, own: usize, mail: &[u8]) -> Checked
-    requires { ⌜ OwnOuts h own ⌝ }
+// The same from the plan alone.
+fn check_each_of(plan: &[u8], h: Header, own: usize, mail: &[u8]) -> Checked
+    requires { ⌜ Planned (now plan) h ⌝ }
+    requires { ⌜ own ≤ 64 ⌝ }
     requires { ⌜ allBelow (h .field .p) (numbers (now mail)) ≡ true ⌝ }
-    ensures { λ r. ⌜ r ≡ firstOf (tab (outCheck h own (numbers (now (mail .entry)))) own) ⌝ }
+    ensures { λ r. ⌜ r ≡ firstOf (tab (outCheck (planOf (now (plan .entry))) own (numbers (now (mail .entry)))) own) ⌝ }
 {
     let n = h.n;
-    let points = seat_messages::points();
+    let points = seat_messages::points_of(plan, h);
     let mut room: [u64; 120] = [0; 120];
-    check_each_in(h, &points[..n], &mut room, own, mail)
+    check_each_in(plan, h, &points[..n], &mut room, own, mail)
 }
 
 // Refusal 20 of the last call, which has passed refusal 18.
@@ -153,7 +179,7 @@ fn check_outs(plan: &[u8], h: Header, i: usize, mail: &[u8]) -> Checked
     ensures { λ r. ⌜ r ≡ outsCheck (planOf (now (plan .entry))) i (numbers (now (mail .entry))) ⌝ }
 {
     let own = plan_sizes::own_out_count(plan, h, i);
-    check_each_of(h, own, mail)
+    check_each_of(plan, h, own, mail)
 }
 
 // ---- the checks in their order
@@ -170,12 +196,12 @@ fn check_own(plan: &[u8], h: Header, tally: Tally, i: usize, inputs: &[u8], coin
     if h.n < i {
         return Checked::Refused(Refusal::Coalition);
     }
-    let c = check_inputs(inputs, tally.own, h.field.p);
+    let own = plan_counts::own_inputs_by(plan, h, i, tally);
+    let c = check_inputs(inputs, own, h.field.p);
     let Checked::Passed = c else {
         return c;
     };
-    let count = h.t * tally.dealings;
-    check_coins(coins, count, h.field.p)
+    check_coins(coins, tally.coins, h.field.p)
 }
 
 // Refusals 17 to 20 of call number k.
@@ -199,7 +225,7 @@ fn check_mail(
     if room != 2 * plan_sizes::written_by(plan, h, i, tally, k) {
         return Checked::Refused(Refusal::BufferLength);
     }
-    if k != tally.multiplies + 2 {
+    if k != plan_counts::last_call_by(plan, h, i, tally) {
         return Checked::Passed;
     }
     check_outs(plan, h, i, mail)
@@ -225,7 +251,8 @@ pub fn check(
     let Checked::Passed = own else {
         return own;
     };
-    let kept = check_state(state, h.gates, tally.multiplies, h.field.p);
+    let last = plan_counts::last_call_by(plan, h, i, tally);
+    let kept = check_state(state, h.gates, last, h.field.p);
     let Checked::Passed = kept else {
         return kept;
     };

@@ -4,10 +4,10 @@ use plan::Header;
 use plan::Reading;
 ghost use mathlib.Core.Path.{_≡_};
 ghost use mathlib.Core.Bool.{true};
-ghost use mathlib.Core.List.{_∷_};
+ghost use mathlib.Core.List.{[], _∷_};
 ghost use lib.ListN.{length, drop};
 ghost use Rattle.numbers.specs.Bytes.{numbers, bytesOf, allBelow};
-ghost use Rattle.plan.specs.Plans.{multiplies};
+ghost use Rattle.plan.specs.Plans.{lastCall};
 ghost use Rattle.plan.specs.File.{planOf};
 ghost use Rattle.plan.specs.Planned.{Planned};
 ghost use Rattle.seat_messages.specs.Calls.{callAnswer, stateAfter, outAfter, written};
@@ -23,22 +23,25 @@ fn advance(state: &mut [u8], k: u64)
 }
 
 // What call number k learns from its mail and works, on the shares of a state.
-fn learn(plan: &[u8], h: Header, m: usize, k: usize, mail: &[u8], state: &mut [u8])
+fn learn(plan: &[u8], h: Header, k: usize, mail: &[u8], state: &mut [u8])
     requires { ⌜ Planned (now plan) h ⌝ }
-    requires { ⌜ m ≡ multiplies (planOf (now plan)) ⌝ }
     requires { ⌜ Whole (now state) ⌝ }
     requires { ⌜ allBelow (planOf (now plan) .p) (numbers (now mail)) ≡ true ⌝ }
     requires { ⌜ allBelow (planOf (now plan) .p) (drop 1 (numbers (now state))) ≡ true ⌝ }
     ensures { λ _. ⌜ Learnt (planOf (now (plan .entry))) k (numbers (now (mail .entry))) (now (state .entry)) (now (state .exit)) ⌝ }
 {
-    seat_learning::learn(plan, h, m, k, mail, &mut state[2..]);
+    if k == 0 {
+        return;
+    }
+    let step = plan_counts::step_at(plan, h, k - 1);
+    seat_learning::learn(plan, h, step, mail, &mut state[2..]);
 }
 
 // What call number k writes, from the shares of a state.
 fn send(
     plan: &[u8],
     h: Header,
-    m: usize,
+    last: usize,
     i: usize,
     k: usize,
     inputs: &[u8],
@@ -48,19 +51,19 @@ fn send(
     out: &mut [u8],
 )
     requires { ⌜ Planned (now plan) h ⌝ }
-    requires { ⌜ m ≡ multiplies (planOf (now plan)) ⌝ }
+    requires { ⌜ last ≡ lastCall (planOf (now plan)) ⌝ }
     requires { ⌜ Whole (now state) ⌝ }
     requires { ⌜ Sendable (planOf (now plan)) i k (now inputs) (now coins) (drop 1 (numbers (now state))) (now mail) (now out) ⌝ }
-    ensures { λ _. ⌜ now (out .exit) ≡ bytesOf (written (planOf (now (plan .entry))) k (callWith (planOf (now (plan .entry))) i k (numbers (now (inputs .entry))) (numbers (now (coins .entry))) (drop 1 (numbers (now (state .entry)))) (numbers (now (mail .entry))))) ⌝ }
+    ensures { λ _. ⌜ now (out .exit) ≡ bytesOf (written (planOf (now (plan .entry))) k (callWith (planOf (now (plan .entry))) i k (numbers (now (inputs .entry))) (numbers (now (coins .entry))) [] (drop 1 (numbers (now (state .entry)))) (numbers (now (mail .entry))))) ⌝ }
 {
-    seat_sending::send(plan, h, m, i, k, inputs, coins, &state[2..], mail, out);
+    seat_sending::send(plan, h, last, i, k, inputs, coins, &state[2..], mail, out);
 }
 
 // A call that no refusal falls on: it learns from its mail, writes its outgoing mail or its results, and numbers the next call.
 fn work(
     plan: &[u8],
     h: Header,
-    m: usize,
+    last: usize,
     i: usize,
     inputs: &[u8],
     coins: &[u8],
@@ -69,14 +72,25 @@ fn work(
     out: &mut [u8],
 )
     requires { ⌜ Planned (now plan) h ⌝ }
-    requires { ⌜ m ≡ multiplies (planOf (now plan)) ⌝ }
+    requires { ⌜ last ≡ lastCall (planOf (now plan)) ⌝ }
     requires { ⌜ Admitted (planOf (now plan)) i (now inputs) (now coins) (now state) (now mail) (length (now out)) ⌝ }
     ensures state { λ _. ⌜ now (state .exit) ≡ stateLeft (planOf (now (plan .entry))) i (now (inputs .entry)) (now (coins .entry)) (now (state .entry)) (now (mail .entry)) ⌝ }
     ensures out { λ _. ⌜ now (out .exit) ≡ outLeft (planOf (now (plan .entry))) i (now (inputs .entry)) (now (coins .entry)) (now (state .entry)) (now (mail .entry)) ⌝ }
 {
     let k = numbers::read(state, 0);
-    learn(plan, h, m, k as usize, mail, state);
-    send(plan, h, m, i, k as usize, inputs, coins, state, mail, out);
+    learn(plan, h, k as usize, mail, state);
+    send(
+        plan,
+        h,
+        last,
+        i,
+        k as usize,
+        inputs,
+        coins,
+        state,
+        mail,
+        out,
+    );
     advance(state, k + 1);
 }
 
@@ -104,16 +118,7 @@ pub fn call(
     let Checked::Passed = c else {
         return c;
     };
-    work(
-        plan,
-        h,
-        tally.multiplies,
-        i,
-        inputs,
-        coins,
-        state,
-        mail,
-        out,
-    );
+    let last = plan_counts::last_call_by(plan, h, i, tally);
+    work(plan, h, last, i, inputs, coins, state, mail, out);
     Checked::Passed
 }

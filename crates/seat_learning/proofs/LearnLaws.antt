@@ -1,28 +1,31 @@
 -- What each way through the code of a call's learning says of its definition, with a ruleset for the needs of each function.
 --     working                        a gate worked on the shares
---     Worked, going-on               the gates up to the next multiply
+--     Worked, going-on               the gates up to the next that takes rounds
 --     learning-one                   a wire of a party's inputs
 --     Learning, learning-own         all wires of a party's inputs
 --     Gathered, gathering            the wires of all parties' inputs
 --     reading, reducing              the share of a product
---     learning                       a call
+--     learning-mail, resuming        a step's mail, and where the work goes on
+--     learning                       a step
 -- Assumes nothing.
-use mathlib.Core.Path.{_≡_, refl, sym, ap, _∙_}
+use mathlib.Core.Path.{_≡_, refl, sym, ap, subst, _∙_}
 use mathlib.Core.Bool.{Bool, true, false, cond}
 use mathlib.Core.List.{List, [], _∷_, _++_, flatMap}
-use Prim.Native.Nat.{ℕ, zero, suc, _+_, _-_, _*_, _<_, _≤_}
+use Prim.Native.Nat.{ℕ, zero, suc, _+_, _*_, _<_, _≤_}
 use native.Mathlib.Nat.{mod-eq-of-lt}
 use native.Mathlib.Numerals.{add-one}
 use native.Mathlib.Omega.{arith}
 use borrow.Author.Needs.{needs}
-use borrow.Author.Tests.{lt-ltb, le-ltb}
+use lib.Dec.{leb}
+use mir.Syntax.{w64}
+use mir.Val.{Fits}
 use lib.ListN.{length, getD, take, drop, set, drop-of-length-le}
 use lib.Seq.{length-take-le, take-take, drop-cons, drop-drop, getD-drop, set-getD}
 use Rattle.numbers.specs.Tables.{tab, countWhere}
 use Rattle.numbers.specs.Bytes.{numbers, stored, allBelow}
 use Rattle.numbers.proofs.Tables.{length-tab, getD-tab, take-tab}
 use Rattle.numbers.proofs.Bytes.{numbers-stored}
-use Rattle.numbers.proofs.Below.{allBelow-set, allBelow-tab}
+use Rattle.numbers.proofs.Below.{allBelow-set, allBelow-tab, allBelow-take}
 use Rattle.numbers.proofs.Fills.{Filled, filling, filled}
 use Rattle.field.specs.Mod.{add, mul}
 use Rattle.field.specs.Field.{Is, Ready}
@@ -31,18 +34,22 @@ use Rattle.sharing_laws.specs.Sharing.{opened}
 use Rattle.sharing_openings.specs.Openable.{Openable}
 use Rattle.sharing_laws.proofs.Interpolation.{length-weights}
 use Rattle.sharing.proofs.Coding.{entry-below}
-use Rattle.seat_messages.proofs.PointLaws.{first-points, points-below}
+use Rattle.seat_messages.proofs.PointLaws.{plan-points-below, points-within, points-part, points-count}
 use Rattle.plan.specs.declared.Gate.{Gate}
-use Rattle.plan.specs.declared.Gate.the-variants.{Input, Add, Scale, Offset, Multiply}
+use Rattle.plan.specs.declared.Gate.the-variants.{Input, Add, Scale, Offset, Multiply, Random, Spend}
+use Rattle.plan.specs.declared.Step.{Step}
+use Rattle.plan.specs.declared.Step.the-variants.{DealInputs, DealProduct, DealZero, DealMasked, SendTruncated, DealDraws, OpenSpent, SendOuts}
 use Rattle.plan.specs.declared.Header.{Header}
-use Rattle.plan.specs.Plans.{Plan, parties, dealerCount, dealerPoints, isInputOf, isMultiply, multiplies, multiplyWire, wiresFrom, wiresWhere, inputWires, ownInputCount}
+use Rattle.plan.specs.Plans.{Plan, parties, dealerPoints, kindOf, isInputOf, wiresFrom, inputWires}
 use Rattle.plan.specs.File.{gateAt, planOf}
 use Rattle.plan.specs.Planned.{Planned}
 use Rattle.plan.proofs.Wires.{length-inputWires}
-use Rattle.plan.proofs.Planned.{plan-p, plan-t, plan-n, plan-points, plan-gates, plan-gate}
+use Rattle.plan.proofs.Planned.{plan-p, plan-n, plan-dealers, plan-gates, plan-gate}
 use Rattle.plan.proofs.Valid.{planned-ready, gate-kept, scale-constant, offset-constant}
-use Rattle.seat_learning.specs.Lent.{Holds, Dealers}
-use Rattle.seat_messages.specs.Messages.{workGate, workFrom, setAll, wiresByParty, reduced, learn}
+use Rattle.plan_counts.specs.Counts.{Stepped}
+use Rattle.plan_counts.proofs.Steps.{stepped-product}
+use Rattle.seat_learning.specs.Lent.{Holds, reducedFrom}
+use Rattle.seat_messages.specs.Messages.{workGate, workFrom, setAll, wiresByParty, learnt, resumeAt, learnFrom}
 
 -- ---- a plan that passes
 module _ (bs : List ℕ) (h : Header) (k : Planned bs h) where
@@ -87,6 +94,14 @@ module _ (p g : ℕ) (gate : Gate) (xs : List ℕ) (r : ℕ) where
   unfolding workGate
   work-multiply a b e h = rw (e, h, set-getD xs g 0)
 
+  pub work-random : gate ≡ Random → r ≡ getD xs g 0 → set xs g r ≡ workGate p g gate xs
+  unfolding workGate
+  work-random e h = rw (e, h, set-getD xs g 0)
+
+  pub work-spend : (a b : ℕ) → gate ≡ Spend a b → r ≡ getD xs g 0 → set xs g r ≡ workGate p g gate xs
+  unfolding workGate
+  work-spend a b e h = rw (e, h, set-getD xs g 0)
+
   pub work-add : (a b x y : ℕ) → gate ≡ Add a b → x ≡ getD xs a 0 → y ≡ getD xs b 0 → r ≡ add p x y → set xs g r ≡ workGate p g gate xs
   unfolding workGate
   work-add a b x y e f h q = rw (e, q, f, h)
@@ -99,9 +114,9 @@ module _ (p g : ℕ) (gate : Gate) (xs : List ℕ) (r : ℕ) where
   unfolding workGate
   work-offset a c x e f q = rw (e, q, f)
 
-pub ruleset working = (needs, read-below, scale-constant, offset-constant, work-input, work-multiply, work-add, work-scale, work-offset, written-holds)
+pub ruleset working = (needs, read-below, scale-constant, offset-constant, work-input, work-multiply, work-random, work-spend, work-add, work-scale, work-offset, written-holds)
 
--- ---- the gates up to the next multiply
+-- ---- the gates up to the next that takes rounds
 -- the invariant at gate g: the shares are s, and were s₀; what is left to work gives what there is to work
 pub record Worked (bs : List ℕ) (p from : ℕ) (s₀ s : List ℕ) (g : ℕ) : Type 0 where
   pub rest : workFrom p g (drop g (planOf bs .gates)) (numbers s) ≡ workFrom p from (drop from (planOf bs .gates)) (numbers s₀)
@@ -117,7 +132,7 @@ module _ (bs : List ℕ) (h : Header) (from : ℕ) (s₀ : List ℕ) where
     unfolding workFrom
     work-end l = record { eq = rw (gates-past bs h pl g l) at (w .rest); below = w .below }
 
-    module _ (gate : Gate) (t : Bool) (l : g < h .gates) (e : gate ≡ gateAt bs g) (m : t ≡ isMultiply gate) where
+    module _ (gate : Gate) (t : Bool) (l : g < h .gates) (e : gate ≡ gateAt bs g) (m : t ≡ leb 5 (kindOf gate)) where
       pub work-stop : t ≡ true → Holds (h .field .p) (workFrom (h .field .p) from (drop from (planOf bs .gates)) (numbers s₀)) s
       unfolding workFrom
       work-stop y = record { eq = rw (gates-from bs h pl g l, ← e, ← m, y) at (w .rest); below = w .below }
@@ -164,7 +179,7 @@ count-step false at n = omega arith
 -- the invariant at gate g, when number `at` of the mail is the next
 pub record Learning (bs mail : List ℕ) (p i from : ℕ) (s₀ s : List ℕ) (at g : ℕ) : Type 0 where
   pub rest : setAll (numbers s) (wiresFrom (isInputOf i) g (drop g (planOf bs .gates))) (drop at (numbers mail)) ≡ setAll (numbers s₀) (inputWires (planOf bs) i) (drop from (numbers mail))
-  pub next : at + countWhere (isInputOf i) (drop g (planOf bs .gates)) ≡ from + ownInputCount (planOf bs) i
+  pub next : at + countWhere (isInputOf i) (drop g (planOf bs .gates)) ≡ from + length (inputWires (planOf bs) i)
   pub few : at ≤ from + g
   pub within : g ≤ 1024
   pub below : allBelow p (numbers s) ≡ true
@@ -172,8 +187,8 @@ pub record Learning (bs mail : List ℕ) (p i from : ℕ) (s₀ s : List ℕ) (a
 
 module _ (bs mail : List ℕ) (h : Header) (i from : ℕ) (s₀ : List ℕ) where
   pub learn-none : allBelow (h .field .p) (numbers s₀) ≡ true → Learning bs mail (h .field .p) i from s₀ s₀ from 0
-  unfolding inputWires wiresWhere ownInputCount
-  learn-none b = record { rest = refl; next = refl; few = omega arith; within = omega arith; below = b; long = refl }
+  unfolding inputWires
+  learn-none b = record { rest = refl; next = ap (λ (n : ℕ). from + n) (sym (length-inputWires (planOf bs) i)); few = omega arith; within = omega arith; below = b; long = refl }
 
   module _ (s : List ℕ) (at g : ℕ) (w : Learning bs mail (h .field .p) i from s₀ s at g) (pl : Planned bs h) where
     pub learn-next : (gate : Gate) (d : List ℕ) (r : ℕ) → g < h .gates → gate ≡ gateAt bs g
@@ -196,7 +211,7 @@ module _ (bs mail : List ℕ) (h : Header) (i from : ℕ) (s₀ : List ℕ) wher
     unfolding wiresFrom setAll
     learn-end l = record { eq = rw (gates-past bs h pl g l) at (w .rest); below = w .below }
 
-    pub learn-count : h .gates ≤ g → at ≡ from + ownInputCount (planOf bs) i
+    pub learn-count : h .gates ≤ g → at ≡ from + length (inputWires (planOf bs) i)
     unfolding countWhere
     learn-count l = omega (arith, rw (gates-past bs h pl g l) at (w .next))
 
@@ -226,15 +241,15 @@ module _ (bs mail : List ℕ) (h : Header) (s₀ : List ℕ) where
   gather-none b = record { rest = refl; few = omega arith; within = omega arith; below = b; long = refl }
 
   module _ (s : List ℕ) (at i : ℕ) (w : Gathered bs mail (h .field .p) s₀ s at i) (pl : Planned bs h) where
-    joined : (l : i < h .n) → setAll (setAll (numbers s) (inputWires (planOf bs) (i + 1)) (drop at (numbers mail))) (flatMap (inputWires (planOf bs)) (drop (i + 1) (parties (planOf bs)))) (drop (at + ownInputCount (planOf bs) (i + 1)) (numbers mail))
+    joined : (l : i < h .n) → setAll (setAll (numbers s) (inputWires (planOf bs) (i + 1)) (drop at (numbers mail))) (flatMap (inputWires (planOf bs)) (drop (i + 1) (parties (planOf bs)))) (drop (at + length (inputWires (planOf bs) (i + 1))) (numbers mail))
         ≡ setAll (numbers s₀) (wiresByParty (planOf bs)) (numbers mail)
     unfolding flatMap
     joined l =
-        rw (← length-inputWires (planOf bs) (i + 1), ← drop-drop (length (inputWires (planOf bs) (i + 1))) at (numbers mail), ← setAll-append (numbers s) (inputWires (planOf bs) (i + 1)) (flatMap (inputWires (planOf bs)) (drop (i + 1) (parties (planOf bs)))) (drop at (numbers mail)))
+        rw (← drop-drop (length (inputWires (planOf bs) (i + 1))) at (numbers mail), ← setAll-append (numbers s) (inputWires (planOf bs) (i + 1)) (flatMap (inputWires (planOf bs)) (drop (i + 1) (parties (planOf bs)))) (drop at (numbers mail)))
         (rw (parties-from bs h pl i l) at (w .rest))
 
     pub gather-next : (d : List ℕ) (r : ℕ) → i < h .n → Holds (h .field .p) (setAll (numbers s) (inputWires (planOf bs) (i + 1)) (drop at (numbers mail))) d
-        → r ≡ at + ownInputCount (planOf bs) (i + 1) → r ≤ at + 1024 → length d ≡ length s → Gathered bs mail (h .field .p) s₀ d r (i + 1)
+        → r ≡ at + length (inputWires (planOf bs) (i + 1)) → r ≤ at + 1024 → length d ≡ length s → Gathered bs mail (h .field .p) s₀ d r (i + 1)
     gather-next d r l k n m j = record {
       rest = rw (k .eq, n) (joined l);
       few = omega (arith, w .few);
@@ -276,110 +291,157 @@ dot-read p l (w ∷ ws) vs zero h = absurd (omega arith)
 dot-read p l (w ∷ ws) [] (suc m) h = rw (dot-read p l ws [] m (omega arith), dot-nil p ws) (add-zeros p w l)
 dot-read p l (w ∷ ws) (v ∷ vs) (suc m) h = rw (dot-read p l ws vs m (omega arith))
 
-first-long : (f : ℕ → ℕ) (xs : List ℕ) (m : ℕ) → xs ≡ tab f 15 → m ≤ 15 → length (take m xs) ≡ m
-first-long f xs m e l = length-take-le m xs (rw (e, length-tab) l)
-
-module _ (h : Header) (d : Dealers h) where
+module _ (bs : List ℕ) (h : Header) (k : Planned bs h) where
   dealers-few : h .t + h .t + 1 ≤ h .n
-  dealers-few = omega (arith, d .majority)
+  dealers-few = omega (arith, k .majority)
 
   dealers-fifteen : h .t + h .t + 1 ≤ 15
-  dealers-fifteen = omega (arith, dealers-few, d .few)
+  dealers-fifteen = omega (arith, dealers-few, k .n-high)
+
+  pub dealers-within : (xs : List ℕ) → take (h .n) xs ≡ planOf bs .points → h .t + h .t + 1 ≤ length xs
+  dealers-within xs e = points-within bs h k xs e (h .t + h .t + 1) dealers-few
+
+  pub dealers-count : (xs : List ℕ) → take (h .n) xs ≡ planOf bs .points → length (take (h .t + h .t + 1) xs) ≡ h .t + h .t + 1
+  dealers-count xs e = points-count bs h k xs e (h .t + h .t + 1) dealers-few
 
   pub dealers-long : (f : ℕ → ℕ) (xs : List ℕ) → xs ≡ tab f 15 → length (take (h .t + h .t + 1) xs) ≡ h .t + h .t + 1
-  dealers-long f xs e = first-long f xs (h .t + h .t + 1) e dealers-fifteen
+  dealers-long f xs e = length-take-le (h .t + h .t + 1) xs (rw (e, length-tab) dealers-fifteen)
 
-  module _ (points pieces mail : List ℕ) (e : points ≡ tab suc 15) (q : pieces ≡ tab (λ j. getD (numbers mail) j 0) 15) where
+  module _ (points pieces mail : List ℕ) (e : take (h .n) points ≡ planOf bs .points) (q : pieces ≡ tab (λ j. getD (numbers mail) j 0) 15) where
     taken : take (h .t + h .t + 1) pieces ≡ tab (λ j. getD (numbers mail) j 0) (h .t + h .t + 1)
     taken = rw (q, take-tab (λ j. getD (numbers mail) j 0) 15 (h .t + h .t + 1) dealers-fifteen)
 
-    dealt : take (h .t + h .t + 1) points ≡ tab suc (h .t + h .t + 1)
-    dealt = first-points points (h .t + h .t + 1) e dealers-fifteen
+    dealt : take (h .t + h .t + 1) points ≡ dealerPoints (planOf bs)
+    unfolding dealerPoints
+    dealt = points-part bs h k points e (h .t + h .t + 1) dealers-few ∙ ap (λ (m : ℕ). take m (planOf bs .points)) (sym (plan-dealers k))
 
     pub pieces-openable : allBelow (h .field .p) (numbers mail) ≡ true → Openable (h .field .p) (h .t + h .t) (take (h .t + h .t + 1) points) (take (h .t + h .t + 1) pieces)
     pieces-openable b = record {
-      ready = d .ready;
-      elements = rw dealt (points-below (h .field .p) (h .t + h .t + 1) (omega (arith, dealers-few, d .elements)));
-      known = rw taken (allBelow-tab (h .field .p) (λ j. getD (numbers mail) j 0) (h .t + h .t + 1) (λ j l. entry-below (h .field .p) (numbers mail) j (d .ready) b));
-      threshold = omega (arith, dealers-long suc points e);
-      few = omega (arith, dealers-long suc points e, dealers-fifteen);
-      each = dealers-long (λ j. getD (numbers mail) j 0) pieces q ∙ sym (dealers-long suc points e);
+      ready = planned-ready bs h k;
+      elements = rw (points-part bs h k points e (h .t + h .t + 1) dealers-few) (allBelow-take (h .field .p) (h .t + h .t + 1) (planOf bs .points) (plan-points-below bs h k));
+      known = rw taken (allBelow-tab (h .field .p) (λ j. getD (numbers mail) j 0) (h .t + h .t + 1) (λ j l. entry-below (h .field .p) (numbers mail) j (planned-ready bs h k) b));
+      threshold = omega (arith, dealers-count points e);
+      few = omega (arith, dealers-count points e, dealers-fifteen);
+      each = dealers-long (λ j. getD (numbers mail) j 0) pieces q ∙ sym (dealers-count points e);
     }
 
-    same-opening : opened (h .field .p) (h .t + h .t) (take (h .t + h .t + 1) points) (take (h .t + h .t + 1) pieces) ≡ opened (h .field .p) (h .t + h .t) (tab suc (h .n)) (numbers mail)
-    unfolding opened interpolate
+    same-opening : opened (h .field .p) (h .t + h .t) (take (h .t + h .t + 1) points) (take (h .t + h .t + 1) pieces) ≡ reducedFrom (planOf bs) (numbers mail)
+    unfolding opened interpolate reducedFrom
     same-opening =
-        let w : take (h .t + h .t + 1) (take (h .t + h .t + 1) points) ≡ tab suc (h .t + h .t + 1) = take-take (h .t + h .t + 1) (h .t + h .t + 1) points (omega arith) ∙ dealt in
-        let v : take (h .t + h .t + 1) (tab suc (h .n)) ≡ tab suc (h .t + h .t + 1) = take-tab suc (h .n) (h .t + h .t + 1) dealers-few in
-        let n : length (weights (h .field .p) 0 (tab suc (h .t + h .t + 1))) ≤ h .t + h .t + 1 = rw (length-weights, length-tab) (omega arith) in
-        rw (w, v, taken) (dot-read (h .field .p) (omega (arith, d .elements)) (weights (h .field .p) 0 (tab suc (h .t + h .t + 1))) (numbers mail) (h .t + h .t + 1) n)
+        let w : take (h .t + h .t + 1) (take (h .t + h .t + 1) points) ≡ dealerPoints (planOf bs) = take-take (h .t + h .t + 1) (h .t + h .t + 1) points (omega arith) ∙ dealt in
+        let n : length (weights (h .field .p) 0 (dealerPoints (planOf bs))) ≤ h .t + h .t + 1 = omega (arith, length-weights (h .field .p) 0 (dealerPoints (planOf bs)), ap length dealt, dealers-count points e) in
+        rw (w, taken)
+        (dot-read (h .field .p) (omega (arith, k .p-low)) (weights (h .field .p) 0 (dealerPoints (planOf bs))) (numbers mail) (h .t + h .t + 1) n
+        ∙ sym (ap (λ (q : ℕ). dot q (weights q 0 (dealerPoints (planOf bs))) (numbers mail)) (plan-p k)))
 
-    pub reduced-is : (r : ℕ) → Is (h .field .p) (opened (h .field .p) (h .t + h .t) (take (h .t + h .t + 1) points) (take (h .t + h .t + 1) pieces)) r → Is (h .field .p) (opened (h .field .p) (h .t + h .t) (tab suc (h .n)) (numbers mail)) r
+    pub reduced-is : (r : ℕ) → Is (h .field .p) (opened (h .field .p) (h .t + h .t) (take (h .t + h .t + 1) points) (take (h .t + h .t + 1) pieces)) r → Is (h .field .p) (reducedFrom (planOf bs) (numbers mail)) r
     reduced-is r i = record { eq = i .eq ∙ same-opening; lt = i .lt }
 
-pub ruleset reducing = (needs, dealers-long, pieces-openable, reduced-is)
+  pub product-set : (g v : ℕ) (mail s d : List ℕ) → Is (h .field .p) (reducedFrom (planOf bs) (numbers mail)) v → allBelow (h .field .p) (numbers s) ≡ true → d ≡ stored s g v
+      → Holds (h .field .p) (set (numbers s) g (reducedFrom (planOf bs) (numbers mail))) d
+  product-set g v mail s d i b q =
+      written-holds (h .field .p) s d (set (numbers s) g (reducedFrom (planOf bs) (numbers mail))) g v (k .p-high) b (i .lt) q (rw (i .eq))
 
--- ---- a call
-learn-product : (plan : Plan) (shares mail : List ℕ) (j : ℕ) → j < multiplies plan
-    → learn plan (suc (suc j)) shares mail ≡ workFrom (plan .p) (multiplyWire plan j + 1) (drop (multiplyWire plan j + 1) (plan .gates)) (set shares (multiplyWire plan j) (reduced plan mail))
-unfolding learn
-learn-product plan shares mail j l = rw (lt-ltb j (multiplies plan) l, add-one)
+pub ruleset reducing = (needs, dealers-within, dealers-long, dealers-count, pieces-openable, reduced-is, product-set)
 
-learn-no-more : (plan : Plan) (shares mail : List ℕ) (j : ℕ) → multiplies plan ≤ j → learn plan (suc (suc j)) shares mail ≡ shares
-unfolding learn
-learn-no-more plan shares mail j l = rw (le-ltb j (multiplies plan) l)
+-- ---- a step's mail
+closed : {A : Type 0} (plan : Plan) (s r : Step) → Stepped plan s → s ≡ r → (Stepped plan r → ⊥) → A
+closed plan s r i e none = absurd (none (subst (Stepped plan) e i))
 
-module _ (bs : List ℕ) (h : Header) (k : Planned bs h) where
-  pub planned-dealers : Dealers h
-  planned-dealers = record { ready = planned-ready bs h k; majority = k .majority; few = k .n-high; elements = k .p-low }
+module _ (plan : Plan) (p : ℕ) (step : Step) (xs mail d : List ℕ) where
+  pub learnt-inputs : step ≡ DealInputs → Holds p (setAll xs (wiresByParty plan) mail) d → Holds p (learnt plan step [] xs mail) d
+  unfolding learnt
+  learnt-inputs e k = rw e k
 
-  reduced-opened : (vs : List ℕ) → opened (h .field .p) (h .t + h .t) (tab suc (h .n)) vs ≡ reduced (planOf bs) vs
-  unfolding reduced dealerPoints dealerCount opened interpolate
-  reduced-opened vs = rw (plan-p k, plan-t k, plan-points k)
+  pub learnt-product : (g a b : ℕ) → step ≡ DealProduct g a b → Holds p (set xs g (reducedFrom plan mail)) d → Holds p (learnt plan step [] xs mail) d
+  unfolding learnt reducedFrom
+  learnt-product g a b e k = rw e k
 
-  -- product j
-  pub product-set : (j w v : ℕ) (mail s d : List ℕ) → w ≡ multiplyWire (planOf bs) j → Is (h .field .p) (opened (h .field .p) (h .t + h .t) (tab suc (h .n)) (numbers mail)) v
-      → allBelow (h .field .p) (numbers s) ≡ true → d ≡ stored s w v → Holds (h .field .p) (set (numbers s) (multiplyWire (planOf bs) j) (reduced (planOf bs) (numbers mail))) d
-  product-set j w v mail s d e i b q =
-      written-holds (h .field .p) s d (set (numbers s) (multiplyWire (planOf bs) j) (reduced (planOf bs) (numbers mail))) w v (k .p-high) b (i .lt) q (rw (← e, i .eq, reduced-opened (numbers mail)))
+module _ (plan : Plan) (p : ℕ) (step : Step) (i : Stepped plan step) (mail s : List ℕ) (b : allBelow p (numbers s) ≡ true) where
+  pub learnt-zero : (g : ℕ) → step ≡ DealZero g → Holds p (learnt plan step [] (numbers s) mail) s
+  unfolding Stepped
+  learnt-zero g e = closed plan step (DealZero g) i e (λ w. w)
 
-  pub product-worked : (w w′ : ℕ) (xs d e : List ℕ) → w′ ≡ w → Holds (h .field .p) xs d → Holds (h .field .p) (workFrom (h .field .p) (w′ + 1) (drop (w′ + 1) (planOf bs .gates)) (numbers d)) e
-      → Holds (h .field .p) (workFrom (h .field .p) (w + 1) (drop (w + 1) (planOf bs .gates)) xs) e
-  product-worked w w′ xs d e q m n = record { eq = rw (n .eq, m .eq, q); below = n .below }
+  pub learnt-masked : (g a c : ℕ) → step ≡ DealMasked g a c → Holds p (learnt plan step [] (numbers s) mail) s
+  unfolding Stepped
+  learnt-masked g a c e = closed plan step (DealMasked g a c) i e (λ w. w)
 
-  pub inputs-worked : (mail s d e : List ℕ) → Holds (h .field .p) (setAll (numbers s) (wiresByParty (planOf bs)) (numbers mail)) d
-      → Holds (h .field .p) (workFrom (h .field .p) 0 (drop 0 (planOf bs .gates)) (numbers d)) e → Holds (h .field .p) (learn (planOf bs) 1 (numbers s) (numbers mail)) e
-  unfolding learn
-  inputs-worked mail s d e m n = record { eq = rw (n .eq, m .eq, plan-p k); below = n .below }
+  pub learnt-truncated : (g : ℕ) → step ≡ SendTruncated g → Holds p (learnt plan step [] (numbers s) mail) s
+  unfolding Stepped
+  learnt-truncated g e = closed plan step (SendTruncated g) i e (λ w. w)
 
-  module _ (c : ℕ) (mail s : List ℕ) where
-    pub learnt-nothing : c ≡ 0 → allBelow (h .field .p) (numbers s) ≡ true → Holds (h .field .p) (learn (planOf bs) c (numbers s) (numbers mail)) s
-    unfolding learn
-    learnt-nothing z b = record { eq = rw z; below = b }
+  pub learnt-draws : (g : ℕ) → step ≡ DealDraws g → Holds p (learnt plan step [] (numbers s) mail) s
+  unfolding Stepped
+  learnt-draws g e = closed plan step (DealDraws g) i e (λ w. w)
 
-    pub learnt-inputs : (d : List ℕ) → c ≡ 1 → Holds (h .field .p) (learn (planOf bs) 1 (numbers s) (numbers mail)) d → Holds (h .field .p) (learn (planOf bs) c (numbers s) (numbers mail)) d
-    learnt-inputs d e m = rw e m
+  pub learnt-spent : (g a c : ℕ) → step ≡ OpenSpent g a c → Holds p (learnt plan step [] (numbers s) mail) s
+  unfolding Stepped
+  learnt-spent g a c e = closed plan step (OpenSpent g a c) i e (λ w. w)
 
-    module _ (lo : c ≡ 0 → ⊥) (hi : c ≡ 1 → ⊥) (n : ℕ) (q : n ≡ multiplies (planOf bs)) where
-      after : c ≡ suc (suc (c - 2))
-      after = omega (arith, lo, hi)
+  pub learnt-outs : step ≡ SendOuts → Holds p (learnt plan step [] (numbers s) mail) s
+  unfolding learnt
+  learnt-outs e = record { eq = rw e; below = b }
 
-      pub learnt-product : (d : List ℕ) → c - 2 < n
-          → Holds (h .field .p) (workFrom (h .field .p) (multiplyWire (planOf bs) (c - 2) + 1) (drop (multiplyWire (planOf bs) (c - 2) + 1) (planOf bs .gates)) (set (numbers s) (multiplyWire (planOf bs) (c - 2)) (reduced (planOf bs) (numbers mail)))) d
-          → Holds (h .field .p) (learn (planOf bs) c (numbers s) (numbers mail)) d
-      learnt-product d l m =
-          let w : ℕ = multiplyWire (planOf bs) (c - 2) in
-          let j : c - 2 < multiplies (planOf bs) = omega arith in
-          record {
-            eq = m .eq
-                ∙ sym (ap (λ (x : ℕ). learn (planOf bs) x (numbers s) (numbers mail)) after ∙ learn-product (planOf bs) (numbers s) (numbers mail) (c - 2) j
-                ∙ ap (λ (q : ℕ). workFrom q (w + 1) (drop (w + 1) (planOf bs .gates)) (set (numbers s) w (reduced (planOf bs) (numbers mail)))) (plan-p k));
-            below = m .below;
-          }
+pub ruleset learning-mail = (needs, learnt-inputs, learnt-product, learnt-zero, learnt-masked, learnt-truncated, learnt-draws, learnt-spent, learnt-outs)
 
-      pub learnt-no-more : n ≤ c - 2 → allBelow (h .field .p) (numbers s) ≡ true → Holds (h .field .p) (learn (planOf bs) c (numbers s) (numbers mail)) s
-      learnt-no-more l b =
-          let j : multiplies (planOf bs) ≤ c - 2 = omega arith in
-          record { eq = sym (ap (λ (x : ℕ). learn (planOf bs) x (numbers s) (numbers mail)) after ∙ learn-no-more (planOf bs) (numbers s) (numbers mail) (c - 2) j); below = b }
+-- ---- where the work goes on
+module _ (plan : Plan) (step : Step) where
+  pub resume-inputs : step ≡ DealInputs → 0 ≡ resumeAt plan step
+  unfolding resumeAt
+  resume-inputs e = rw e
 
-pub ruleset learning = (needs, planned-dealers, product-set, product-worked, inputs-worked, learnt-nothing, learnt-inputs, learnt-product, learnt-no-more)
+  pub resume-product : (g a b : ℕ) → step ≡ DealProduct g a b → g + 1 ≡ resumeAt plan step
+  unfolding resumeAt
+  resume-product g a b e = rw (e, add-one)
+
+  pub resume-zero : (g : ℕ) → step ≡ DealZero g → g ≡ resumeAt plan step
+  unfolding resumeAt
+  resume-zero g e = rw e
+
+  pub resume-masked : (g a b : ℕ) → step ≡ DealMasked g a b → g ≡ resumeAt plan step
+  unfolding resumeAt
+  resume-masked g a b e = rw e
+
+  pub resume-truncated : (g : ℕ) → step ≡ SendTruncated g → g + 1 ≡ resumeAt plan step
+  unfolding resumeAt
+  resume-truncated g e = rw (e, add-one)
+
+  pub resume-draws : (g : ℕ) → step ≡ DealDraws g → g + 1 ≡ resumeAt plan step
+  unfolding resumeAt
+  resume-draws g e = rw (e, add-one)
+
+  pub resume-spent : (g a b : ℕ) → step ≡ OpenSpent g a b → g + 1 ≡ resumeAt plan step
+  unfolding resumeAt
+  resume-spent g a b e = rw (e, add-one)
+
+module _ (bs : List ℕ) (h : Header) (k : Planned bs h) (step : Step) where
+  pub resume-outs : step ≡ SendOuts → h .gates ≡ resumeAt (planOf bs) step
+  unfolding resumeAt
+  resume-outs e = rw (e, plan-gates k)
+
+  module _ (i : Stepped (planOf bs) step) where
+    pub product-fits : (g a b : ℕ) → step ≡ DealProduct g a b → Fits w64 (g + 1)
+    product-fits g a b e = record { fits = omega (arith, stepped-product (planOf bs) step g a b i e .within, plan-gates k, k .gates-high) }
+
+    pub truncated-fits : (g : ℕ) → step ≡ SendTruncated g → Fits w64 (g + 1)
+    unfolding Stepped
+    truncated-fits g e = closed (planOf bs) step (SendTruncated g) i e (λ w. w)
+
+    pub draws-fits : (g : ℕ) → step ≡ DealDraws g → Fits w64 (g + 1)
+    unfolding Stepped
+    draws-fits g e = closed (planOf bs) step (DealDraws g) i e (λ w. w)
+
+    pub spent-fits : (g a b : ℕ) → step ≡ OpenSpent g a b → Fits w64 (g + 1)
+    unfolding Stepped
+    spent-fits g a b e = closed (planOf bs) step (OpenSpent g a b) i e (λ w. w)
+
+pub ruleset resuming = (needs, resume-inputs, resume-product, resume-zero, resume-masked, resume-truncated, resume-draws, resume-spent, resume-outs, product-fits, truncated-fits, draws-fits, spent-fits)
+
+-- ---- a step
+pub learnt-worked : (bs : List ℕ) (h : Header) (step : Step) (from : ℕ) (mail s d e : List ℕ) → Planned bs h → from ≡ resumeAt (planOf bs) step
+    → Holds (h .field .p) (learnt (planOf bs) step [] (numbers s) mail) d → Holds (h .field .p) (workFrom (h .field .p) from (drop from (planOf bs .gates)) (numbers d)) e
+    → Holds (h .field .p) (learnFrom (planOf bs) step [] (numbers s) mail) e
+unfolding learnFrom
+learnt-worked bs h step from mail s d e k q m n = record { eq = rw (n .eq, m .eq, q, plan-p k); below = n .below }
+
+pub ruleset learning = (needs, learnt-worked)

@@ -1,21 +1,23 @@
 // What a call learns from its mail, and works on its shares.
 use plan::Gate;
 use plan::Header;
+use plan::Step;
 ghost use mathlib.Core.Path.{_≡_};
 ghost use mathlib.Core.Bool.{true, cond};
-ghost use Prim.Native.Nat.{suc, _<_, _≤_, _+_};
-ghost use lib.ListN.{drop, getD, set};
+ghost use mathlib.Core.List.{[]};
+ghost use Prim.Native.Nat.{_<_, _≤_, _+_};
+ghost use lib.ListN.{length, drop, getD, set};
 ghost use Rattle.numbers.specs.Bytes.{numbers, allBelow};
 ghost use Rattle.numbers.specs.Tables.{tab};
 ghost use Rattle.field.specs.Field.{Is, Ready};
-ghost use Rattle.sharing_laws.specs.Sharing.{opened};
-ghost use Rattle.plan.specs.Plans.{isInputOf, multiplies, multiplyWire, inputWires, ownInputCount};
+ghost use Rattle.plan.specs.Plans.{isInputOf, inputWires};
 ghost use Rattle.plan.specs.File.{gateOk, planOf};
 ghost use Rattle.plan.specs.Planned.{Planned};
-ghost use Rattle.seat_learning.specs.Lent.{Holds, Dealers};
-ghost use Rattle.seat_messages.specs.Messages.{workGate, workFrom, setAll, wiresByParty, reduced, learn};
+ghost use Rattle.plan_counts.specs.Counts.{Stepped};
+ghost use Rattle.seat_learning.specs.Lent.{Holds, reducedFrom};
+ghost use Rattle.seat_messages.specs.Messages.{workGate, workFrom, setAll, wiresByParty, learnt, resumeAt, learnFrom};
 
-// The share of wire g once gate g is worked. Those of inputs and multiplies come from mail, and stay as they are.
+// The share of wire g once gate g is worked. Those of the other kinds come from mail, and stay as they are.
 fn gate_share(h: Header, g: usize, gate: Gate, shares: &[u8]) -> u64
     requires { ⌜ Ready (h .field .p) ⌝ }
     requires { ⌜ gateOk (h .n) (h .field .p) g gate ≡ true ⌝ }
@@ -29,6 +31,8 @@ fn gate_share(h: Header, g: usize, gate: Gate, shares: &[u8]) -> u64
         Gate::Scale(a, c) => f.mul(numbers::read(shares, a), c),
         Gate::Offset(a, c) => f.add(numbers::read(shares, a), c),
         Gate::Multiply(_, _) => numbers::read(shares, g),
+        Gate::Random => numbers::read(shares, g),
+        Gate::Spend(_, _) => numbers::read(shares, g),
     }
 }
 
@@ -43,7 +47,7 @@ fn work_gate(h: Header, g: usize, gate: Gate, shares: &mut [u8])
     numbers::write(shares, g, v);
 }
 
-// Works the gates from one on up to the next multiply, or all that are left.
+// Works the gates from one on up to the next that takes rounds, or all that are left.
 fn work_from(plan: &[u8], h: Header, from: usize, shares: &mut [u8])
     requires { ⌜ Planned (now plan) h ⌝ }
     requires { ⌜ allBelow (h .field .p) (numbers (now shares)) ≡ true ⌝ }
@@ -52,7 +56,7 @@ fn work_from(plan: &[u8], h: Header, from: usize, shares: &mut [u8])
     let mut g = from;
     while g < h.gates {
         let gate = plan::gate_in(plan, g);
-        if plan_counts::is_multiply(gate) {
+        if plan_counts::takes_rounds(gate) {
             return;
         }
         work_gate(h, g, gate, shares);
@@ -102,7 +106,7 @@ fn learn_inputs_of(
     requires { ⌜ allBelow (h .field .p) (numbers (now shares)) ≡ true ⌝ }
     ensures { λ r. ⌜ record {
       shares : Holds (h .field .p) (setAll (numbers (now (shares .entry))) (inputWires (planOf (now (plan .entry))) i) (drop from (numbers (now (mail .entry))))) (now (shares .exit));
-      next : r ≡ from + ownInputCount (planOf (now (plan .entry))) i;
+      next : r ≡ from + length (inputWires (planOf (now (plan .entry))) i);
       most : r ≤ from + 1024;
     } ⌝ }
 {
@@ -145,62 +149,76 @@ fn first_numbers(s: &[u8]) -> [u64; 15]
 }
 
 // A multiply's share from its dealers' pieces: the opening at 0 from the first 2t + 1 points.
-fn reduced(h: Header, mail: &[u8]) -> u64
-    requires { ⌜ Dealers h ⌝ }
+fn reduced(plan: &[u8], h: Header, mail: &[u8]) -> u64
+    requires { ⌜ Planned (now plan) h ⌝ }
     requires { ⌜ allBelow (h .field .p) (numbers (now mail)) ≡ true ⌝ }
-    ensures { λ r. ⌜ Is (h .field .p) (opened (h .field .p) (h .t + h .t) (tab suc (h .n)) (numbers (now (mail .entry)))) r ⌝ }
+    ensures { λ r. ⌜ Is (h .field .p) (reducedFrom (planOf (now (plan .entry))) (numbers (now (mail .entry)))) r ⌝ }
 {
-    let all = seat_messages::points();
+    let all = seat_messages::points_of(plan, h);
     let pieces = first_numbers(mail);
     let m = h.t + h.t + 1;
     sharing_openings::opened(h.field, h.t + h.t, &all[..m], &pieces[..m])
 }
 
-// Learns the share of product k, counted from 0, and works the gates after it.
-fn learn_product(plan: &[u8], h: Header, k: usize, mail: &[u8], shares: &mut [u8])
+// Learns wire g from the pieces of its product.
+fn learn_product(plan: &[u8], h: Header, g: usize, mail: &[u8], shares: &mut [u8])
     requires { ⌜ Planned (now plan) h ⌝ }
     requires { ⌜ allBelow (h .field .p) (numbers (now mail)) ≡ true ⌝ }
     requires { ⌜ allBelow (h .field .p) (numbers (now shares)) ≡ true ⌝ }
-    ensures { λ _.
-        let made = planOf (now (plan .entry)) in
-        let w = multiplyWire made k in
-        ⌜ Holds (h .field .p) (workFrom (h .field .p) (w + 1) (drop (w + 1) (made .gates)) (set (numbers (now (shares .entry))) w (reduced made (numbers (now (mail .entry)))))) (now (shares .exit)) ⌝ }
+    ensures { λ _. ⌜ Holds (h .field .p) (set (numbers (now (shares .entry))) g (reducedFrom (planOf (now (plan .entry))) (numbers (now (mail .entry))))) (now (shares .exit)) ⌝ }
 {
-    let w = plan_counts::multiply_wire(plan, h, k);
-    let v = reduced(h, mail);
-    numbers::write(shares, w, v);
-    work_from(plan, h, w + 1, shares);
+    let v = reduced(plan, h, mail);
+    numbers::write(shares, g, v);
 }
 
-// Learns all inputs and works the gates up to the first multiply.
-fn learn_first(plan: &[u8], h: Header, mail: &[u8], shares: &mut [u8])
+// ---- a step
+
+// Learns the shares that a step's mail makes known.
+fn learn_mail(plan: &[u8], h: Header, step: Step, mail: &[u8], shares: &mut [u8])
     requires { ⌜ Planned (now plan) h ⌝ }
+    requires { ⌜ Stepped (planOf (now plan)) step ⌝ }
     requires { ⌜ allBelow (h .field .p) (numbers (now mail)) ≡ true ⌝ }
     requires { ⌜ allBelow (h .field .p) (numbers (now shares)) ≡ true ⌝ }
-    ensures { λ _. ⌜ Holds (h .field .p) (learn (planOf (now (plan .entry))) 1 (numbers (now (shares .entry))) (numbers (now (mail .entry)))) (now (shares .exit)) ⌝ }
+    ensures { λ _. ⌜ Holds (h .field .p) (learnt (planOf (now (plan .entry))) step [] (numbers (now (shares .entry))) (numbers (now (mail .entry)))) (now (shares .exit)) ⌝ }
 {
-    learn_inputs(plan, h, mail, shares);
-    work_from(plan, h, 0, shares);
+    match step {
+        Step::DealInputs => learn_inputs(plan, h, mail, shares),
+        Step::DealProduct(g, _, _) => learn_product(plan, h, g, mail, shares),
+        Step::DealZero(_) => {}
+        Step::DealMasked(_, _, _) => {}
+        Step::SendTruncated(_) => {}
+        Step::DealDraws(_) => {}
+        Step::OpenSpent(_, _, _) => {}
+        Step::SendOuts => {}
+    }
 }
 
-// What call number k learns from its mail and works on the shares: nothing in call 0; the inputs in call 1; product k - 2 after that,
-// while there is one. The plan has m multiplies.
-pub fn learn(plan: &[u8], h: Header, m: usize, k: usize, mail: &[u8], shares: &mut [u8])
+// The gate from which the work goes on after a step's mail.
+fn resume_at(plan: &[u8], h: Header, step: Step) -> usize
     requires { ⌜ Planned (now plan) h ⌝ }
-    requires { ⌜ m ≡ multiplies (planOf (now plan)) ⌝ }
+    requires { ⌜ Stepped (planOf (now plan)) step ⌝ }
+    ensures { λ r. ⌜ r ≡ resumeAt (planOf (now (plan .entry))) step ⌝ }
+{
+    match step {
+        Step::DealInputs => 0,
+        Step::DealProduct(g, _, _) => g + 1,
+        Step::DealZero(g) => g,
+        Step::DealMasked(g, _, _) => g,
+        Step::SendTruncated(g) => g + 1,
+        Step::DealDraws(g) => g + 1,
+        Step::OpenSpent(g, _, _) => g + 1,
+        Step::SendOuts => h.gates,
+    }
+}
+
+// What a call learns from the mail of the step before it, and works on the shares.
+pub fn learn(plan: &[u8], h: Header, step: Step, mail: &[u8], shares: &mut [u8])
+    requires { ⌜ Planned (now plan) h ⌝ }
+    requires { ⌜ Stepped (planOf (now plan)) step ⌝ }
     requires { ⌜ allBelow (h .field .p) (numbers (now mail)) ≡ true ⌝ }
     requires { ⌜ allBelow (h .field .p) (numbers (now shares)) ≡ true ⌝ }
-    ensures { λ _. ⌜ Holds (h .field .p) (learn (planOf (now (plan .entry))) k (numbers (now (shares .entry))) (numbers (now (mail .entry)))) (now (shares .exit)) ⌝ }
+    ensures { λ _. ⌜ Holds (h .field .p) (learnFrom (planOf (now (plan .entry))) step [] (numbers (now (shares .entry))) (numbers (now (mail .entry)))) (now (shares .exit)) ⌝ }
 {
-    if k == 0 {
-        return;
-    }
-    if k == 1 {
-        learn_first(plan, h, mail, shares);
-        return;
-    }
-    if k - 2 < m {
-        learn_product(plan, h, k - 2, mail, shares);
-        return;
-    }
+    learn_mail(plan, h, step, mail, shares);
+    work_from(plan, h, resume_at(plan, h, step), shares);
 }

@@ -5,15 +5,15 @@ use mathlib.Core.List.{List, [], _∷_, _++_, flatMap}
 use lib.Dec.{eqb, leb, ltb}
 use lib.ListN.{length, drop, getD}
 use Rattle.numbers.specs.Tables.{tab}
-use Rattle.numbers.specs.Bytes.{numbers, bytesOf, holdsCount, firstOver, allBelow}
+use Rattle.numbers.specs.Bytes.{width, numbers, bytesOf, holdsCount, firstOver, allBelow}
 use Rattle.sharing_laws.specs.Sharing.{firstOff}
 use Rattle.plan.specs.declared.Checked.{Checked}
 use Rattle.plan.specs.declared.Checked.the-variants.{Passed, Refused}
 use Rattle.plan.specs.declared.Refusal.the-variants as refusal
 use Rattle.plan.specs.Refusals.{firstOf, need, unlessFound}
-use Rattle.plan.specs.Plans.{Plan, partyCount, multiplies, ownInputCount, ownCoinCount, ownOutCount, mailCount, writtenCount}
+use Rattle.plan.specs.Plans.{Plan, partyCount, ownInputCount, ownCoinCount, ownOutCount, lastCall, mailCount, writtenCount}
 use Rattle.plan.specs.File.{between, planChecks, planOf}
-use Rattle.seat_messages.specs.Messages.{Called, call, sharesOfOut}
+use Rattle.seat_messages.specs.Messages.{Called, call, fromEach}
 
 -- refusal 20 of one out: its place is the first party, counted from 1, whose share isn't on the polynomial through those of parties 1 to t + 1
 unfoldable pub onPolynomial : ℕ → ℕ → List ℕ → List ℕ → Checked
@@ -23,12 +23,12 @@ onPolynomial p t points shares = unlessFound (λ i. refusal.OffPolynomial (i + 1
 unfoldable pub outsCheck : Plan → ℕ → List ℕ → Checked
 outsCheck plan i mail =
     firstOf
-    (tab (λ j. onPolynomial (plan .p) (plan .t) (plan .points) (sharesOfOut (partyCount plan) (ownOutCount plan i) j mail))
+    (tab (λ j. onPolynomial (plan .p) (plan .t) (plan .points) (fromEach (partyCount plan) (ownOutCount plan i) j mail))
     (ownOutCount plan i))
 
 -- refusal 20 of call k
 unfoldable pub openingCheck : Plan → ℕ → ℕ → List ℕ → Checked
-openingCheck plan i k mail = cond (eqb k (multiplies plan + 2)) (outsCheck plan i mail) Passed
+openingCheck plan i k mail = cond (eqb k (lastCall plan)) (outsCheck plan i mail) Passed
 
 -- refusals 9 to 20 of party i's call; the lists are lent as bytes, and `room` is the length of the buffer to be written
 unfoldable pub partyChecks : Plan → ℕ → List ℕ → List ℕ → List ℕ → List ℕ → ℕ → List Checked
@@ -39,11 +39,11 @@ partyChecks plan i inputs coins state mail room =
     ∷ need refusal.CoinCount (holdsCount (ownCoinCount plan i) coins)
     ∷ unlessFound refusal.CoinValue (firstOver (plan .p) (numbers coins))
     ∷ need refusal.StateCount (holdsCount (1 + length (plan .gates)) state)
-    ∷ need refusal.StateValue (leb (getD (numbers state) 0 0) (multiplies plan + 3) && allBelow (plan .p) (drop 1 (numbers state)))
-    ∷ need refusal.Finished (not (eqb (getD (numbers state) 0 0) (multiplies plan + 3)))
+    ∷ need refusal.StateValue (leb (getD (numbers state) 0 0) (suc (lastCall plan)) && allBelow (plan .p) (drop 1 (numbers state)))
+    ∷ need refusal.Finished (not (eqb (getD (numbers state) 0 0) (suc (lastCall plan))))
     ∷ need refusal.MailCount (holdsCount (mailCount plan i (getD (numbers state) 0 0)) mail)
     ∷ unlessFound refusal.MailValue (firstOver (plan .p) (numbers mail))
-    ∷ need refusal.BufferLength (eqb room (2 * writtenCount plan i (getD (numbers state) 0 0)))
+    ∷ need refusal.BufferLength (eqb room (width * writtenCount plan i (getD (numbers state) 0 0)))
     ∷ openingCheck plan i (getD (numbers state) 0 0) (numbers mail)
     ∷ []
 
@@ -57,15 +57,16 @@ callAnswer bs i inputs coins state mail room = firstOf (callChecks bs i inputs c
 
 -- what a call writes: its outgoing mail, by receiving party, or its results in the last call
 unfoldable pub written : Plan → ℕ → Called → List ℕ
-written plan k c = cond (eqb k (multiplies plan + 2)) (c .results) (flatMap (λ l. l) (c .sent))
+written plan k c = cond (eqb k (lastCall plan)) (c .results) (flatMap (λ l. l) (c .sent))
 
 -- a buffer after a call: rewritten where nothing was refused, else as it was
 unfoldable pub unlessRefused : Checked → List ℕ → List ℕ → List ℕ
 unlessRefused Passed new old = new
 unlessRefused (Refused r) new old = old
 
+-- the call on the lists that are lent; a plan file has no gate that spends a triple
 unfoldable pub calledOn : List ℕ → ℕ → List ℕ → List ℕ → List ℕ → List ℕ → Called
-calledOn bs i inputs coins state mail = call (planOf bs) i (numbers inputs) (numbers coins) (numbers state) (numbers mail)
+calledOn bs i inputs coins state mail = call (planOf bs) i (numbers inputs) (numbers coins) [] (numbers state) (numbers mail)
 
 -- the lent state afterwards
 unfoldable pub stateAfter : List ℕ → ℕ → List ℕ → List ℕ → List ℕ → List ℕ → ℕ → List ℕ

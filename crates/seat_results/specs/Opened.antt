@@ -7,11 +7,10 @@ use lib.ListN.{length}
 use Rattle.numbers.specs.Tables.{tab}
 use Rattle.numbers.specs.Bytes.{numbers, allBelow}
 use Rattle.sharing_laws.specs.Interp.{dot}
-use Rattle.sharing_laws.specs.Sharing.{opened}
 use Rattle.field.specs.Field.{Ready}
 use Rattle.plan.specs.declared.Header.{Header}
-use Rattle.plan.specs.Plans.{Plan, partyCount}
-use Rattle.seat_messages.specs.Messages.{sharesOfOut}
+use Rattle.plan.specs.Plans.{Plan}
+use Rattle.seat_messages.specs.Messages.{fromEach, openedAt}
 
 -- what the openings of a party's own outs take: the weights of at most n points, and the mail
 pub record Openings (h : Header) (weights mail : List ℕ) : Type 0 where
@@ -23,8 +22,8 @@ pub record Openings (h : Header) (weights mail : List ℕ) : Type 0 where
 
 -- the openings of a party's own outs by the weights ws, when there are `own` of them and n parties
 unfoldable pub openedBy : ℕ → List ℕ → ℕ → ℕ → List ℕ → List ℕ
-openedBy p ws n own mail = tab (λ j. dot p ws (sharesOfOut n own j mail)) own
+openedBy p ws n own mail = tab (λ j. dot p ws (fromEach n own j mail)) own
 
 -- the openings of a party's own outs, when there are `own` of them
 unfoldable pub openedOuts : Plan → ℕ → List ℕ → List ℕ
-openedOuts plan own mail = tab (λ j. opened (plan .p) (plan .t) (plan .points) (sharesOfOut (partyCount plan) own j mail)) own
+openedOuts plan own mail = tab (λ j. openedAt plan own j mail) own

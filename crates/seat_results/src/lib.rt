@@ -4,20 +4,20 @@ ghost use mathlib.Core.Path.{_≡_};
 ghost use mathlib.Core.Bool.{true};
 ghost use Prim.Native.Nat.{_+_, _*_, _/_, _<_, _≤_};
 ghost use lib.ListN.{length, take};
-ghost use Rattle.numbers.specs.Bytes.{numbers, allBelow};
+ghost use Rattle.numbers.specs.Bytes.{width, numbers, allBelow};
 ghost use Rattle.field.specs.Field.{Is};
 ghost use Rattle.sharing_laws.specs.Interp.{dot};
 ghost use Rattle.plan.specs.File.{planOf};
 ghost use Rattle.plan.specs.Planned.{Planned};
-ghost use Rattle.seat_messages.specs.Messages.{sharesOfOut};
+ghost use Rattle.seat_messages.specs.Messages.{fromEach};
 ghost use Rattle.seat_results.specs.Opened.{Openings, openedBy, openedOuts};
 
-// The n shares of own out j, when there are `own` of them and each party sent so many.
-pub fn shares_of_out(n: usize, own: usize, j: usize, mail: &[u8]) -> [u64; 15]
+// Of mail in which each of n parties sent `own` numbers, number j of each.
+pub fn from_each(n: usize, own: usize, j: usize, mail: &[u8]) -> [u64; 15]
     requires { ⌜ n ≤ 15 ⌝ }
     requires { ⌜ own ≤ 65536 ⌝ }
     requires { ⌜ j < own ⌝ }
-    ensures { λ r. ⌜ take n r ≡ sharesOfOut n own j (numbers (now (mail .entry))) ⌝ }
+    ensures { λ r. ⌜ take n r ≡ fromEach n own j (numbers (now (mail .entry))) ⌝ }
 {
     let mut shares = [0u64; 15];
     let mut i: usize = 0;
@@ -33,9 +33,9 @@ fn opening(h: Header, weights: &[u64], own: usize, j: usize, mail: &[u8]) -> u64
     requires { ⌜ Openings h (now weights) (now mail) ⌝ }
     requires { ⌜ own ≤ 65536 ⌝ }
     requires { ⌜ j < own ⌝ }
-    ensures { λ r. ⌜ Is (h .field .p) (dot (h .field .p) (now (weights .entry)) (sharesOfOut (h .n) own j (numbers (now (mail .entry))))) r ⌝ }
+    ensures { λ r. ⌜ Is (h .field .p) (dot (h .field .p) (now (weights .entry)) (fromEach (h .n) own j (numbers (now (mail .entry))))) r ⌝ }
 {
-    let shares = shares_of_out(h.n, own, j, mail);
+    let shares = from_each(h.n, own, j, mail);
     let n = h.n;
     sharing::dot(h.field, weights, &shares[..n])
 }
@@ -43,8 +43,8 @@ fn opening(h: Header, weights: &[u64], own: usize, j: usize, mail: &[u8]) -> u64
 // Writes the openings of all own outs, as many as there is room for.
 fn open_outs(h: Header, weights: &[u64], mail: &[u8], out: &mut [u8])
     requires { ⌜ Openings h (now weights) (now mail) ⌝ }
-    requires { ⌜ length (now out) ≤ 131072 ⌝ }
-    ensures { λ _. ⌜ numbers (now (out .exit)) ≡ openedBy (h .field .p) (now (weights .entry)) (h .n) (length (now (out .entry)) / 2) (numbers (now (mail .entry))) ⌝ }
+    requires { ⌜ length (now out) ≤ width * 65536 ⌝ }
+    ensures { λ _. ⌜ numbers (now (out .exit)) ≡ openedBy (h .field .p) (now (weights .entry)) (h .n) (length (now (out .entry)) / width) (numbers (now (mail .entry))) ⌝ }
 {
     let own = out.len() / 2;
     let mut j: usize = 0;
@@ -59,10 +59,10 @@ fn open_outs(h: Header, weights: &[u64], mail: &[u8], out: &mut [u8])
 pub fn results(plan: &[u8], h: Header, mail: &[u8], out: &mut [u8])
     requires { ⌜ Planned (now plan) h ⌝ }
     requires { ⌜ allBelow (planOf (now plan) .p) (numbers (now mail)) ≡ true ⌝ }
-    requires { ⌜ length (now out) ≤ 131072 ⌝ }
-    ensures { λ _. ⌜ numbers (now (out .exit)) ≡ openedOuts (planOf (now (plan .entry))) (length (now (out .entry)) / 2) (numbers (now (mail .entry))) ⌝ }
+    requires { ⌜ length (now out) ≤ width * 65536 ⌝ }
+    ensures { λ _. ⌜ numbers (now (out .exit)) ≡ openedOuts (planOf (now (plan .entry))) (length (now (out .entry)) / width) (numbers (now (mail .entry))) ⌝ }
 {
-    let points = seat_messages::points();
+    let points = seat_messages::points_of(plan, h);
     let mut weights = [0u64; 15];
     let top = h.t + 1;
     sharing::weights(h.field, 0, &points[..top], &mut weights[..top]);

@@ -15,7 +15,7 @@ use lib.Dec.{eqb, ltb}
 use lib.ListN.{length, getD, take, length-append}
 use lib.Seq.{take-suc, take-all}
 use Rattle.numbers.specs.Tables.{tab}
-use Rattle.numbers.specs.Bytes.{numbers, stored}
+use Rattle.numbers.specs.Bytes.{width, limit, numbers, stored}
 use Rattle.numbers.proofs.Tables.{tab-map, tab-ext}
 use Rattle.numbers.proofs.Truth.{both-true}
 use Rattle.plan.specs.declared.Output.{Output}
@@ -26,7 +26,8 @@ use Rattle.plan.specs.Planned.{Planned}
 use Rattle.plan.proofs.Wires.{out-wires-few}
 use Rattle.plan.proofs.Planned.{plan-n, plan-outs, plan-out, between-true}
 use Rattle.plan.proofs.Valid.{valid}
-use Rattle.seat_messages.specs.Messages.{sendOuts}
+use Rattle.plan.specs.declared.Step.the-variants.{SendOuts}
+use Rattle.seat_messages.specs.Messages.{sendAt}
 use Rattle.seat_sending.specs.Sending.{Sent, outShares}
 use Rattle.seat_sending.proofs.SendLaws.{sent-none, sent-more, sent-unless, sent-where, flat, flat-none, flat-next, Rows, rows-none, rows-next, rows-all, cond-cons, one-long}
 
@@ -35,7 +36,7 @@ module _ (party : ℕ) (o : Output) (at : ℕ) (old : List ℕ) where
   pub out-other : (v : ℕ) → (party ≡ o .party → ⊥) → Sent (cond (eqb party (o .party)) (v ∷ []) []) at old old at
   out-other v h = sent-unless (eqb party (o .party)) v at old (ne-eqb party (o .party) h)
 
-  pub out-own : (v r : ℕ) (new : List ℕ) → party ≡ o .party → r ≡ v → r < 65536 → new ≡ stored old at r → Sent (cond (eqb party (o .party)) (v ∷ []) []) at old new (at + 1)
+  pub out-own : (v r : ℕ) (new : List ℕ) → party ≡ o .party → r ≡ v → r < limit → new ≡ stored old at r → Sent (cond (eqb party (o .party)) (v ∷ []) []) at old new (at + 1)
   out-own v r new h e l to = rw (← e) (sent-where (eqb party (o .party)) r at old new (eq-eqb party (o .party) h) to l)
 
 pub ruleset out-sending = (needs, out-other, out-own)
@@ -166,16 +167,16 @@ module _ (bs : List ℕ) (h : Header) (w : Planned bs h) (shares : List ℕ) whe
       ∙ total-all (h .n) (length (planOf bs .gates)) (planOf bs .outs) (rw (← plan-n w) (valid bs (w .passes) .outs))
       ∙ plan-outs w
 
-  by-receiver : sendOuts (planOf bs) shares ≡ tab (λ j. outShares shares (outWires (planOf bs) (j + 1))) (h .n)
-  unfolding sendOuts parties outShares
+  by-receiver : sendAt (planOf bs) 0 SendOuts [] [] [] shares [] ≡ tab (λ j. outShares shares (outWires (planOf bs) (j + 1))) (h .n)
+  unfolding sendAt parties outShares
   by-receiver =
       let row : ℕ → List ℕ = λ i. outShares shares (outWires (planOf bs) i) in
       tab-map row suc (partyCount (planOf bs))
       ∙ ap (tab (λ j. row (suc j))) (plan-n w)
       ∙ tab-ext (λ j. row (suc j)) (λ j. row (j + 1)) (h .n) (λ j l. ap row (sym (add-one j)))
 
-  pub outs-sent : (d₀ d : List ℕ) (at j : ℕ) → Rows (λ j. outShares shares (outWires (planOf bs) (j + 1))) 64 (h .n) d₀ d at j → h .n ≤ j → length d₀ ≡ 2 * h .outs
-      → numbers d ≡ flatMap (λ l. l) (sendOuts (planOf bs) shares)
+  pub outs-sent : (d₀ d : List ℕ) (at j : ℕ) → Rows (λ j. outShares shares (outWires (planOf bs) (j + 1))) 64 (h .n) d₀ d at j → h .n ≤ j → length d₀ ≡ width * h .outs
+      → numbers d ≡ flatMap (λ l. l) (sendAt (planOf bs) 0 SendOuts [] [] [] shares [])
   outs-sent d₀ d at j r l e =
       rows-all (λ j. outShares shares (outWires (planOf bs) (j + 1))) 64 (h .n) d₀ d at j r l (e ∙ rw outs-total) ∙ sym (ap flat by-receiver)
 

@@ -12,7 +12,7 @@ use native.Mathlib.Omega.{arith}
 use lib.ListN.{length, length-append}
 use lib.Seq.{sets}
 use Rattle.numbers.specs.Tables.{tab}
-use Rattle.numbers.specs.Bytes.{numbers, stored}
+use Rattle.numbers.specs.Bytes.{width, limit, numbers, stored}
 use Rattle.numbers.proofs.Bytes.{numbers-length, length-stored, numbers-stored}
 use Rattle.numbers.proofs.Tables.{tab-next}
 use Rattle.numbers.proofs.Rows.{sets-append, sets-all}
@@ -31,7 +31,7 @@ cond-cons false x xs ys zs e = e
 pub sent-none : (old : List ℕ) (at : ℕ) → Sent [] at old old at
 sent-none old at = record { long = refl; place = omega arith; is = refl }
 
-pub sent-one : (old new : List ℕ) (at v : ℕ) → new ≡ stored old at v → v < 65536 → Sent (v ∷ []) at old new (at + 1)
+pub sent-one : (old new : List ℕ) (at v : ℕ) → new ≡ stored old at v → v < limit → Sent (v ∷ []) at old new (at + 1)
 sent-one old new at v e l = record {
   long = ap length e ∙ length-stored old at v;
   place = refl;
@@ -46,14 +46,14 @@ module _ (vs ws old mid new : List ℕ) (at middle next : ℕ) where
     is = b .is ∙ ap (λ (l : List ℕ). sets l middle ws) (a .is) ∙ ap (λ (n : ℕ). sets (sets (numbers old) at vs) n ws) (a .place) ∙ sym (sets-append (numbers old) at vs ws);
   }
 
-pub sent-all : (vs old new : List ℕ) (next : ℕ) → Sent vs 0 old new next → length old ≡ 2 * length vs → numbers new ≡ vs
+pub sent-all : (vs old new : List ℕ) (next : ℕ) → Sent vs 0 old new next → length old ≡ width * length vs → numbers new ≡ vs
 sent-all vs old new next s e = s .is ∙ sets-all (numbers old) vs (omega (arith, numbers-length old))
 
 -- ---- a number that is written where a test holds
 pub sent-unless : (b : Bool) (v at : ℕ) (old : List ℕ) → b ≡ false → Sent (cond b (v ∷ []) []) at old old at
 sent-unless b v at old e = rw e (sent-none old at)
 
-pub sent-where : (b : Bool) (v at : ℕ) (old new : List ℕ) → b ≡ true → new ≡ stored old at v → v < 65536 → Sent (cond b (v ∷ []) []) at old new (at + 1)
+pub sent-where : (b : Bool) (v at : ℕ) (old new : List ℕ) → b ≡ true → new ≡ stored old at v → v < limit → Sent (cond b (v ∷ []) []) at old new (at + 1)
 sent-where b v at old new e is l = rw e (sent-one old new at v is l)
 
 -- ---- lists that are written one after the other
@@ -96,7 +96,7 @@ module _ (f : ℕ → List ℕ) (most n : ℕ) where
         sent = rw (flat-next f j) (sent-more (flat (tab f j)) (f j) d₀ d e 0 at next (r .sent) s);
       }
 
-  pub rows-all : (d₀ d : List ℕ) (at j : ℕ) → Rows f most n d₀ d at j → n ≤ j → length d₀ ≡ 2 * length (flat (tab f n)) → numbers d ≡ flat (tab f n)
+  pub rows-all : (d₀ d : List ℕ) (at j : ℕ) → Rows f most n d₀ d at j → n ≤ j → length d₀ ≡ width * length (flat (tab f n)) → numbers d ≡ flat (tab f n)
   rows-all d₀ d at j r l e =
       let q : j ≡ n = omega (arith, r .within) in
       sent-all (flat (tab f n)) d₀ d at (rw (← q) (r .sent)) e

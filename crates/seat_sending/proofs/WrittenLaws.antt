@@ -1,108 +1,120 @@
--- What a call writes, by its number.
+-- What a step sends, and what a call writes.
+--     stepping     what closes the needs of `send_step`
 --     calling      what closes the needs of `send`
 -- Assumes nothing.
 use mathlib.Core.Path.{_≡_, sym, ap, subst, _∙_}
-use mathlib.Core.Bool.{cond}
 use mathlib.Core.List.{List, [], flatMap}
-use Prim.Native.Nat.{ℕ, suc, _+_, _-_, _*_, _/_, _<_, _≤_}
+use Prim.Native.Nat.{ℕ, _*_, _/_, _<_, _≤_}
 use native.Mathlib.Omega.{arith}
 use borrow.Author.Needs.{needs}
 use borrow.Author.Tests.{eq-eqb, ne-eqb, lt-ltb, le-ltb}
-use lib.Dec.{leb}
 use lib.ListN.{length}
-use Rattle.numbers.specs.Bytes.{numbers}
+use Rattle.numbers.specs.Bytes.{width, numbers}
+use Rattle.plan.specs.declared.Step.{Step}
+use Rattle.plan.specs.declared.Step.the-variants.{DealInputs, DealProduct, DealZero, DealMasked, SendTruncated, DealDraws, OpenSpent, SendOuts}
 use Rattle.plan.specs.declared.Header.{Header}
-use Rattle.plan.specs.Plans.{Plan, partyCount, dealerCount, multiplies, ownInputCount, ownOutCount, outWires, writtenCount}
+use Rattle.plan.specs.Plans.{Plan, stepAt, lastCall, ownOutCount, outWires, sentBy, writtenCount}
 use Rattle.plan.specs.File.{planOf}
 use Rattle.plan.specs.Planned.{Planned}
 use Rattle.plan.proofs.Wires.{out-wires-few}
 use Rattle.plan.proofs.Planned.{plan-outs}
-use Rattle.seat_messages.specs.Messages.{sendInputs, sendProduct, sendOuts, resultsOf, send, callWith}
+use Rattle.plan_counts.specs.Counts.{Stepped}
+use Rattle.plan_counts.proofs.Steps.{stepped-product}
+use Rattle.seat_messages.specs.Messages.{sendAt, callWith}
 use Rattle.seat_messages.specs.Calls.{written}
 use Rattle.seat_results.specs.Opened.{openedOuts}
-use Rattle.seat_sending.specs.Sending.{Coined, Lent}
+use Rattle.seat_sending.specs.Sending.{Coined, Sendable, Lent}
 
--- ---- how much is written
-module _ (plan : Plan) (i k : ℕ) (out : List ℕ) (room : length out ≡ 2 * writtenCount plan i k) where
-  pub room-inputs : k ≡ 0 → length out ≡ 2 * (partyCount plan * ownInputCount plan i)
-  unfolding writtenCount
-  room-inputs e = room ∙ rw e
+-- ---- a step
+module _ (plan : Plan) (i : ℕ) (step : Step) (inputs coins shares mail xs : List ℕ) where
+  pub sent-inputs : step ≡ DealInputs → xs ≡ flatMap (λ l. l) (sendAt plan i DealInputs inputs coins [] [] []) → xs ≡ flatMap (λ l. l) (sendAt plan i step inputs coins [] shares mail)
+  unfolding sendAt
+  sent-inputs e q = rw e q
 
-  -- the same of a later call
-  room-at : (j : ℕ) → k ≡ suc j → length out ≡ 2 * writtenCount plan i (suc j)
-  room-at j e = room ∙ ap (λ (n : ℕ). 2 * writtenCount plan i n) e
+  pub sent-product : (g a b : ℕ) → step ≡ DealProduct g a b → xs ≡ flatMap (λ l. l) (sendAt plan i (DealProduct g a b) [] coins [] shares [])
+      → xs ≡ flatMap (λ l. l) (sendAt plan i step inputs coins [] shares mail)
+  unfolding sendAt
+  sent-product g a b e q = rw e q
 
-  module _ (m : ℕ) (is : m ≡ multiplies plan) where
-    pub room-product : (k ≡ 0 → ⊥) → k ≤ m → length out ≡ 2 * cond (leb i (dealerCount plan)) (partyCount plan) 0
+  pub sent-outs : step ≡ SendOuts → xs ≡ flatMap (λ l. l) (sendAt plan 0 SendOuts [] [] [] shares []) → xs ≡ flatMap (λ l. l) (sendAt plan i step inputs coins [] shares mail)
+  unfolding sendAt
+  sent-outs e q = rw e q
+
+  -- a plan file has no other steps
+  module _ (is : Stepped plan step) where
+    pub sent-zero : (g : ℕ) → step ≡ DealZero g → xs ≡ flatMap (λ l. l) (sendAt plan i step inputs coins [] shares mail)
+    unfolding Stepped
+    sent-zero g e = absurd (subst (Stepped plan) e is)
+
+    pub sent-masked : (g a b : ℕ) → step ≡ DealMasked g a b → xs ≡ flatMap (λ l. l) (sendAt plan i step inputs coins [] shares mail)
+    unfolding Stepped
+    sent-masked g a b e = absurd (subst (Stepped plan) e is)
+
+    pub sent-truncated : (g : ℕ) → step ≡ SendTruncated g → xs ≡ flatMap (λ l. l) (sendAt plan i step inputs coins [] shares mail)
+    unfolding Stepped
+    sent-truncated g e = absurd (subst (Stepped plan) e is)
+
+    pub sent-draws : (g : ℕ) → step ≡ DealDraws g → xs ≡ flatMap (λ l. l) (sendAt plan i step inputs coins [] shares mail)
+    unfolding Stepped
+    sent-draws g e = absurd (subst (Stepped plan) e is)
+
+    pub sent-spent : (g a b : ℕ) → step ≡ OpenSpent g a b → xs ≡ flatMap (λ l. l) (sendAt plan i step inputs coins [] shares mail)
+    unfolding Stepped
+    sent-spent g a b e = absurd (subst (Stepped plan) e is)
+
+-- what the parts take
+module _ (plan : Plan) (i : ℕ) (step : Step) (inputs coins shares out : List ℕ) (s : Sendable plan i step inputs coins shares out) where
+  pub step-coins : Coined plan i coins
+  step-coins = s .own .coined
+
+  pub room-inputs : step ≡ DealInputs → length out ≡ width * sentBy plan i DealInputs
+  room-inputs e = s .room ∙ ap (λ (r : Step). width * sentBy plan i r) e
+
+  pub room-product : (g a b : ℕ) → step ≡ DealProduct g a b → length out ≡ width * sentBy plan i (DealProduct g a b)
+  room-product g a b e = s .room ∙ ap (λ (r : Step). width * sentBy plan i r) e
+
+pub room-outs : (bs : List ℕ) (h : Header) (i : ℕ) (step : Step) (inputs coins shares out : List ℕ) → Planned bs h → Sendable (planOf bs) i step inputs coins shares out
+    → step ≡ SendOuts → length out ≡ width * h .outs
+unfolding sentBy
+room-outs bs h i step inputs coins shares out w s e = s .room ∙ ap (λ (r : Step). width * sentBy (planOf bs) i r) e ∙ rw (plan-outs w)
+
+pub ruleset stepping =
+    (needs, stepped-product, step-coins, room-inputs, room-product, room-outs, sent-inputs, sent-product, sent-outs, sent-zero, sent-masked, sent-truncated, sent-draws, sent-spent)
+
+-- ---- a call
+module _ (bs : List ℕ) (h : Header) (w : Planned bs h) (i k : ℕ) (inputs coins shares mail out : List ℕ) (l : Lent (planOf bs) i k inputs coins shares mail out) (last : ℕ) (is : last ≡ lastCall (planOf bs)) where
+  module _ (ne : k ≡ last → ⊥) where
+    early : k < lastCall (planOf bs)
+    early = omega (arith, l .call)
+
+    pub call-sendable : (step : Step) → step ≡ stepAt (planOf bs) k → Sendable (planOf bs) i step inputs coins shares out
     unfolding writtenCount
-    room-product z l = room-at (k - 1) (omega arith) ∙ rw (lt-ltb (k - 1) (multiplies plan) (omega arith))
+    call-sendable step e = record {
+      party = l .party;
+      own = l .own;
+      shares-below = l .shares-below;
+      room = l .room ∙ rw (lt-ltb k (lastCall (planOf bs)) early, ← e);
+    }
 
-    pub room-outs : k ≡ m + 1 → length out ≡ 2 * length (plan .outs)
+    pub call-sent : (step : Step) (xs : List ℕ) → step ≡ stepAt (planOf bs) k → xs ≡ flatMap (λ l. l) (sendAt (planOf bs) i step (numbers inputs) (numbers coins) [] (numbers shares) (numbers mail))
+        → xs ≡ written (planOf bs) k (callWith (planOf bs) i k (numbers inputs) (numbers coins) [] (numbers shares) (numbers mail))
+    unfolding written callWith
+    call-sent step xs e q = rw (ne-eqb k (lastCall (planOf bs)) (λ z. omega (arith, early)), lt-ltb k (lastCall (planOf bs)) early, ← e) q
+
+  module _ (e : k ≡ last) where
+    own-many : length out ≡ width * ownOutCount (planOf bs) i
     unfolding writtenCount
-    room-outs e = room-at (k - 1) (omega arith) ∙ rw (le-ltb (k - 1) (multiplies plan) (omega arith), eq-eqb (k - 1) (multiplies plan) (omega arith))
+    own-many = l .room ∙ rw (le-ltb k (lastCall (planOf bs)) (omega arith))
 
-    pub room-results : m < k → (k ≡ m + 1 → ⊥) → length out ≡ 2 * ownOutCount plan i
-    unfolding writtenCount
-    room-results l ne = room-at (k - 1) (omega arith) ∙ rw (le-ltb (k - 1) (multiplies plan) (omega arith), ne-eqb (k - 1) (multiplies plan) (λ e. ne (omega arith)))
+    pub call-room : length out ≤ width * 65536
+    unfolding ownOutCount outWires
+    call-room = omega (arith, own-many, out-wires-few i (planOf bs .outs), plan-outs w, w .outs-high)
 
--- ---- what is written
-module _ (plan : Plan) (i : ℕ) (inputs coins shares mail xs : List ℕ) where
-  pub written-inputs : (k : ℕ) → k ≡ 0 → xs ≡ flatMap (λ l. l) (sendInputs plan i inputs coins) → xs ≡ written plan k (callWith plan i k inputs coins shares mail)
-  unfolding written callWith send
-  written-inputs k e q = rw (e, ne-eqb 0 (multiplies plan + 2) (λ z. omega arith)) q
+    pub call-opened : (xs : List ℕ) → xs ≡ openedOuts (planOf bs) (length out / width) (numbers mail)
+        → xs ≡ written (planOf bs) k (callWith (planOf bs) i k (numbers inputs) (numbers coins) [] (numbers shares) (numbers mail))
+    unfolding written callWith openedOuts
+    call-opened xs q =
+        let many : length out / width ≡ ownOutCount (planOf bs) i = omega (arith, own-many) in
+        q ∙ ap (λ (n : ℕ). openedOuts (planOf bs) n (numbers mail)) many ∙ sym (rw (eq-eqb k (lastCall (planOf bs)) (omega arith)))
 
-  product-at : (j : ℕ) → j < multiplies plan → xs ≡ flatMap (λ l. l) (sendProduct plan i j coins shares) → xs ≡ written plan (suc j) (callWith plan i (suc j) inputs coins shares mail)
-  unfolding written callWith send
-  product-at j l q = rw (ne-eqb (suc j) (multiplies plan + 2) (λ z. omega arith), lt-ltb j (multiplies plan) l) q
-
-  outs-at : (j : ℕ) → j ≡ multiplies plan → xs ≡ flatMap (λ l. l) (sendOuts plan shares) → xs ≡ written plan (suc j) (callWith plan i (suc j) inputs coins shares mail)
-  unfolding written callWith send
-  outs-at j e q = rw (ne-eqb (suc j) (multiplies plan + 2) (λ z. omega arith), le-ltb j (multiplies plan) (omega arith), eq-eqb j (multiplies plan) e) q
-
-  module _ (k m : ℕ) (is : m ≡ multiplies plan) where
-    later : (j : ℕ) → suc j ≡ k → xs ≡ written plan (suc j) (callWith plan i (suc j) inputs coins shares mail) → xs ≡ written plan k (callWith plan i k inputs coins shares mail)
-    later j e q = subst (λ (n : ℕ). xs ≡ written plan n (callWith plan i n inputs coins shares mail)) e q
-
-    pub written-product : (k ≡ 0 → ⊥) → k ≤ m → xs ≡ flatMap (λ l. l) (sendProduct plan i (k - 1) coins shares) → xs ≡ written plan k (callWith plan i k inputs coins shares mail)
-    written-product z l q = later (k - 1) (omega arith) (product-at (k - 1) (omega arith) q)
-
-    pub written-outs : k ≡ m + 1 → xs ≡ flatMap (λ l. l) (sendOuts plan shares) → xs ≡ written plan k (callWith plan i k inputs coins shares mail)
-    written-outs e q = later (k - 1) (omega arith) (outs-at (k - 1) (omega arith) q)
-
-    pub written-results : (own : ℕ) → m < k → (k ≡ m + 1 → ⊥) → k ≤ multiplies plan + 2 → own ≡ ownOutCount plan i → xs ≡ openedOuts plan own mail → xs ≡ written plan k (callWith plan i k inputs coins shares mail)
-    unfolding written callWith resultsOf openedOuts
-    written-results own l ne h e q =
-        q ∙ ap (λ (n : ℕ). openedOuts plan n mail) e ∙ sym (rw (eq-eqb k (multiplies plan + 2) (omega arith)))
-
--- ---- what the parts take
-module _ (bs : List ℕ) (h : Header) (w : Planned bs h) (i k : ℕ) (inputs coins shares mail out : List ℕ) (l : Lent (planOf bs) i k inputs coins shares mail out) where
-  pub part-coins : Coined (planOf bs) i coins
-  part-coins = l .own .coined
-
-  pub part-inputs : k ≡ 0 → length out ≡ 2 * (partyCount (planOf bs) * ownInputCount (planOf bs) i)
-  part-inputs e = room-inputs (planOf bs) i k out (l .room) e
-
-  module _ (m : ℕ) (is : m ≡ multiplies (planOf bs)) where
-    pub part-call : (k ≡ 0 → ⊥) → k ≤ m → k - 1 < multiplies (planOf bs)
-    part-call z q = omega arith
-
-    pub part-product : (k ≡ 0 → ⊥) → k ≤ m → length out ≡ 2 * cond (leb i (dealerCount (planOf bs))) (partyCount (planOf bs)) 0
-    part-product z q = room-product (planOf bs) i k out (l .room) m is z q
-
-    pub part-outs : k ≡ m + 1 → length out ≡ 2 * h .outs
-    part-outs e = room-outs (planOf bs) i k out (l .room) m is e ∙ rw (plan-outs w)
-
-    module _ (late : m < k) (ne : k ≡ m + 1 → ⊥) where
-      own-many : length out ≡ 2 * ownOutCount (planOf bs) i
-      own-many = room-results (planOf bs) i k out (l .room) m is late ne
-
-      pub part-results : length out ≤ 131072
-      unfolding ownOutCount outWires
-      part-results = omega (arith, own-many, out-wires-few i (planOf bs .outs), plan-outs w, w .outs-high)
-
-      pub part-opened : (new : List ℕ) → numbers new ≡ openedOuts (planOf bs) (length out / 2) (numbers mail)
-          → numbers new ≡ written (planOf bs) k (callWith (planOf bs) i k (numbers inputs) (numbers coins) (numbers shares) (numbers mail))
-      part-opened new q =
-          written-results (planOf bs) i (numbers inputs) (numbers coins) (numbers shares) (numbers mail) (numbers new) k m is (length out / 2) late ne (l .call) (omega (arith, own-many)) q
-
-pub ruleset calling = (needs, part-coins, part-inputs, part-call, part-product, part-outs, part-results, part-opened, written-inputs, written-product, written-outs)
+pub ruleset calling = (needs, call-sendable, call-sent, call-room, call-opened)

@@ -1,25 +1,29 @@
-// What a call writes: the outgoing mail of calls 0 to M + 1, the results of call M + 2.
+// What a call writes: the outgoing mail of its step, or in the last call the results.
 use field::Field;
 use plan::Gate;
 use plan::Header;
 use plan::Output;
+use plan::Step;
 ghost use mathlib.Core.Path.{_≡_};
 ghost use mathlib.Core.Bool.{true, cond};
 ghost use mathlib.Core.List.{[], _∷_, flatMap};
-ghost use Prim.Native.Nat.{suc, _+_, _*_, _/_, _<_, _≤_};
-ghost use lib.Dec.{eqb, leb};
+ghost use Prim.Native.Nat.{_+_, _*_, _<_, _≤_};
+ghost use lib.Dec.{eqb};
 ghost use lib.ListN.{length, getD, take};
-ghost use Rattle.numbers.specs.Tables.{tab};
-ghost use Rattle.numbers.specs.Bytes.{numbers, allBelow};
+ghost use Rattle.numbers.specs.Bytes.{width, numbers, allBelow};
+ghost use Rattle.field.specs.Mod.{mul};
 ghost use Rattle.field.specs.Field.{Is, Ready};
 ghost use Rattle.sharing_laws.specs.Poly.{eval};
 ghost use Rattle.sharing_laws.specs.Sharing.{deal};
-ghost use Rattle.plan.specs.Plans.{partyCount, dealerCount, multiplies, isInputOf, inputWires, outWires, ownInputCount};
+ghost use Rattle.plan.specs.declared.Gate.the-variants.{Multiply};
+ghost use Rattle.plan.specs.declared.Step.the-variants.{DealInputs, DealProduct, SendOuts};
+ghost use Rattle.plan.specs.Plans.{isInputOf, inputWires, outWires, lastCall, sentBy};
 ghost use Rattle.plan.specs.File.{planOf};
 ghost use Rattle.plan.specs.Planned.{Planned};
 ghost use Rattle.seat_messages.specs.Calls.{written};
-ghost use Rattle.seat_messages.specs.Messages.{callWith, productAt, sendInputs, sendProduct, sendOuts};
-ghost use Rattle.seat_sending.specs.Sending.{Sent, Dealing, Coined, Own, Lent, coinsFrom, inputShares, outShares};
+ghost use Rattle.plan_counts.specs.Counts.{IsGate, Stepped};
+ghost use Rattle.seat_messages.specs.Messages.{callWith, sendAt};
+ghost use Rattle.seat_sending.specs.Sending.{Sent, Dealing, Coined, Own, Lent, Sendable, coinsFrom, inputShares, outShares};
 
 // The coefficients of a dealing: the dealt value, then t coins.
 fn polynomial(t: usize, secret: u64, coins: &[u8], at: usize) -> [u64; 8]
@@ -48,7 +52,7 @@ fn share(f: Field, t: usize, secret: u64, coins: &[u8], at: usize, x: u64) -> u6
     sharing::value(f, &coefficients[..top], x)
 }
 
-// ---- call 0: the party's own inputs
+// ---- the party's own inputs
 
 // Writes party i's share at x of a gate that is an input of its own; answers the next place.
 fn send_input(
@@ -97,8 +101,8 @@ fn send_inputs_to(
     while g < h.gates {
         let gate = plan::gate_in(plan, g);
         let secret = numbers::read(inputs, place - at);
-        place = send_input(h, i, gate, secret, coins, h.t * k, x, place, out);
-        k += numbers::one_if(plan_counts::is_dealer(plan, h, i, gate));
+        place = send_input(h, i, gate, secret, coins, k, x, place, out);
+        k += plan_counts::own_coins_at(plan, h, i, gate);
         g += 1;
     }
     place
@@ -108,10 +112,10 @@ fn send_inputs_to(
 fn send_inputs(plan: &[u8], h: Header, i: usize, inputs: &[u8], coins: &[u8], out: &mut [u8])
     requires { ⌜ Planned (now plan) h ⌝ }
     requires { ⌜ Own (planOf (now plan)) i (now inputs) (now coins) ⌝ }
-    requires { ⌜ length (now out) ≡ 2 * (partyCount (planOf (now plan)) * ownInputCount (planOf (now plan)) i) ⌝ }
-    ensures { λ _. ⌜ numbers (now (out .exit)) ≡ flatMap (λ l. l) (sendInputs (planOf (now (plan .entry))) i (numbers (now (inputs .entry))) (numbers (now (coins .entry)))) ⌝ }
+    requires { ⌜ length (now out) ≡ width * sentBy (planOf (now plan)) i DealInputs ⌝ }
+    ensures { λ _. ⌜ numbers (now (out .exit)) ≡ flatMap (λ l. l) (sendAt (planOf (now (plan .entry))) i DealInputs (numbers (now (inputs .entry))) (numbers (now (coins .entry))) [] [] []) ⌝ }
 {
-    let points = seat_messages::points();
+    let points = seat_messages::points_of(plan, h);
     let mut at: usize = 0;
     let mut j: usize = 0;
     while j < h.n {
@@ -120,32 +124,25 @@ fn send_inputs(plan: &[u8], h: Header, i: usize, inputs: &[u8], coins: &[u8], ou
     }
 }
 
-// ---- calls 1 to M: the product of a multiply gate's shares
+// ---- the product of a multiply gate's shares
 
-// The product of a multiply gate's two shares.
-fn product(f: Field, gate: Gate, shares: &[u8]) -> u64
+// The product of two wires' shares.
+fn product(f: Field, a: usize, b: usize, shares: &[u8]) -> u64
     requires { ⌜ Ready (f .p) ⌝ }
     requires { ⌜ allBelow (f .p) (numbers (now shares)) ≡ true ⌝ }
-    ensures { λ r. ⌜ Is (f .p) (productAt (f .p) gate (numbers (now (shares .entry)))) r ⌝ }
+    ensures { λ r. ⌜ Is (f .p) (mul (f .p) (getD (numbers (now (shares .entry))) a 0) (getD (numbers (now (shares .entry))) b 0)) r ⌝ }
 {
-    match gate {
-        Gate::Input(_) => 0,
-        Gate::Add(_, _) => 0,
-        Gate::Scale(_, _) => 0,
-        Gate::Offset(_, _) => 0,
-        Gate::Multiply(a, b) => f.mul(numbers::read(shares, a), numbers::read(shares, b)),
-    }
+    f.mul(numbers::read(shares, a), numbers::read(shares, b))
 }
 
 // Writes the dealing of a value, one share a party.
-fn deal(h: Header, secret: u64, coins: &[u8], from: usize, out: &mut [u8])
+fn deal(plan: &[u8], h: Header, secret: u64, coins: &[u8], from: usize, out: &mut [u8])
+    requires { ⌜ Planned (now plan) h ⌝ }
     requires { ⌜ Dealing (h .field .p) (h .t) secret (numbers (now coins)) from ⌝ }
-    requires { ⌜ h .n ≤ 15 ⌝ }
-    requires { ⌜ h .n < h .field .p ⌝ }
-    requires { ⌜ length (now out) ≡ 2 * h .n ⌝ }
-    ensures { λ _. ⌜ numbers (now (out .exit)) ≡ deal (h .field .p) secret (coinsFrom (h .t) from (numbers (now (coins .entry)))) (tab suc (h .n)) ⌝ }
+    requires { ⌜ length (now out) ≡ width * h .n ⌝ }
+    ensures { λ _. ⌜ numbers (now (out .exit)) ≡ deal (h .field .p) secret (coinsFrom (h .t) from (numbers (now (coins .entry)))) (planOf (now (plan .entry)) .points) ⌝ }
 {
-    let points = seat_messages::points();
+    let points = seat_messages::points_of(plan, h);
     let coefficients = polynomial(h.t, secret, coins, from);
     let top = h.t + 1;
     let mut j: usize = 0;
@@ -156,33 +153,35 @@ fn deal(h: Header, secret: u64, coins: &[u8], from: usize, out: &mut [u8])
     }
 }
 
-// Writes the dealing of the product at multiply gate k if party i is one of the 2t + 1 dealers.
+// Writes the dealing of the product of wires a and b, at gate g, if party i is one of the 2t + 1 dealers.
 fn send_product(
     plan: &[u8],
     h: Header,
     i: usize,
-    k: usize,
+    g: usize,
+    a: usize,
+    b: usize,
     coins: &[u8],
     shares: &[u8],
     out: &mut [u8],
 )
     requires { ⌜ Planned (now plan) h ⌝ }
-    requires { ⌜ k < multiplies (planOf (now plan)) ⌝ }
+    requires { ⌜ 1 ≤ i ⌝ }
+    requires { ⌜ IsGate (planOf (now plan)) g (Multiply a b) ⌝ }
     requires { ⌜ Coined (planOf (now plan)) i (now coins) ⌝ }
     requires { ⌜ allBelow (planOf (now plan) .p) (numbers (now shares)) ≡ true ⌝ }
-    requires { ⌜ length (now out) ≡ 2 * cond (leb i (dealerCount (planOf (now plan)))) (partyCount (planOf (now plan))) 0 ⌝ }
-    ensures { λ _. ⌜ numbers (now (out .exit)) ≡ flatMap (λ l. l) (sendProduct (planOf (now (plan .entry))) i k (numbers (now (coins .entry))) (numbers (now (shares .entry)))) ⌝ }
+    requires { ⌜ length (now out) ≡ width * sentBy (planOf (now plan)) i (DealProduct g a b) ⌝ }
+    ensures { λ _. ⌜ numbers (now (out .exit)) ≡ flatMap (λ l. l) (sendAt (planOf (now (plan .entry))) i (DealProduct g a b) [] (numbers (now (coins .entry))) [] (numbers (now (shares .entry))) []) ⌝ }
 {
     if h.t + h.t + 1 < i {
         return;
     }
-    let g = plan_counts::multiply_wire(plan, h, k);
-    let secret = product(h.field, plan::gate_in(plan, g), shares);
-    let d = plan_counts::dealings_below(plan, h, i, g);
-    deal(h, secret, coins, h.t * d, out);
+    let secret = product(h.field, a, b, shares);
+    let from = plan_counts::coins_below(plan, h, i, g);
+    deal(plan, h, secret, coins, from, out);
 }
 
-// ---- call M + 1: the shares of the outs
+// ---- the shares of the outs
 
 // Writes the share of an out that is the party's; answers the next place.
 fn send_out(party: usize, output: Output, shares: &[u8], place: usize, out: &mut [u8]) -> usize
@@ -221,8 +220,8 @@ fn send_outs_to(
 // Writes the share of each out to that out's party, by receiving party.
 fn send_outs(plan: &[u8], h: Header, shares: &[u8], out: &mut [u8])
     requires { ⌜ Planned (now plan) h ⌝ }
-    requires { ⌜ length (now out) ≡ 2 * h .outs ⌝ }
-    ensures { λ _. ⌜ numbers (now (out .exit)) ≡ flatMap (λ l. l) (sendOuts (planOf (now (plan .entry))) (numbers (now (shares .entry)))) ⌝ }
+    requires { ⌜ length (now out) ≡ width * h .outs ⌝ }
+    ensures { λ _. ⌜ numbers (now (out .exit)) ≡ flatMap (λ l. l) (sendAt (planOf (now (plan .entry))) 0 SendOuts [] [] [] (numbers (now (shares .entry))) []) ⌝ }
 {
     let mut at: usize = 0;
     let mut j: usize = 0;
@@ -234,11 +233,40 @@ fn send_outs(plan: &[u8], h: Header, shares: &[u8], out: &mut [u8])
 
 // ---- the call
 
-// Writes what party i's call number k sends, or in the last call its results. The plan has m multiplies.
+// Writes what party i sends in a step.
+fn send_step(
+    plan: &[u8],
+    h: Header,
+    i: usize,
+    step: Step,
+    inputs: &[u8],
+    coins: &[u8],
+    shares: &[u8],
+    mail: &[u8],
+    out: &mut [u8],
+)
+    requires { ⌜ Planned (now plan) h ⌝ }
+    requires { ⌜ Stepped (planOf (now plan)) step ⌝ }
+    requires { ⌜ Sendable (planOf (now plan)) i step (now inputs) (now coins) (now shares) (now out) ⌝ }
+    ensures { λ _. ⌜ numbers (now (out .exit)) ≡ flatMap (λ l. l) (sendAt (planOf (now (plan .entry))) i step (numbers (now (inputs .entry))) (numbers (now (coins .entry))) [] (numbers (now (shares .entry))) (numbers (now (mail .entry)))) ⌝ }
+{
+    match step {
+        Step::DealInputs => send_inputs(plan, h, i, inputs, coins, out),
+        Step::DealProduct(g, a, b) => send_product(plan, h, i, g, a, b, coins, shares, out),
+        Step::DealZero(_) => {}
+        Step::DealMasked(_, _, _) => {}
+        Step::SendTruncated(_) => {}
+        Step::DealDraws(_) => {}
+        Step::OpenSpent(_, _, _) => {}
+        Step::SendOuts => send_outs(plan, h, shares, out),
+    }
+}
+
+// Writes what party i's call number k sends, or in the last call its results.
 pub fn send(
     plan: &[u8],
     h: Header,
-    m: usize,
+    last: usize,
     i: usize,
     k: usize,
     inputs: &[u8],
@@ -248,21 +276,14 @@ pub fn send(
     out: &mut [u8],
 )
     requires { ⌜ Planned (now plan) h ⌝ }
-    requires { ⌜ m ≡ multiplies (planOf (now plan)) ⌝ }
+    requires { ⌜ last ≡ lastCall (planOf (now plan)) ⌝ }
     requires { ⌜ Lent (planOf (now plan)) i k (now inputs) (now coins) (now shares) (now mail) (now out) ⌝ }
-    ensures { λ _. ⌜ numbers (now (out .exit)) ≡ written (planOf (now (plan .entry))) k (callWith (planOf (now (plan .entry))) i k (numbers (now (inputs .entry))) (numbers (now (coins .entry))) (numbers (now (shares .entry))) (numbers (now (mail .entry)))) ⌝ }
+    ensures { λ _. ⌜ numbers (now (out .exit)) ≡ written (planOf (now (plan .entry))) k (callWith (planOf (now (plan .entry))) i k (numbers (now (inputs .entry))) (numbers (now (coins .entry))) [] (numbers (now (shares .entry))) (numbers (now (mail .entry)))) ⌝ }
 {
-    if k == 0 {
-        send_inputs(plan, h, i, inputs, coins, out);
+    if k == last {
+        seat_results::results(plan, h, mail, out);
         return;
     }
-    if k <= m {
-        send_product(plan, h, i, k - 1, coins, shares, out);
-        return;
-    }
-    if k == m + 1 {
-        send_outs(plan, h, shares, out);
-        return;
-    }
-    seat_results::results(plan, h, mail, out);
+    let step = plan_counts::step_at(plan, h, k);
+    send_step(plan, h, i, step, inputs, coins, shares, mail, out);
 }

@@ -6,4 +6,16 @@ pub mod Shares
 pub mod Worked
 pub mod Elements
 pub mod Alls
+pub mod Lists
+pub mod Openings
+pub mod Cuts
+pub mod Bases
+pub mod Zeros
+pub mod Steps
+pub mod Sums
+pub mod Reduced
+pub mod ReducedPrivate
+pub mod ReducedStep
+pub mod Draws
+pub mod Triples
 pub mod OffLine

@@ -12,10 +12,6 @@ use Rattle.sharing_laws.specs.Poly.{linear}
 unfoldable pub factor : ℕ → ℕ → ℕ → ℕ → ℕ
 factor p z x y = cond (eqb x y) 1 (mul p (sub p z y) (inv p (sub p x y)))
 
--- the numerator of a factor, at a = z, and its denominator, at a = x: a - y, and 1 where y is x itself
-unfoldable pub apart : ℕ → ℕ → ℕ → ℕ → ℕ
-apart p a x y = cond (eqb x y) 1 (sub p a y)
-
 -- the weight of x at z, among the points ys
 unfoldable pub weight : ℕ → ℕ → List ℕ → ℕ → ℕ
 weight p z [] x = 1
@@ -29,12 +25,6 @@ unfoldable pub dot : ℕ → List ℕ → List ℕ → ℕ
 dot p [] vs = 0
 dot p (w ∷ ws) [] = 0
 dot p (w ∷ ws) (v ∷ vs) = add p (mul p w v) (dot p ws vs)
-
--- the same as it stands, not reduced
-unfoldable pub plainSum : List ℕ → List ℕ → ℕ
-plainSum [] vs = 0
-plainSum (w ∷ ws) [] = 0
-plainSum (w ∷ ws) (v ∷ vs) = w * v + plainSum ws vs
 
 -- the value at z of the polynomial that has the values vs at the points xs
 unfoldable pub interpolate : ℕ → ℕ → List ℕ → List ℕ → ℕ
@@ -53,3 +43,14 @@ Distinct p (x ∷ xs) = All (λ y. y % p ≢ x % p) xs × Distinct p xs
 unfoldable pub delta : ℕ → List ℕ → List ℕ
 delta p [] = 1 ∷ []
 delta p (c ∷ cs) = linear p 1 (sub p 0 (inv p c)) (delta p cs)
+
+-- ---- for the code alone: no other definition and no demand cites these
+-- the numerator of a factor, at a = z, and its denominator, at a = x: a - y, and 1 where y is x itself
+unfoldable pub apart : ℕ → ℕ → ℕ → ℕ → ℕ
+apart p a x y = cond (eqb x y) 1 (sub p a y)
+
+-- the same as it stands, not reduced
+unfoldable pub plainSum : List ℕ → List ℕ → ℕ
+plainSum [] vs = 0
+plainSum (w ∷ ws) [] = 0
+plainSum (w ∷ ws) (v ∷ vs) = w * v + plainSum ws vs

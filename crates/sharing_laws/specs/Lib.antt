@@ -1,4 +1,5 @@
 pub mod Poly
 pub mod Interp
 pub mod Sharing
+pub mod Basis
 pub mod OffLine

@@ -25,6 +25,7 @@ product p (a ∷ f) g = sumOf p (scale p a g) (0 ∷ product p f g)
 unfoldable pub linear : ℕ → ℕ → ℕ → List ℕ → List ℕ
 linear p a b f = sumOf p (scale p a f) (0 ∷ scale p b f)
 
+-- ---- for the code alone: no other definition and no demand cites these
 -- the first coefficients of c·b + (1 + b·X)·f, as many as f has: each takes b times the one before it, and the first takes b·c
 unfoldable pub carried : ℕ → ℕ → ℕ → List ℕ → List ℕ
 carried p b c [] = []

@@ -21,6 +21,17 @@ unfoldable pub firstOff : ℕ → ℕ → List ℕ → List ℕ → Found
 firstOff p t points shares =
     firstFailing (λ i. eqb (getD shares i 0) (interpolate p (getD points i 0) (take (t + 1) points) shares)) (length points)
 
+-- the weighted sum of polynomials
+unfoldable pub mixture : ℕ → List ℕ → List (List ℕ) → List ℕ
+mixture p [] fs = []
+mixture p (w ∷ ws) [] = []
+mixture p (w ∷ ws) (f ∷ fs) = sumOf p (scale p w f) (mixture p ws fs)
+
+-- the coins of the matched dealing, whose dealt value is d more: d times delta's coefficient of X^j, added to coin j
+unfoldable pub matched : ℕ → List ℕ → ℕ → List ℕ → List ℕ
+matched p cs d coins = sumOf p coins (scale p d (tail (delta p cs)))
+
+-- ---- for the code alone: no other definition and no demand cites these
 -- g 0, then g 1, .. n rows
 unfoldable pub rowsOf : (ℕ → List ℕ) → ℕ → List ℕ
 rowsOf g zero = []
@@ -32,13 +43,3 @@ openingRow p t points i = weights p (getD points i 0) (take (t + 1) points)
 
 unfoldable pub openingRows : ℕ → ℕ → List ℕ → List ℕ
 openingRows p t points = rowsOf (openingRow p t points) (length points)
-
--- the weighted sum of polynomials
-unfoldable pub mixture : ℕ → List ℕ → List (List ℕ) → List ℕ
-mixture p [] fs = []
-mixture p (w ∷ ws) [] = []
-mixture p (w ∷ ws) (f ∷ fs) = sumOf p (scale p w f) (mixture p ws fs)
-
--- the coins of the matched dealing, whose dealt value is d more: d times delta's coefficient of X^j, added to coin j
-unfoldable pub matched : ℕ → List ℕ → ℕ → List ℕ → List ℕ
-matched p cs d coins = sumOf p coins (scale p d (tail (delta p cs)))

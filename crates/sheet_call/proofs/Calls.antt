@@ -29,7 +29,7 @@ use Rattle.seat_messages.specs.Calls.{unlessRefused}
 use Rattle.sheet_text.specs.Trees.{namesOf, gateCount}
 use Rattle.sheet_text.specs.Making.{sheetTree, sheetOk, treeMade, bodiesWith, treeBodies}
 use Rattle.sheet_text.proofs.Proper.{some-name, sheet-below}
-use Rattle.sheet_text.proofs.Sound.{made-long, made-gates, made-wire}
+use Rattle.sheet_text.proofs.Sound.{made-long, made-gates, made-wire, made-kinds}
 use Rattle.sheet_write.specs.declared.Survey.{Survey}
 use Rattle.sheet_write.specs.declared.Survey.the-variants as survey
 use Rattle.sheet_write.specs.Passes.{tableOf, upTo, SurveyIs, Surveyed, Compilable}
@@ -93,6 +93,7 @@ module _ (n t p i : ℕ) (text : List ℕ) (ok : sheetOk n p text ≡ true) wher
   sheet-wired two =
       let below = sheet-below n p text (omega arith) in
       record {
+        low = λ g l. made-kinds p (sheetTree n p text) g;
         gates = made-gates n p (sheetTree n p text) (omega arith) below names-some;
         wires = λ o l. one o l (made-wire n p (sheetTree n p text) (omega arith) below names-some);
       }

@@ -12,83 +12,83 @@ use lib.Seq.{getD-append-seam}
 use Rattle.field.specs.Mod.{add, mul, sub}
 use Rattle.plan.specs.declared.Gate.{Gate}
 use Rattle.plan.specs.declared.Gate.the-variants.{Input, Add, Scale, Offset, Multiply}
-use Rattle.plan.specs.Plans.{isInput}
+use Rattle.plan.specs.Plans.{Plan, inputOwnersAt}
 use Rattle.run_protocol.specs.Ideal.{inputsTaken, gateValue, valuesFrom}
 use Rattle.sheet_text.specs.Trees.{Tree, nameIndex, formulaValue, Emitted, ending, emitNumber, emitPlus, emitTimes, emitMinus, rightAfter, emit, inputGates}
 
 -- the inputs that gates take
-taken : List Gate → List ℕ → List ℕ
-taken [] xs = xs
-taken (g ∷ gs) xs = taken gs (drop (inputsTaken g) xs)
+taken : Plan → List Gate → List ℕ → List ℕ
+taken plan [] xs = xs
+taken plan (g ∷ gs) xs = taken plan gs (drop (inputsTaken plan g) xs)
 
 -- gates after gates
-after : (p : ℕ) (gs hs : List Gate) (env xs : List ℕ) → valuesFrom p (gs ++ hs) env xs ≡ valuesFrom p hs (valuesFrom p gs env xs) (taken gs xs)
+after : (plan : Plan) (gs hs : List Gate) (env xs : List ℕ) → valuesFrom plan (gs ++ hs) env xs ≡ valuesFrom plan hs (valuesFrom plan gs env xs) (taken plan gs xs)
 unfolding valuesFrom taken
-after p [] hs env xs = refl
-after p (g ∷ gs) hs env xs = after p gs hs (env ++ (gateValue p g env (getD xs 0 0) ∷ [])) (drop (inputsTaken g) xs)
+after plan [] hs env xs = refl
+after plan (g ∷ gs) hs env xs = after plan gs hs (env ++ (gateValue plan g env xs ∷ [])) (drop (inputsTaken plan g) xs)
 
-long : (p : ℕ) (gs : List Gate) (env xs : List ℕ) → length (valuesFrom p gs env xs) ≡ length env + length gs
+long : (plan : Plan) (gs : List Gate) (env xs : List ℕ) → length (valuesFrom plan gs env xs) ≡ length env + length gs
 unfolding valuesFrom
-long p [] env xs = omega arith
-long p (g ∷ gs) env xs =
-    omega (arith, long p gs (env ++ (gateValue p g env (getD xs 0 0) ∷ [])) (drop (inputsTaken g) xs), length-append env (gateValue p g env (getD xs 0 0) ∷ []))
+long plan [] env xs = omega arith
+long plan (g ∷ gs) env xs =
+    omega (arith, long plan gs (env ++ (gateValue plan g env xs ∷ [])) (drop (inputsTaken plan g) xs), length-append env (gateValue plan g env xs ∷ []))
 
 -- all wires of these gates
-values : ℕ → List ℕ → List Gate → List ℕ
-values p xs gs = valuesFrom p gs [] xs
+values : Plan → List ℕ → List Gate → List ℕ
+values plan xs gs = valuesFrom plan gs [] xs
 
-values-long : (p : ℕ) (xs : List ℕ) (gs : List Gate) → length (values p xs gs) ≡ length gs
+values-long : (plan : Plan) (xs : List ℕ) (gs : List Gate) → length (values plan xs gs) ≡ length gs
 unfolding values
-values-long p xs gs = omega (arith, long p gs [] xs)
+values-long plan xs gs = omega (arith, long plan gs [] xs)
 
 -- one gate more
-one-more : (p : ℕ) (xs : List ℕ) (gs : List Gate) (g : Gate) → values p xs (gs ++ (g ∷ [])) ≡ values p xs gs ++ (gateValue p g (values p xs gs) (getD (taken gs xs) 0 0) ∷ [])
+one-more : (plan : Plan) (xs : List ℕ) (gs : List Gate) (g : Gate) → values plan xs (gs ++ (g ∷ [])) ≡ values plan xs gs ++ (gateValue plan g (values plan xs gs) (taken plan gs xs) ∷ [])
 unfolding values valuesFrom
-one-more p xs gs g = after p gs (g ∷ []) [] xs
+one-more plan xs gs g = after plan gs (g ∷ []) [] xs
 
 -- wires stay as they are
-record Grown (p : ℕ) (xs : List ℕ) (gs hs : List Gate) : Type 0 where
+record Grown (plan : Plan) (xs : List ℕ) (gs hs : List Gate) : Type 0 where
   pub longer : length gs ≤ length hs
-  pub kept : (w : ℕ) → w < length gs → getD (values p xs hs) w 0 ≡ getD (values p xs gs) w 0
+  pub kept : (w : ℕ) → w < length gs → getD (values plan xs hs) w 0 ≡ getD (values plan xs gs) w 0
 
-same-grown : (p : ℕ) (xs : List ℕ) (gs : List Gate) → Grown p xs gs gs
-same-grown p xs gs = record { longer = omega arith; kept = λ w l. refl }
+same-grown : (plan : Plan) (xs : List ℕ) (gs : List Gate) → Grown plan xs gs gs
+same-grown plan xs gs = record { longer = omega arith; kept = λ w l. refl }
 
-then : {p : ℕ} {xs : List ℕ} {fs gs hs : List Gate} → Grown p xs fs gs → Grown p xs gs hs → Grown p xs fs hs
+then : {plan : Plan} {xs : List ℕ} {fs gs hs : List Gate} → Grown plan xs fs gs → Grown plan xs gs hs → Grown plan xs fs hs
 then a b = record { longer = omega (arith, a .longer, b .longer); kept = λ w l. b .kept w (omega (arith, a .longer)) ∙ a .kept w l }
 
-module _ (p : ℕ) (xs : List ℕ) (gs : List Gate) (g : Gate) where
-  grown : Grown p xs gs (ending gs g .gates)
+module _ (plan : Plan) (xs : List ℕ) (gs : List Gate) (g : Gate) where
+  grown : Grown plan xs gs (ending gs g .gates)
   unfolding ending
   grown = record {
     longer = omega (arith, length-append gs (g ∷ []));
-    kept = λ w l. ap (λ (v : List ℕ). getD v w 0) (one-more p xs gs g) ∙ List·getD-append (values p xs gs) _ 0 w (omega (arith, values-long p xs gs));
+    kept = λ w l. ap (λ (v : List ℕ). getD v w 0) (one-more plan xs gs g) ∙ List·getD-append (values plan xs gs) _ 0 w (omega (arith, values-long plan xs gs));
   }
 
   last-in : ending gs g .wire < length (ending gs g .gates)
   unfolding ending
   last-in = omega (arith, length-append gs (g ∷ []))
 
-  last-value : getD (values p xs (ending gs g .gates)) (ending gs g .wire) 0 ≡ gateValue p g (values p xs gs) (getD (taken gs xs) 0 0)
+  last-value : getD (values plan xs (ending gs g .gates)) (ending gs g .wire) 0 ≡ gateValue plan g (values plan xs gs) (taken plan gs xs)
   unfolding ending
   last-value =
-      ap (λ (v : List ℕ). getD v (length gs) 0) (one-more p xs gs g)
-      ∙ ap (λ (k : ℕ). getD (values p xs gs ++ (gateValue p g (values p xs gs) (getD (taken gs xs) 0 0) ∷ [])) k 0) (sym (values-long p xs gs))
-      ∙ getD-append-seam (values p xs gs) _ [] 0
+      ap (λ (v : List ℕ). getD v (length gs) 0) (one-more plan xs gs g)
+      ∙ ap (λ (k : ℕ). getD (values plan xs gs ++ (gateValue plan g (values plan xs gs) (taken plan gs xs) ∷ [])) k 0) (sym (values-long plan xs gs))
+      ∙ getD-append-seam (values plan xs gs) _ [] 0
 
 -- what is to be shown of emitted gates: the wires before stay, and the wire holds v
-record Makes (p : ℕ) (xs : List ℕ) (gs : List Gate) (e : Emitted) (v : ℕ) : Type 0 where
-  pub grows : Grown p xs gs (e .gates)
+record Makes (plan : Plan) (xs : List ℕ) (gs : List Gate) (e : Emitted) (v : ℕ) : Type 0 where
+  pub grows : Grown plan xs gs (e .gates)
   pub within : e .wire < length (e .gates)
-  pub value : getD (values p xs (e .gates)) (e .wire) 0 ≡ v
+  pub value : getD (values plan xs (e .gates)) (e .wire) 0 ≡ v
 
 -- the first wires are the figures
-record Based (p : ℕ) (xs : List ℕ) (names : List ℕ) (gs : List Gate) : Type 0 where
+record Based (plan : Plan) (xs : List ℕ) (names : List ℕ) (gs : List Gate) : Type 0 where
   pub some : 1 ≤ length names
   pub there : length names ≤ length gs
-  pub figures : (i : ℕ) → i < length names → getD (values p xs gs) i 0 ≡ getD xs i 0
+  pub figures : (i : ℕ) → i < length names → getD (values plan xs gs) i 0 ≡ getD xs i 0
 
-based : {p : ℕ} {xs : List ℕ} {names : List ℕ} {gs hs : List Gate} → Grown p xs gs hs → Based p xs names gs → Based p xs names hs
+based : {plan : Plan} {xs : List ℕ} {names : List ℕ} {gs hs : List Gate} → Grown plan xs gs hs → Based plan xs names gs → Based plan xs names hs
 based g b = record { some = b .some; there = omega (arith, g .longer, b .there); figures = λ i l. g .kept i (omega (arith, b .there)) ∙ b .figures i l }
 
 -- numbers are below p, and names are known
@@ -110,36 +110,36 @@ minus-is p u v o = canon-same (add-canon u (mul p v (p - 1))) (sub-canon u v) (c
     lhs = plus (add-same p u (mul p v (p - 1)) ⨾ plus (same refl) (mul-same p v (p - 1))) (same refl) ⨾ same-by 0 v (omega (arith, whole))
 
 -- two sides and the gate that joins them
-module _ (p : ℕ) (xs : List ℕ) (gs : List Gate) (l r : Emitted) (u v : ℕ) (a : Makes p xs gs l u) (b : Makes p xs (l .gates) r v) where
-  left-kept : getD (values p xs (r .gates)) (l .wire) 0 ≡ u
+module _ (plan : Plan) (xs : List ℕ) (gs : List Gate) (l r : Emitted) (u v : ℕ) (a : Makes plan xs gs l u) (b : Makes plan xs (l .gates) r v) where
+  left-kept : getD (values plan xs (r .gates)) (l .wire) 0 ≡ u
   left-kept = b .grows .kept (l .wire) (a .within) ∙ a .value
 
-  plus-makes : Makes p xs gs (emitPlus l r) (add p u v)
+  plus-makes : Makes plan xs gs (emitPlus l r) (add (plan .p) u v)
   unfolding emitPlus gateValue
   plus-makes = record {
-    grows = then (a .grows) (then (b .grows) (grown p xs (r .gates) (Add (l .wire) (r .wire))));
-    within = last-in p xs (r .gates) (Add (l .wire) (r .wire));
-    value = last-value p xs (r .gates) (Add (l .wire) (r .wire)) ∙ rw (left-kept, b .value);
+    grows = then (a .grows) (then (b .grows) (grown plan xs (r .gates) (Add (l .wire) (r .wire))));
+    within = last-in plan xs (r .gates) (Add (l .wire) (r .wire));
+    value = last-value plan xs (r .gates) (Add (l .wire) (r .wire)) ∙ rw (left-kept, b .value);
   }
 
-  times-makes : Makes p xs gs (emitTimes l r) (mul p u v)
+  times-makes : Makes plan xs gs (emitTimes l r) (mul (plan .p) u v)
   unfolding emitTimes gateValue
   times-makes = record {
-    grows = then (a .grows) (then (b .grows) (grown p xs (r .gates) (Multiply (l .wire) (r .wire))));
-    within = last-in p xs (r .gates) (Multiply (l .wire) (r .wire));
-    value = last-value p xs (r .gates) (Multiply (l .wire) (r .wire)) ∙ rw (left-kept, b .value);
+    grows = then (a .grows) (then (b .grows) (grown plan xs (r .gates) (Multiply (l .wire) (r .wire))));
+    within = last-in plan xs (r .gates) (Multiply (l .wire) (r .wire));
+    value = last-value plan xs (r .gates) (Multiply (l .wire) (r .wire)) ∙ rw (left-kept, b .value);
   }
 
-  minus-makes : 1 ≤ p → Makes p xs gs (emitMinus p l r) (sub p u v)
+  minus-makes : 1 ≤ plan .p → Makes plan xs gs (emitMinus (plan .p) l r) (sub (plan .p) u v)
   unfolding emitMinus gateValue ending
   minus-makes o = record {
-    grows = then (a .grows) (then (b .grows) (then (grown p xs (r .gates) neg) (grown p xs hs join)));
-    within = last-in p xs hs join;
-    value = last-value p xs hs join ∙ rw (left-stays, negated) (minus-is p u v o);
+    grows = then (a .grows) (then (b .grows) (then (grown plan xs (r .gates) neg) (grown plan xs hs join)));
+    within = last-in plan xs hs join;
+    value = last-value plan xs hs join ∙ rw (left-stays, negated) (minus-is (plan .p) u v o);
   }
     where
       neg : Gate
-      neg = Scale (r .wire) (p - 1)
+      neg = Scale (r .wire) (plan .p - 1)
 
       hs : List Gate
       hs = r .gates ++ (neg ∷ [])
@@ -147,23 +147,23 @@ module _ (p : ℕ) (xs : List ℕ) (gs : List Gate) (l r : Emitted) (u v : ℕ) 
       join : Gate
       join = Add (l .wire) (length (r .gates))
 
-      left-stays : getD (values p xs hs) (l .wire) 0 ≡ u
-      left-stays = grown p xs (r .gates) neg .kept (l .wire) (omega (arith, a .within, b .grows .longer)) ∙ left-kept
+      left-stays : getD (values plan xs hs) (l .wire) 0 ≡ u
+      left-stays = grown plan xs (r .gates) neg .kept (l .wire) (omega (arith, a .within, b .grows .longer)) ∙ left-kept
 
-      negated : getD (values p xs hs) (length (r .gates)) 0 ≡ mul p v (p - 1)
-      negated = last-value p xs (r .gates) neg ∙ rw (b .value)
+      negated : getD (values plan xs hs) (length (r .gates)) 0 ≡ mul (plan .p) v (plan .p - 1)
+      negated = last-value plan xs (r .gates) neg ∙ rw (b .value)
 
 -- a number is the first input scaled by 0, then offset
 number-is : (p a v : ℕ) → v < p → add p (mul p a 0) v ≡ v
 unfolding add mul
 number-is p a v l = let e : 0 + v ≡ v = omega arith in rw (mul-zero a, zero-mod p, e) (mod-eq-of-lt l)
 
-number-makes : (p : ℕ) (xs : List ℕ) (gs : List Gate) (v : ℕ) → v < p → Makes p xs gs (emitNumber gs v) v
+number-makes : (plan : Plan) (xs : List ℕ) (gs : List Gate) (v : ℕ) → v < plan .p → Makes plan xs gs (emitNumber gs v) v
 unfolding emitNumber gateValue ending
-number-makes p xs gs v l = record {
-  grows = then (grown p xs gs nought) (grown p xs hs (Offset (length gs) v));
-  within = last-in p xs hs (Offset (length gs) v);
-  value = last-value p xs hs (Offset (length gs) v) ∙ rw scaled (number-is p (getD (values p xs gs) 0 0) v l);
+number-makes plan xs gs v l = record {
+  grows = then (grown plan xs gs nought) (grown plan xs hs (Offset (length gs) v));
+  within = last-in plan xs hs (Offset (length gs) v);
+  value = last-value plan xs hs (Offset (length gs) v) ∙ rw scaled (number-is (plan .p) (getD (values plan xs gs) 0 0) v l);
 }
   where
     nought : Gate
@@ -172,32 +172,32 @@ number-makes p xs gs v l = record {
     hs : List Gate
     hs = gs ++ (nought ∷ [])
 
-    scaled : getD (values p xs hs) (length gs) 0 ≡ mul p (getD (values p xs gs) 0 0) 0
-    scaled = last-value p xs gs nought
+    scaled : getD (values plan xs hs) (length gs) 0 ≡ mul (plan .p) (getD (values plan xs gs) 0 0) 0
+    scaled = last-value plan xs gs nought
 
 -- ---- every formula
-module _ (p : ℕ) (xs : List ℕ) (names : List ℕ) (o : 1 ≤ p) where
-  makes : (x : Tree) (gs : List Gate) → Proper p names x → Based p xs names gs → Makes p xs gs (emit p names x gs) (formulaValue p names xs x)
+module _ (plan : Plan) (xs : List ℕ) (names : List ℕ) (o : 1 ≤ plan .p) where
+  makes : (x : Tree) (gs : List Gate) → Proper (plan .p) names x → Based plan xs names gs → Makes plan xs gs (emit (plan .p) names x gs) (formulaValue (plan .p) names xs x)
   unfolding emit formulaValue Proper rightAfter
-  makes (Tree.Number v) gs h b = number-makes p xs gs v h
-  makes (Tree.Name c) gs h b = record { grows = same-grown p xs gs; within = omega (arith, h, b .there); value = b .figures (nameIndex c names) h }
+  makes (Tree.Number v) gs h b = number-makes plan xs gs v h
+  makes (Tree.Name c) gs h b = record { grows = same-grown plan xs gs; within = omega (arith, h, b .there); value = b .figures (nameIndex c names) h }
   makes (Tree.Plus l r) gs h b =
       let a = makes l gs (h .0) b in
-      plus-makes p xs gs _ _ _ _ a (makes r (emit p names l gs .gates) (h .1) (based (a .grows) b))
+      plus-makes plan xs gs _ _ _ _ a (makes r (emit (plan .p) names l gs .gates) (h .1) (based (a .grows) b))
   makes (Tree.Minus l r) gs h b =
       let a = makes l gs (h .0) b in
-      minus-makes p xs gs _ _ _ _ a (makes r (emit p names l gs .gates) (h .1) (based (a .grows) b)) o
+      minus-makes plan xs gs _ _ _ _ a (makes r (emit (plan .p) names l gs .gates) (h .1) (based (a .grows) b)) o
   makes (Tree.Times l r) gs h b =
       let a = makes l gs (h .0) b in
-      times-makes p xs gs _ _ _ _ a (makes r (emit p names l gs .gates) (h .1) (based (a .grows) b))
+      times-makes plan xs gs _ _ _ _ a (makes r (emit (plan .p) names l gs .gates) (h .1) (based (a .grows) b))
 
 -- ---- the input gates
-inputs-values : (p : ℕ) (names : List ℕ) (env xs : List ℕ) → length xs ≡ length names → valuesFrom p (inputGates names) env xs ≡ env ++ xs
-unfolding inputGates valuesFrom gateValue inputsTaken
-inputs-values p [] env [] e = sym (append-nil env)
-inputs-values p [] env (x ∷ xs) e = absurd (omega arith)
-inputs-values p (n ∷ ns) env [] e = absurd (omega arith)
-inputs-values p (n ∷ ns) env (x ∷ xs) e = inputs-values p ns (env ++ (x ∷ [])) xs (omega arith) ∙ append-assoc env (x ∷ []) xs
+inputs-values : (plan : Plan) (names : List ℕ) (env xs : List ℕ) → length xs ≡ length names → valuesFrom plan (inputGates names) env xs ≡ env ++ xs
+unfolding inputGates valuesFrom gateValue inputsTaken inputOwnersAt
+inputs-values plan [] env [] e = sym (append-nil env)
+inputs-values plan [] env (x ∷ xs) e = absurd (omega arith)
+inputs-values plan (n ∷ ns) env [] e = absurd (omega arith)
+inputs-values plan (n ∷ ns) env (x ∷ xs) e = inputs-values plan ns (env ++ (x ∷ [])) xs (omega arith) ∙ append-assoc env (x ∷ []) xs
 
 pub inputs-long : (names : List ℕ) → length (inputGates names) ≡ length names
 unfolding inputGates
@@ -205,12 +205,12 @@ inputs-long [] = refl
 inputs-long (n ∷ ns) = ap suc (inputs-long ns)
 
 -- the wire of a proper formula's result holds its value
-pub formula-wire : (p : ℕ) (xs : List ℕ) (names : List ℕ) (x : Tree) → 1 ≤ p → 1 ≤ length names → length xs ≡ length names → Proper p names x
-    → getD (valuesFrom p (emit p names x (inputGates names) .gates) [] xs) (emit p names x (inputGates names) .wire) 0 ≡ formulaValue p names xs x
+pub formula-wire : (plan : Plan) (xs : List ℕ) (names : List ℕ) (x : Tree) → 1 ≤ plan .p → 1 ≤ length names → length xs ≡ length names → Proper (plan .p) names x
+    → getD (valuesFrom plan (emit (plan .p) names x (inputGates names) .gates) [] xs) (emit (plan .p) names x (inputGates names) .wire) 0 ≡ formulaValue (plan .p) names xs x
 unfolding values
-formula-wire p xs names x o some e h =
-    makes p xs names o x (inputGates names) h (record {
+formula-wire plan xs names x o some e h =
+    makes plan xs names o x (inputGates names) h (record {
       some = some;
       there = omega (arith, inputs-long names);
-      figures = λ i l. ap (λ (v : List ℕ). getD v i 0) (inputs-values p names [] xs e);
+      figures = λ i l. ap (λ (v : List ℕ). getD v i 0) (inputs-values plan names [] xs e);
     }) .value

@@ -269,7 +269,7 @@ module _ (n t p i : ℕ) (x : Tree) (xs : List ℕ) where
   unfolding granted values planWith treeBodies treeMade bodiesWith outWires outWiresOf
   tree-value l b h e =
       rw (eq-eqb i i refl)
-      (ap (λ (v : ℕ). v ∷ []) (formula-wire p xs (namesOf x) x l h e (tree-proper n p x b)))
+      (ap (λ (v : ℕ). v ∷ []) (formula-wire (planWith n t p (treeBodies p i x)) xs (namesOf x) x l h e (tree-proper n p x b)))
 
   -- and nothing to any other
   pub tree-others : (j : ℕ) → (j ≡ i → ⊥) → granted (planWith n t p (treeBodies p i x)) xs j ≡ []

@@ -1,22 +1,21 @@
 -- The gates that a formula makes: each keeps its rule, and only the input gates take figures.
 --     emit-long, made-long                      how many
 --     made-gates, made-wire                     rules
+--     made-kinds                                kinds that a file may have
 --     made-count, made-own                      figures
 -- Assumes nothing.
 use Prim.Native.Nat.{ℕ, zero, suc, _+_, _-_, _<_, _≤_}
 use mathlib.Core.Path.{_≡_, refl, sym, ap, _∙_}
 use mathlib.Core.Bool.{Bool, true, false, cond, _&&_}
-use mathlib.Core.List.{List, [], _∷_, _++_, map}
+use mathlib.Core.List.{List, [], _∷_, _++_, map, flatMap}
 use native.Mathlib.Omega.{arith}
 use borrow.Author.Tests.{lt-ltb, le-leb, ltb-true, ltb-false}
 use lib.Dec.{leb, ltb}
-use lib.ListN.{length, getD, drop, length-append, List·getD-append}
+use lib.ListN.{length, getD, length-append, List·getD-append}
 use lib.Seq.{getD-append-seam}
-use Rattle.numbers.specs.Tables.{countWhere}
-use Rattle.numbers.proofs.Counts.{countWhere-append}
 use Rattle.plan.specs.declared.Gate.{Gate}
 use Rattle.plan.specs.declared.Gate.the-variants.{Input, Add, Scale, Offset, Multiply}
-use Rattle.plan.specs.Plans.{isInput, inputCount, ownInputsOf, ownInputs}
+use Rattle.plan.specs.Plans.{Plan, kindOf, inputOwnersAt, inputOwners, ownOf, ownInputs, inputCount}
 use Rattle.plan.specs.File.{between, gateOk}
 use Rattle.plan_file.specs.Bodies.{planWith}
 use Rattle.sheet_text.specs.Trees.{Tree, partyOf, nameIndex, namesOf, Emitted, ending, emitNumber, emitPlus, emitTimes, emitMinus, rightAfter, emit, inputGates, gateCount}
@@ -125,60 +124,88 @@ module _ (n p : ℕ) where
     pub made-wire : treeMade p x .wire < length (treeMade p x .gates)
     made-wire = made .within
 
--- ---- figures
+-- ---- kinds 1 to 5
+record Kinds (gs : List Gate) : Type 0 where
+  low : (g : ℕ) → kindOf (getD gs g (Input 0)) ≤ 5
 
--- gates that take no figures at the end
-record Quiet (gs hs : List Gate) : Type 0 where
-  count : countWhere isInput hs ≡ countWhere isInput gs
-  own : (i : ℕ) (xs : List ℕ) → ownInputsOf i hs xs ≡ ownInputsOf i gs xs
+kinds-end : (gs : List Gate) (x : Gate) → kindOf x ≤ 5 → ((g : ℕ) → kindOf (getD gs g (Input 0)) ≤ 5) → (g : ℕ) → kindOf (getD (gs ++ (x ∷ [])) g (Input 0)) ≤ 5
+unfolding kindOf
+kinds-end [] x l h zero = l
+kinds-end [] x l h (suc g) = omega arith
+kinds-end (y ∷ gs) x l h zero = h 0
+kinds-end (y ∷ gs) x l h (suc g) = kinds-end gs x l (λ k. h (suc k)) g
 
-quiet-then : {fs gs hs : List Gate} → Quiet fs gs → Quiet gs hs → Quiet fs hs
-quiet-then a b = record { count = b .count ∙ a .count; own = λ i xs. b .own i xs ∙ a .own i xs }
+kinds-add : (gs : List Gate) (a b : ℕ) → Kinds gs → Kinds (gs ++ (Add a b ∷ []))
+unfolding kindOf
+kinds-add gs a b h = record { low = kinds-end gs (Add a b) (omega arith) (h .low) }
 
-own-end : (i : ℕ) (gs : List Gate) (g : Gate) → ((xs : List ℕ) → ownInputsOf i (g ∷ []) xs ≡ []) → (xs : List ℕ) → ownInputsOf i (gs ++ (g ∷ [])) xs ≡ ownInputsOf i gs xs
-unfolding ownInputsOf
-own-end i [] g h xs = h xs
-own-end i (Input s ∷ gs) g h xs = rw (own-end i gs g h (drop 1 xs))
-own-end i (Add a b ∷ gs) g h xs = own-end i gs g h xs
-own-end i (Scale a c ∷ gs) g h xs = own-end i gs g h xs
-own-end i (Offset a c ∷ gs) g h xs = own-end i gs g h xs
-own-end i (Multiply a b ∷ gs) g h xs = own-end i gs g h xs
+kinds-scale : (gs : List Gate) (a c : ℕ) → Kinds gs → Kinds (gs ++ (Scale a c ∷ []))
+unfolding kindOf
+kinds-scale gs a c h = record { low = kinds-end gs (Scale a c) (omega arith) (h .low) }
 
-quiet-one : (gs : List Gate) (g : Gate) → countWhere isInput (g ∷ []) ≡ 0 → ((i : ℕ) (xs : List ℕ) → ownInputsOf i (g ∷ []) xs ≡ []) → Quiet gs (gs ++ (g ∷ []))
-quiet-one gs g c h = record { count = countWhere-append isInput gs (g ∷ []) ∙ omega (arith, c); own = λ i xs. own-end i gs g (h i) xs }
+kinds-offset : (gs : List Gate) (a c : ℕ) → Kinds gs → Kinds (gs ++ (Offset a c ∷ []))
+unfolding kindOf
+kinds-offset gs a c h = record { low = kinds-end gs (Offset a c) (omega arith) (h .low) }
 
-quiet-add : (gs : List Gate) (a b : ℕ) → Quiet gs (gs ++ (Add a b ∷ []))
-quiet-add gs a b = quiet-one gs (Add a b) (unfold countWhere in unfold isInput in refl) (λ i xs. unfold ownInputsOf in refl)
+kinds-multiply : (gs : List Gate) (a b : ℕ) → Kinds gs → Kinds (gs ++ (Multiply a b ∷ []))
+unfolding kindOf
+kinds-multiply gs a b h = record { low = kinds-end gs (Multiply a b) (omega arith) (h .low) }
 
-quiet-scale : (gs : List Gate) (a c : ℕ) → Quiet gs (gs ++ (Scale a c ∷ []))
-quiet-scale gs a c = quiet-one gs (Scale a c) (unfold countWhere in unfold isInput in refl) (λ i xs. unfold ownInputsOf in refl)
-
-quiet-offset : (gs : List Gate) (a c : ℕ) → Quiet gs (gs ++ (Offset a c ∷ []))
-quiet-offset gs a c = quiet-one gs (Offset a c) (unfold countWhere in unfold isInput in refl) (λ i xs. unfold ownInputsOf in refl)
-
-quiet-multiply : (gs : List Gate) (a b : ℕ) → Quiet gs (gs ++ (Multiply a b ∷ []))
-quiet-multiply gs a b = quiet-one gs (Multiply a b) (unfold countWhere in unfold isInput in refl) (λ i xs. unfold ownInputsOf in refl)
-
-quiet : (p : ℕ) (names : List ℕ) (x : Tree) (gs : List Gate) → Quiet gs (emit p names x gs .gates)
+emit-kinds : (p : ℕ) (names : List ℕ) (x : Tree) (gs : List Gate) → Kinds gs → Kinds (emit p names x gs .gates)
 unfolding emit rightAfter emitNumber emitPlus emitTimes emitMinus ending
-quiet p names (Tree.Number v) gs = quiet-then (quiet-scale gs 0 0) (quiet-offset (gs ++ (Scale 0 0 ∷ [])) (length gs) v)
-quiet p names (Tree.Name x) gs = record { count = refl; own = λ i xs. refl }
-quiet p names (Tree.Plus l r) gs = quiet-then (quiet p names l gs) (quiet-then (quiet p names r (emit p names l gs .gates)) (quiet-add _ _ _))
-quiet p names (Tree.Times l r) gs = quiet-then (quiet p names l gs) (quiet-then (quiet p names r (emit p names l gs .gates)) (quiet-multiply _ _ _))
-quiet p names (Tree.Minus l r) gs = quiet-then (quiet p names l gs) (quiet-then (quiet p names r (emit p names l gs .gates)) (quiet-then (quiet-scale _ _ _) (quiet-add _ _ _)))
+emit-kinds p names (Tree.Number v) gs h = kinds-offset _ _ _ (kinds-scale _ _ _ h)
+emit-kinds p names (Tree.Name x) gs h = h
+emit-kinds p names (Tree.Plus l r) gs h = kinds-add _ _ _ (emit-kinds p names r (emit p names l gs .gates) (emit-kinds p names l gs h))
+emit-kinds p names (Tree.Times l r) gs h = kinds-multiply _ _ _ (emit-kinds p names r (emit p names l gs .gates) (emit-kinds p names l gs h))
+emit-kinds p names (Tree.Minus l r) gs h = kinds-add _ _ _ (kinds-scale _ _ _ (emit-kinds p names r (emit p names l gs .gates) (emit-kinds p names l gs h)))
 
-inputs-count : (names : List ℕ) → countWhere isInput (inputGates names) ≡ length names
-unfolding inputGates countWhere isInput
-inputs-count [] = refl
-inputs-count (x ∷ names) = ap suc (inputs-count names)
+inputs-kinds : (names : List ℕ) (g : ℕ) → kindOf (getD (inputGates names) g (Input 0)) ≤ 5
+unfolding inputGates kindOf
+inputs-kinds [] g = omega arith
+inputs-kinds (x ∷ names) zero = omega arith
+inputs-kinds (x ∷ names) (suc g) = inputs-kinds names g
+
+pub made-kinds : (p : ℕ) (x : Tree) (g : ℕ) → kindOf (getD (treeMade p x .gates) g (Input 0)) ≤ 5
+unfolding treeMade
+made-kinds p x = emit-kinds p (namesOf x) x (inputGates (namesOf x)) (record { low = inputs-kinds (namesOf x) }) .low
+
+-- ---- figures
+module _ (plan : Plan) where
+  -- a gate at the end that takes no figures
+  quiet-one : (gs : List Gate) (g : Gate) → inputOwnersAt plan g ≡ [] → flatMap (inputOwnersAt plan) (gs ++ (g ∷ [])) ≡ flatMap (inputOwnersAt plan) gs
+  unfolding flatMap
+  quiet-one [] g e = ap (λ (l : List ℕ). l ++ []) e
+  quiet-one (x ∷ gs) g e = ap (λ (l : List ℕ). inputOwnersAt plan x ++ l) (quiet-one gs g e)
+
+  quiet : (p : ℕ) (names : List ℕ) (x : Tree) (gs : List Gate) → flatMap (inputOwnersAt plan) (emit p names x gs .gates) ≡ flatMap (inputOwnersAt plan) gs
+  unfolding emit rightAfter emitNumber emitPlus emitTimes emitMinus ending inputOwnersAt
+  quiet p names (Tree.Number v) gs = quiet-one (gs ++ (Scale 0 0 ∷ [])) (Offset (length gs) v) refl ∙ quiet-one gs (Scale 0 0) refl
+  quiet p names (Tree.Name x) gs = refl
+  quiet p names (Tree.Plus l r) gs = quiet-one _ (Add _ _) refl ∙ quiet p names r (emit p names l gs .gates) ∙ quiet p names l gs
+  quiet p names (Tree.Times l r) gs = quiet-one _ (Multiply _ _) refl ∙ quiet p names r (emit p names l gs .gates) ∙ quiet p names l gs
+  quiet p names (Tree.Minus l r) gs =
+      quiet-one _ (Add _ _) refl ∙ quiet-one _ (Scale _ _) refl ∙ quiet p names r (emit p names l gs .gates) ∙ quiet p names l gs
+
+  inputs-owners : (names : List ℕ) → flatMap (inputOwnersAt plan) (inputGates names) ≡ map partyOf names
+  unfolding inputGates flatMap inputOwnersAt
+  inputs-owners [] = refl
+  inputs-owners (x ∷ names) = ap (λ (l : List ℕ). partyOf x ∷ l) (inputs-owners names)
+
+parties-long : (names : List ℕ) → length (map partyOf names) ≡ length names
+parties-long [] = refl
+parties-long (x ∷ names) = ap suc (parties-long names)
 
 module _ (n t p i : ℕ) (x : Tree) where
+  made-owners : inputOwners (planWith n t p (treeBodies p i x)) ≡ map partyOf (namesOf x)
+  unfolding inputOwners planWith treeBodies bodiesWith treeMade
+  made-owners = quiet (planWith n t p (treeBodies p i x)) p (namesOf x) x (inputGates (namesOf x)) ∙ inputs-owners (planWith n t p (treeBodies p i x)) (namesOf x)
+
   -- a figure for each name
   pub made-count : inputCount (planWith n t p (treeBodies p i x)) ≡ length (namesOf x)
-  unfolding inputCount planWith treeBodies bodiesWith treeMade
-  made-count = quiet p (namesOf x) x (inputGates (namesOf x)) .count ∙ inputs-count (namesOf x)
+  unfolding inputCount
+  made-count = ap length made-owners ∙ parties-long (namesOf x)
 
   -- which belongs to the name's party
-  pub made-own : (j : ℕ) (xs : List ℕ) → ownInputs (planWith n t p (treeBodies p i x)) j xs ≡ ownInputsOf j (inputGates (namesOf x)) xs
-  unfolding ownInputs planWith treeBodies bodiesWith treeMade
-  made-own j xs = quiet p (namesOf x) x (inputGates (namesOf x)) .own j xs
+  pub made-own : (j : ℕ) (xs : List ℕ) → ownInputs (planWith n t p (treeBodies p i x)) j xs ≡ ownOf j (map partyOf (namesOf x)) xs
+  unfolding ownInputs
+  made-own j xs = ap (λ (os : List ℕ). ownOf j os xs) made-owners

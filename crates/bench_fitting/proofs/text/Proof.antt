@@ -1,5 +1,5 @@
 use borrow.Author.Needs.{needs}
-use Rattle.bench_fitting.proofs.Fitting.{whole}
+use Rattle.bench_fitting.proofs.Fitting.{fitted}
 use Rattle.bench_fitting.proofs.text.Statement.{statement}
 use Rattle.bench_fitting.proofs.text.Tie as tie
 
@@ -10,7 +10,7 @@ same-length : tie.Need-same-length
 same-length c = search needs
 
 returns : tie.Need-returns
-returns c = whole _ _ _ _ (λ i. c .before .before .before .before .before .shared-slice-known .given i .fits) (search needs) (c .before .before .report .ensures)
+returns c = search fitted
 
 pub text-spec : {M : Type 1} → statement M
 text-spec = tie.close (tie.spec report-requires same-length returns)

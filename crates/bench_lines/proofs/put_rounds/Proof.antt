@@ -7,25 +7,25 @@ use Rattle.bench_lines.proofs.put_rounds.Statement.{statement}
 use Rattle.bench_lines.proofs.put_rounds.Tie as tie
 
 abbrev Inv-loop : tie.InvT-loop
-Inv-loop text₀ at plan h i view from rounds next₀ place₀ round₀ t13 text next place round = Rounding (planOf plan) i (numbers view) from rounds at text₀ text next place round
+Inv-loop text₀ at plan h i view from tally rounds next₀ place₀ round₀ t14 text next place round = Rounding (planOf plan) i (numbers view) from rounds at text₀ text next place round
 
 abbrev μ-loop : tie.MeasureT-loop
-μ-loop text₀ at plan h i view from rounds next₀ place₀ round₀ t13 text next place round = rounds - round
+μ-loop text₀ at plan h i view from tally rounds next₀ place₀ round₀ t14 text next place round = rounds - round
 
-multiply-count-requires : tie.Need-multiply-count-requires Inv-loop μ-loop
-multiply-count-requires c κs = search rounding
+tally-of-requires : tie.Need-tally-of-requires Inv-loop μ-loop
+tally-of-requires c κs = search rounding
 
-add-rounds : tie.Need-add-rounds Inv-loop μ-loop
-add-rounds c = search rounding
+last-call-by-requires : tie.Need-last-call-by-requires Inv-loop μ-loop
+last-call-by-requires c κs = search rounding
 
 loop-holds : tie.Need-loop-holds Inv-loop μ-loop
 loop-holds c = search rounding
 
-add-mail-count : tie.Need-add-mail-count Inv-loop μ-loop
-add-mail-count c = search rounding
+add-mail-by : tie.Need-add-mail-by Inv-loop μ-loop
+add-mail-by c = search rounding
 
-mail-count-requires : tie.Need-mail-count-requires Inv-loop μ-loop
-mail-count-requires c κs = search rounding
+mail-by-requires : tie.Need-mail-by-requires Inv-loop μ-loop
+mail-by-requires c κs = search rounding
 
 slice-aggregate-put-list-line : tie.Need-slice-aggregate-put-list-line Inv-loop μ-loop
 slice-aggregate-put-list-line c = search rounding
@@ -58,11 +58,11 @@ put-rounds-spec =
     (tie.spec
     Inv-loop
     μ-loop
-    multiply-count-requires
-    add-rounds
+    tally-of-requires
+    last-call-by-requires
     loop-holds
-    add-mail-count
-    mail-count-requires
+    add-mail-by
+    mail-by-requires
     slice-aggregate-put-list-line
     put-list-line-requires
     add-place

@@ -2,11 +2,8 @@ use Rattle.match_agreement.proofs.AgreeLaws.{coining}
 use Rattle.match_agreement.proofs.check_coins.Statement.{statement}
 use Rattle.match_agreement.proofs.check_coins.Tie as tie
 
-dealing-count-requires : tie.Need-dealing-count-requires
-dealing-count-requires c κs = search coining
-
-mul-count : tie.Need-mul-count
-mul-count c = search coining
+coin-count-requires : tie.Need-coin-count-requires
+coin-count-requires c κs = search coining
 
 count-is-requires : tie.Need-count-is-requires
 count-is-requires c κs = search coining
@@ -39,8 +36,7 @@ pub check-coins-spec : {M : Type 1} → statement M
 check-coins-spec =
     tie.close
     (tie.spec
-    dealing-count-requires
-    mul-count
+    coin-count-requires
     count-is-requires
     returns
     first-over-requires

@@ -5,10 +5,10 @@ use Rattle.match_agreement.proofs.first_input_off.Statement.{statement}
 use Rattle.match_agreement.proofs.first_input_off.Tie as tie
 
 abbrev Inv-loop : tie.InvT-loop
-Inv-loop plan set first second gates next₀ g₀ next g = Comparing plan gates set (numbers first) (numbers second) next g
+Inv-loop plan h set first second gates next₀ g₀ next g = Comparing plan gates set (numbers first) (numbers second) next g
 
 abbrev μ-loop : tie.MeasureT-loop
-μ-loop plan set first second gates next₀ g₀ next g = gates - g
+μ-loop plan h set first second gates next₀ g₀ next g = gates - g
 
 loop-holds : tie.Need-loop-holds Inv-loop μ-loop
 loop-holds c = search comparing

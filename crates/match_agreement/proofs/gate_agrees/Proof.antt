@@ -20,6 +20,12 @@ enum-told-3 c = search agreeing
 enum-told-4 : tie.Need-enum-told-4
 enum-told-4 c = search agreeing
 
+enum-told-5 : tie.Need-enum-told-5
+enum-told-5 c = search agreeing
+
+enum-told-6 : tie.Need-enum-told-6
+enum-told-6 c = search agreeing
+
 returns : tie.Need-returns
 returns c = search agreeing
 
@@ -35,6 +41,12 @@ returns-4 c = search agreeing
 returns-5 : tie.Need-returns-5
 returns-5 c = search agreeing
 
+returns-6 : tie.Need-returns-6
+returns-6 c = search agreeing
+
+returns-7 : tie.Need-returns-7
+returns-7 c = search agreeing
+
 pub gate-agrees-spec : {M : Type 1} → statement M
 gate-agrees-spec =
     tie.close
@@ -45,8 +57,12 @@ gate-agrees-spec =
     enum-told-2
     enum-told-3
     enum-told-4
+    enum-told-5
+    enum-told-6
     returns
     returns-2
     returns-3
     returns-4
-    returns-5)
+    returns-5
+    returns-6
+    returns-7)

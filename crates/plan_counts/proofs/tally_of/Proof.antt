@@ -4,10 +4,10 @@ use Rattle.plan_counts.proofs.tally_of.Statement.{statement}
 use Rattle.plan_counts.proofs.tally_of.Tie as tie
 
 abbrev Inv-loop : tie.InvT-loop
-Inv-loop plan h i gates inputs₀ own₀ multiplies₀ dealings₀ g₀ inputs own multiplies dealings g = Tallying plan i inputs own multiplies dealings g
+Inv-loop plan h i gates inputs₀ own₀ multiplies₀ coins₀ g₀ inputs own multiplies coins g = Tallying plan gates i inputs own multiplies coins g
 
 abbrev μ-loop : tie.MeasureT-loop
-μ-loop plan h i gates inputs₀ own₀ multiplies₀ dealings₀ g₀ inputs own multiplies dealings g = gates - g
+μ-loop plan h i gates inputs₀ own₀ multiplies₀ coins₀ g₀ inputs own multiplies coins g = gates - g
 
 loop-holds : tie.Need-loop-holds Inv-loop μ-loop
 loop-holds c = search counting
@@ -15,8 +15,8 @@ loop-holds c = search counting
 gate-in-requires : tie.Need-gate-in-requires Inv-loop μ-loop
 gate-in-requires c κs = search counting
 
-is-input-requires : tie.Need-is-input-requires Inv-loop μ-loop
-is-input-requires c κs = search counting
+kind-requires : tie.Need-kind-requires Inv-loop μ-loop
+kind-requires c κs = search counting
 
 one-if-requires : tie.Need-one-if-requires Inv-loop μ-loop
 one-if-requires c κs = search counting
@@ -33,23 +33,17 @@ one-if-requires-2 c κs = search counting
 add-own : tie.Need-add-own Inv-loop μ-loop
 add-own c = search counting
 
-is-multiply-requires : tie.Need-is-multiply-requires Inv-loop μ-loop
-is-multiply-requires c κs = search counting
-
 one-if-requires-3 : tie.Need-one-if-requires-3 Inv-loop μ-loop
 one-if-requires-3 c κs = search counting
 
 add-multiplies : tie.Need-add-multiplies Inv-loop μ-loop
 add-multiplies c = search counting
 
-is-dealer-requires : tie.Need-is-dealer-requires Inv-loop μ-loop
-is-dealer-requires c κs = search counting
+own-coins-at-requires : tie.Need-own-coins-at-requires Inv-loop μ-loop
+own-coins-at-requires c κs = search counting
 
-one-if-requires-4 : tie.Need-one-if-requires-4 Inv-loop μ-loop
-one-if-requires-4 c κs = search counting
-
-add-dealings : tie.Need-add-dealings Inv-loop μ-loop
-add-dealings c = search counting
+add-coins : tie.Need-add-coins Inv-loop μ-loop
+add-coins c = search counting
 
 add-g : tie.Need-add-g Inv-loop μ-loop
 add-g c = search counting
@@ -71,18 +65,16 @@ tally-of-spec =
     μ-loop
     loop-holds
     gate-in-requires
-    is-input-requires
+    kind-requires
     one-if-requires
     add-inputs
     is-input-of-requires
     one-if-requires-2
     add-own
-    is-multiply-requires
     one-if-requires-3
     add-multiplies
-    is-dealer-requires
-    one-if-requires-4
-    add-dealings
+    own-coins-at-requires
+    add-coins
     add-g
     loop-less
     loop-again

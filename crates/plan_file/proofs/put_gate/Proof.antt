@@ -32,6 +32,18 @@ enum-known-gate-5 c = search writing
 put-fields-requires-5 : tie.Need-put-fields-requires-5
 put-fields-requires-5 c κs = search writing
 
+enum-told : tie.Need-enum-told
+enum-told c = search writing
+
+put-fields-requires-6 : tie.Need-put-fields-requires-6
+put-fields-requires-6 c κs = search writing
+
+enum-known-gate-6 : tie.Need-enum-known-gate-6
+enum-known-gate-6 c = search writing
+
+put-fields-requires-7 : tie.Need-put-fields-requires-7
+put-fields-requires-7 c κs = search writing
+
 same-length : tie.Need-same-length
 same-length c = search writing
 
@@ -62,6 +74,18 @@ same-length-5 c = search writing
 returns-5 : tie.Need-returns-5
 returns-5 c = search writing
 
+same-length-6 : tie.Need-same-length-6
+same-length-6 c = search writing
+
+returns-6 : tie.Need-returns-6
+returns-6 c = search writing
+
+same-length-7 : tie.Need-same-length-7
+same-length-7 c = search writing
+
+returns-7 : tie.Need-returns-7
+returns-7 c = search writing
+
 pub put-gate-spec : {M : Type 1} → statement M
 put-gate-spec =
     tie.close
@@ -76,6 +100,10 @@ put-gate-spec =
     put-fields-requires-4
     enum-known-gate-5
     put-fields-requires-5
+    enum-told
+    put-fields-requires-6
+    enum-known-gate-6
+    put-fields-requires-7
     same-length
     returns
     same-length-2
@@ -85,4 +113,8 @@ put-gate-spec =
     same-length-4
     returns-4
     same-length-5
-    returns-5)
+    returns-5
+    same-length-6
+    returns-6
+    same-length-7
+    returns-7)

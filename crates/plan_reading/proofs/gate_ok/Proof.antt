@@ -32,6 +32,15 @@ enum-known-gate-5 c = search rules
 both-below-requires-4 : tie.Need-both-below-requires-4
 both-below-requires-4 c κs = search rules
 
+enum-told : tie.Need-enum-told
+enum-told c = search rules
+
+enum-known-gate-6 : tie.Need-enum-known-gate-6
+enum-known-gate-6 c = search rules
+
+both-below-requires-5 : tie.Need-both-below-requires-5
+both-below-requires-5 c κs = search rules
+
 returns : tie.Need-returns
 returns c = search rules
 
@@ -47,6 +56,12 @@ returns-4 c = search rules
 returns-5 : tie.Need-returns-5
 returns-5 c = search rules
 
+returns-6 : tie.Need-returns-6
+returns-6 c = search rules
+
+returns-7 : tie.Need-returns-7
+returns-7 c = search rules
+
 pub gate-ok-spec : {M : Type 1} → statement M
 gate-ok-spec =
     tie.close
@@ -61,8 +76,13 @@ gate-ok-spec =
     both-below-requires-3
     enum-known-gate-5
     both-below-requires-4
+    enum-told
+    enum-known-gate-6
+    both-below-requires-5
     returns
     returns-2
     returns-3
     returns-4
-    returns-5)
+    returns-5
+    returns-6
+    returns-7)

@@ -4,7 +4,7 @@ use Rattle.pool.proofs.pool_calls.Tie as tie
 use Rattle.pool.proofs.pool_calls.Reads as reads
 use Rattle.pool.proofs.pool_calls.Lts as lts
 use Rattle.plan_codes.proofs.code.Reads as code-reads
-use Rattle.plan_counts.proofs.multiply_count.Reads as multiply-count-reads
+use Rattle.plan_counts.proofs.last_call.Reads as last-call-reads
 use Rattle.plan_reading.proofs.outcome.Reads as outcome-reads
 use Rattle.plan_reading.proofs.read.Reads as read-reads
 use Rattle.pool_answers.proofs.value.Reads as value-reads
@@ -34,8 +34,8 @@ returns : tie.Need-returns
 returns c = search answering
 
 -- src/lib.rt:100:11
-multiply-count-requires : tie.Need-multiply-count-requires
-multiply-count-requires c κs = search answering
+last-call-requires : tie.Need-last-call-requires
+last-call-requires c κs = search answering
 
 -- src/lib.rt:100:11
 add-value : tie.Need-add-value
@@ -59,7 +59,7 @@ pool-calls-spec =
     outcome-requires
     code-requires
     returns
-    multiply-count-requires
+    last-call-requires
     add-value
     value-requires
     returns-2)

@@ -4,15 +4,11 @@ use Rattle.pool_answers.proofs.mail_of_call.Tie as tie
 use Rattle.pool_answers.proofs.mail_of_call.Reads as reads
 use Rattle.pool_answers.proofs.mail_of_call.Lts as lts
 use Rattle.plan_sizes.proofs.mail_count.Reads as mail-count-reads
-use Rattle.plan_counts.proofs.multiply_count.Reads as multiply-count-reads
+use Rattle.plan_counts.proofs.last_call.Reads as last-call-reads
 
 -- src/lib.rt:34:16
-multiply-count-requires : tie.Need-multiply-count-requires
-multiply-count-requires c κs = search counting
-
--- src/lib.rt:34:16
-add-if1 : tie.Need-add-if1
-add-if1 c = search counting
+last-call-requires : tie.Need-last-call-requires
+last-call-requires c κs = search counting
 
 -- src/lib.rt:35:9
 mail-count-requires : tie.Need-mail-count-requires
@@ -28,4 +24,4 @@ returns-2 c = search counting
 
 pub mail-of-call-spec : {M : Type 1} → statement M
 mail-of-call-spec =
-    tie.close (tie.spec multiply-count-requires add-if1 mail-count-requires returns returns-2)
+    tie.close (tie.spec last-call-requires mail-count-requires returns returns-2)

@@ -4,7 +4,7 @@ use Rattle.pool_answers.proofs.run_count.Tie as tie
 use Rattle.pool_answers.proofs.run_count.Reads as reads
 use Rattle.pool_answers.proofs.run_count.Lts as lts
 use Rattle.plan_counts.proofs.input_count.Reads as input-count-reads
-use Rattle.pool_answers.proofs.coin_count.Reads as coin-count-reads
+use Rattle.plan_counts.proofs.coin_count.Reads as coin-count-reads
 use Rattle.run_bench.proofs.checking.view_count.Reads as view-count-reads
 
 -- src/lib.rt:140:14

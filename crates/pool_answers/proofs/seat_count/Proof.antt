@@ -5,7 +5,7 @@ use Rattle.pool_answers.proofs.seat_count.Reads as reads
 use Rattle.pool_answers.proofs.seat_count.Lts as lts
 use Rattle.plan_counts.proofs.own_input_count.Reads as own-input-count-reads
 use Rattle.pool_answers.proofs.mail_of_call.Reads as mail-of-call-reads
-use Rattle.pool_answers.proofs.own_coin_count.Reads as own-coin-count-reads
+use Rattle.plan_counts.proofs.own_coin_count.Reads as own-coin-count-reads
 use Rattle.pool_answers.proofs.written_by_call.Reads as written-by-call-reads
 
 -- src/lib.rt:63:14

@@ -3,16 +3,12 @@ use Rattle.pool_answers.proofs.written_by_call.Statement.{statement}
 use Rattle.pool_answers.proofs.written_by_call.Tie as tie
 use Rattle.pool_answers.proofs.written_by_call.Reads as reads
 use Rattle.pool_answers.proofs.written_by_call.Lts as lts
-use Rattle.plan_counts.proofs.multiply_count.Reads as multiply-count-reads
+use Rattle.plan_counts.proofs.last_call.Reads as last-call-reads
 use Rattle.plan_sizes.proofs.written_count.Reads as written-count-reads
 
 -- src/lib.rt:44:16
-multiply-count-requires : tie.Need-multiply-count-requires
-multiply-count-requires c κs = search counting
-
--- src/lib.rt:44:16
-add-if1 : tie.Need-add-if1
-add-if1 c = search counting
+last-call-requires : tie.Need-last-call-requires
+last-call-requires c κs = search counting
 
 -- src/lib.rt:45:9
 written-count-requires : tie.Need-written-count-requires
@@ -28,4 +24,4 @@ returns-2 c = search counting
 
 pub written-by-call-spec : {M : Type 1} → statement M
 written-by-call-spec =
-    tie.close (tie.spec multiply-count-requires add-if1 written-count-requires returns returns-2)
+    tie.close (tie.spec last-call-requires written-count-requires returns returns-2)

@@ -1,64 +1,70 @@
-use Rattle.run_dealings.specs.Rows.{coinsIn}
 use Rattle.run_dealings.proofs.CoinLaws.{taking-coins}
+use borrow.Author.Needs.{needs}
 use Rattle.run_dealings.proofs.coins_taken.Statement.{statement}
 use Rattle.run_dealings.proofs.coins_taken.Tie as tie
 
+gate-at-requires : tie.Need-gate-at-requires
+gate-at-requires c κs = search needs
+
 enum-told : tie.Need-enum-told
-unfolding coinsIn
-enum-told c = search taking-coins
+enum-told c = search needs
 
 enum-told-2 : tie.Need-enum-told-2
-unfolding coinsIn
-enum-told-2 c = search taking-coins
+enum-told-2 c = search needs
 
 enum-told-3 : tie.Need-enum-told-3
-unfolding coinsIn
-enum-told-3 c = search taking-coins
+enum-told-3 c = search needs
 
 enum-told-4 : tie.Need-enum-told-4
-unfolding coinsIn
-enum-told-4 c = search taking-coins
+enum-told-4 c = search needs
 
 enum-told-5 : tie.Need-enum-told-5
-unfolding coinsIn
-enum-told-5 c = search taking-coins
+enum-told-5 c = search needs
 
 add-result : tie.Need-add-result
-unfolding coinsIn
-add-result c = search taking-coins
+add-result c = search needs
 
 add-result-2 : tie.Need-add-result-2
-unfolding coinsIn
-add-result-2 c = search taking-coins
+add-result-2 c = search needs
 
 mul-result : tie.Need-mul-result
-unfolding coinsIn
 mul-result c = search taking-coins
 
+enum-told-6 : tie.Need-enum-told-6
+enum-told-6 c = search needs
+
+mul-result-2 : tie.Need-mul-result-2
+mul-result-2 c = search taking-coins
+
+enum-told-7 : tie.Need-enum-told-7
+enum-told-7 c = search needs
+
 returns : tie.Need-returns
-unfolding coinsIn
 returns c = search taking-coins
 
 returns-2 : tie.Need-returns-2
-unfolding coinsIn
 returns-2 c = search taking-coins
 
 returns-3 : tie.Need-returns-3
-unfolding coinsIn
 returns-3 c = search taking-coins
 
 returns-4 : tie.Need-returns-4
-unfolding coinsIn
 returns-4 c = search taking-coins
 
 returns-5 : tie.Need-returns-5
-unfolding coinsIn
 returns-5 c = search taking-coins
+
+returns-6 : tie.Need-returns-6
+returns-6 c = search taking-coins
+
+returns-7 : tie.Need-returns-7
+returns-7 c = search taking-coins
 
 pub coins-taken-spec : {M : Type 1} → statement M
 coins-taken-spec =
     tie.close
     (tie.spec
+    gate-at-requires
     enum-told
     enum-told-2
     enum-told-3
@@ -67,8 +73,13 @@ coins-taken-spec =
     add-result
     add-result-2
     mul-result
+    enum-told-6
+    mul-result-2
+    enum-told-7
     returns
     returns-2
     returns-3
     returns-4
-    returns-5)
+    returns-5
+    returns-6
+    returns-7)

@@ -13,12 +13,6 @@ abbrev μ-loop : tie.MeasureT-loop
 loop-holds : tie.Need-loop-holds Inv-loop μ-loop
 loop-holds c = search working
 
-gate-at-requires : tie.Need-gate-at-requires Inv-loop μ-loop
-gate-at-requires c κs = search working
-
-read-requires : tie.Need-read-requires Inv-loop μ-loop
-read-requires c κs = search working
-
 slice-reshare-prefix-gate-value : tie.Need-slice-reshare-prefix-gate-value Inv-loop μ-loop
 slice-reshare-prefix-gate-value c = search working
 
@@ -62,8 +56,6 @@ values-spec =
     Inv-loop
     μ-loop
     loop-holds
-    gate-at-requires
-    read-requires
     slice-reshare-prefix-gate-value
     slice-aggregate-gate-value
     gate-value-requires

@@ -2,8 +2,8 @@ use Rattle.run_tables.proofs.StepLaws.{placing}
 use Rattle.run_tables.proofs.fill.Statement.{statement}
 use Rattle.run_tables.proofs.fill.Tie as tie
 
-points-requires : tie.Need-points-requires
-points-requires c κs = search placing
+points-of-requires : tie.Need-points-of-requires
+points-of-requires c κs = search placing
 
 array-share-prefix-points : tie.Need-array-share-prefix-points
 array-share-prefix-points c = search placing
@@ -45,7 +45,7 @@ pub fill-spec : {M : Type 1} → statement M
 fill-spec =
     tie.close
     (tie.spec
-    points-requires
+    points-of-requires
     array-share-prefix-points
     slice-aggregate-prepare
     slice-aggregate-prepare-2

@@ -1,9 +1,10 @@
 use Rattle.run_tables.proofs.FillLaws.{stepping}
+use borrow.Author.Needs.{needs}
 use Rattle.run_tables.proofs.step.Statement.{statement}
 use Rattle.run_tables.proofs.step.Tie as tie
 
 mul-start : tie.Need-mul-start
-mul-start c = search stepping
+mul-start c = search needs
 
 gate-row-requires : tie.Need-gate-row-requires
 gate-row-requires c κs = (search stepping, (search stepping, (search stepping, (search stepping, (search stepping, search stepping)))))
@@ -12,7 +13,7 @@ put-row-requires : tie.Need-put-row-requires
 put-row-requires c κs = (search stepping, search stepping)
 
 same-length : tie.Need-same-length
-same-length c = search stepping
+same-length c = search needs
 
 returns : tie.Need-returns
 returns c = search stepping

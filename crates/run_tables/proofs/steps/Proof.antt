@@ -13,17 +13,17 @@ abbrev μ-loop : tie.MeasureT-loop
 loop-holds : tie.Need-loop-holds Inv-loop μ-loop
 loop-holds c = search filling-table
 
-read-requires : tie.Need-read-requires Inv-loop μ-loop
-read-requires c κs = search filling-table
-
 step-requires : tie.Need-step-requires Inv-loop μ-loop
 step-requires c κs = (search filling-table, (search filling-table, (search filling-table, (search filling-table, (search filling-table, (search filling-table, search filling-table))))))
 
-taken-at-requires : tie.Need-taken-at-requires Inv-loop μ-loop
-taken-at-requires c κs = search filling-table
+inputs-taken-requires : tie.Need-inputs-taken-requires Inv-loop μ-loop
+inputs-taken-requires c κs = search filling-table
 
 add-i : tie.Need-add-i Inv-loop μ-loop
 add-i c = search filling-table
+
+coins-taken-requires : tie.Need-coins-taken-requires Inv-loop μ-loop
+coins-taken-requires c κs = search filling-table
 
 add-at : tie.Need-add-at Inv-loop μ-loop
 add-at c = search filling-table
@@ -50,10 +50,10 @@ steps-spec =
     Inv-loop
     μ-loop
     loop-holds
-    read-requires
     step-requires
-    taken-at-requires
+    inputs-taken-requires
     add-i
+    coins-taken-requires
     add-at
     add-g
     loop-less

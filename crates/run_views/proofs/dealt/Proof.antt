@@ -2,13 +2,13 @@ use mathlib.Core.List.{_∷_}
 use Prim.Native.Nat.{_+_, _-_}
 use Rattle.numbers.specs.Bytes.{numbers}
 use Rattle.sharing.proofs.Coding.{Summed}
-use Rattle.seat_sending.specs.Sending.{coinsFrom}
+use lib.ListN.{take, drop}
 use Rattle.run_views.proofs.ViewLaws.{dealing}
 use Rattle.run_views.proofs.dealt.Statement.{statement}
 use Rattle.run_views.proofs.dealt.Tie as tie
 
 abbrev Inv-loop : tie.InvT-loop
-Inv-loop f m t powers s coins from sum₀ j₀ sum j = Summed powers (s ∷ coinsFrom t from (numbers coins)) sum (j + 1)
+Inv-loop f m t powers s coins from sum₀ j₀ sum j = Summed powers (s ∷ take t (drop from (numbers coins))) sum (j + 1)
 
 abbrev μ-loop : tie.MeasureT-loop
 μ-loop f m t powers s coins from sum₀ j₀ sum j = t - j

@@ -2,8 +2,8 @@ use Rattle.run_views.proofs.ViewLaws.{opening}
 use Rattle.run_views.proofs.opening.Statement.{statement}
 use Rattle.run_views.proofs.opening.Tie as tie
 
-points-requires : tie.Need-points-requires
-points-requires c κs = search opening
+points-of-requires : tie.Need-points-of-requires
+points-of-requires c κs = search opening
 
 mul-a : tie.Need-mul-a
 mul-a c = search opening
@@ -39,7 +39,7 @@ pub opening-spec : {M : Type 1} → statement M
 opening-spec =
     tie.close
     (tie.spec
-    points-requires
+    points-of-requires
     mul-a
     add-e
     array-share-prefix-points

@@ -14,11 +14,11 @@ abbrev μ-loop : tie.MeasureT-loop
 loop-holds : tie.Need-loop-holds Inv-loop μ-loop
 loop-holds c = search copying
 
-add-read : tie.Need-add-read Inv-loop μ-loop
-add-read c = search copying
+add-number : tie.Need-add-number Inv-loop μ-loop
+add-number c = search copying
 
-read-requires : tie.Need-read-requires Inv-loop μ-loop
-read-requires c κs = search copying
+number-requires : tie.Need-number-requires Inv-loop μ-loop
+number-requires c κs = search copying
 
 put-requires : tie.Need-put-requires Inv-loop μ-loop
 put-requires c κs = search copying
@@ -45,8 +45,8 @@ put-coins-spec =
     Inv-loop
     μ-loop
     loop-holds
-    add-read
-    read-requires
+    add-number
+    number-requires
     put-requires
     add-j
     loop-less

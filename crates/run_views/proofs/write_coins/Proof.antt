@@ -5,19 +5,16 @@ use Rattle.run_views.proofs.write_coins.Statement.{statement}
 use Rattle.run_views.proofs.write_coins.Tie as tie
 
 abbrev Inv-loop : tie.InvT-loop
-Inv-loop plan h i coins at out₀ t next₀ from₀ g₀ out next from g = Owning plan (numbers coins) i at out₀ out next from g
+Inv-loop plan h i coins at out₀ next₀ from₀ g₀ out next from g = Owning plan (numbers coins) i at out₀ out next from g
 
 abbrev μ-loop : tie.MeasureT-loop
-μ-loop plan h i coins at out₀ t next₀ from₀ g₀ out next from g = h .gates - g
+μ-loop plan h i coins at out₀ next₀ from₀ g₀ out next from g = h .gates - g
 
 loop-holds : tie.Need-loop-holds Inv-loop μ-loop
 loop-holds c = search owning
 
-gate-at-requires : tie.Need-gate-at-requires Inv-loop μ-loop
-gate-at-requires c κs = search owning
-
-put-dealing-requires : tie.Need-put-dealing-requires Inv-loop μ-loop
-put-dealing-requires c κs = search owning
+put-own-requires : tie.Need-put-own-requires Inv-loop μ-loop
+put-own-requires c κs = (search owning, (search owning, (search owning, search owning)))
 
 coins-taken-requires : tie.Need-coins-taken-requires Inv-loop μ-loop
 coins-taken-requires c κs = search owning
@@ -47,8 +44,7 @@ write-coins-spec =
     Inv-loop
     μ-loop
     loop-holds
-    gate-at-requires
-    put-dealing-requires
+    put-own-requires
     coins-taken-requires
     add-from
     add-g

@@ -13,9 +13,6 @@ abbrev μ-loop : tie.MeasureT-loop
 loop-holds : tie.Need-loop-holds Inv-loop μ-loop
 loop-holds c = search inputting
 
-gate-at-requires : tie.Need-gate-at-requires Inv-loop μ-loop
-gate-at-requires c κs = search inputting
-
 put-input-requires : tie.Need-put-input-requires Inv-loop μ-loop
 put-input-requires c κs = search inputting
 
@@ -47,7 +44,6 @@ write-inputs-spec =
     Inv-loop
     μ-loop
     loop-holds
-    gate-at-requires
     put-input-requires
     inputs-taken-requires
     add-k

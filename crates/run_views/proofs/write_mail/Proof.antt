@@ -14,11 +14,11 @@ write-first-requires c κs = (search joining, (search joining, (search joining, 
 array-share-prefix-row : tie.Need-array-share-prefix-row
 array-share-prefix-row c = search joining
 
-slice-aggregate-write-middle : tie.Need-slice-aggregate-write-middle
-slice-aggregate-write-middle c = search joining
+slice-aggregate-write-steps : tie.Need-slice-aggregate-write-steps
+slice-aggregate-write-steps c = search joining
 
-write-middle-requires : tie.Need-write-middle-requires
-write-middle-requires c κs = (search joining, (search joining, (search joining, search joining)))
+write-steps-requires : tie.Need-write-steps-requires
+write-steps-requires c κs = (search joining, (search joining, (search joining, search joining)))
 
 write-outs-requires : tie.Need-write-outs-requires
 write-outs-requires c κs = search joining
@@ -37,8 +37,8 @@ write-mail-spec =
     add-k
     write-first-requires
     array-share-prefix-row
-    slice-aggregate-write-middle
-    write-middle-requires
+    slice-aggregate-write-steps
+    write-steps-requires
     write-outs-requires
     same-length
     returns)

@@ -1,11 +1,12 @@
 use Prim.Native.Nat.{_-_}
+use Rattle.plan.specs.File.{planOf}
 use Rattle.run_views.specs.Flat.{openedIn}
 use Rattle.run_views.proofs.ViewLaws.{Outing, outing}
 use Rattle.run_views.proofs.write_results.Statement.{statement}
 use Rattle.run_views.proofs.write_results.Tie as tie
 
 abbrev Inv-loop : tie.InvT-loop
-Inv-loop plan h table i at out₀ next₀ k₀ out next k = Outing i (openedIn h table) plan at out₀ out next k
+Inv-loop plan h table i at out₀ next₀ k₀ out next k = Outing i (openedIn (planOf plan) h table) plan at out₀ out next k
 
 abbrev μ-loop : tie.MeasureT-loop
 μ-loop plan h table i at out₀ next₀ k₀ out next k = h .outs - k

@@ -6,7 +6,7 @@ write-inputs-requires : tie.Need-write-inputs-requires
 write-inputs-requires c κs = search joining
 
 write-coins-requires : tie.Need-write-coins-requires
-write-coins-requires c κs = (search joining, (search joining, (search joining, (search joining, search joining))))
+write-coins-requires c κs = (search joining, (search joining, (search joining, search joining)))
 
 write-mail-requires : tie.Need-write-mail-requires
 write-mail-requires c κs = (search joining, (search joining, (search joining, (search joining, search joining))))

@@ -14,6 +14,9 @@ enum-told-2 c = search ordering
 returns : tie.Need-returns
 returns c = search ordering
 
+last-call-by-requires : tie.Need-last-call-by-requires
+last-call-by-requires c κs = search ordering
+
 check-state-requires : tie.Need-check-state-requires
 check-state-requires c κs = search ordering
 
@@ -43,6 +46,7 @@ check-spec =
     enum-told
     enum-told-2
     returns
+    last-call-by-requires
     check-state-requires
     enum-told-3
     enum-told-4

@@ -1,5 +1,6 @@
 use Prim.Native.Nat.{_-_}
 use Rattle.numbers.specs.Bytes.{numbers}
+use Rattle.plan.specs.File.{planOf}
 use Rattle.plan.proofs.Refusals.{Tried}
 use Rattle.seat_admission.specs.Parts.{outCheck}
 use Rattle.seat_admission.proofs.CheckLaws.{each}
@@ -7,16 +8,16 @@ use Rattle.seat_admission.proofs.check_each.Statement.{statement}
 use Rattle.seat_admission.proofs.check_each.Tie as tie
 
 abbrev Inv-loop : tie.InvT-loop
-Inv-loop h points rows own mail j₀ j = Tried (outCheck h own (numbers mail)) own j
+Inv-loop plan h points rows own mail j₀ j = Tried (outCheck (planOf plan) own (numbers mail)) own j
 
 abbrev μ-loop : tie.MeasureT-loop
-μ-loop h points rows own mail j₀ j = own - j
+μ-loop plan h points rows own mail j₀ j = own - j
 
 loop-holds : tie.Need-loop-holds Inv-loop μ-loop
 loop-holds c = search each
 
 check-out-requires : tie.Need-check-out-requires Inv-loop μ-loop
-check-out-requires c κs = search each
+check-out-requires c κs = (search each, (search each, (search each, (search each, (search each, search each)))))
 
 enum-told : tie.Need-enum-told Inv-loop μ-loop
 enum-told c = search each

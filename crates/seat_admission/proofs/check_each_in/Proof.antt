@@ -24,7 +24,7 @@ slice-aggregate-check-each : tie.Need-slice-aggregate-check-each
 slice-aggregate-check-each c = search rowing
 
 check-each-requires : tie.Need-check-each-requires
-check-each-requires c κs = (search rowing, (search rowing, (search rowing, search rowing)))
+check-each-requires c κs = (search rowing, (search rowing, (search rowing, (search rowing, search rowing))))
 
 same-length : tie.Need-same-length
 same-length c = search rowing

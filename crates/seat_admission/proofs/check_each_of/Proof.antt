@@ -2,8 +2,8 @@ use Rattle.seat_admission.proofs.CheckLaws.{rowing}
 use Rattle.seat_admission.proofs.check_each_of.Statement.{statement}
 use Rattle.seat_admission.proofs.check_each_of.Tie as tie
 
-points-requires : tie.Need-points-requires
-points-requires c κs = search rowing
+points-of-requires : tie.Need-points-of-requires
+points-of-requires c κs = search rowing
 
 array-share-prefix-points : tie.Need-array-share-prefix-points
 array-share-prefix-points c = search rowing
@@ -15,7 +15,7 @@ slice-aggregate-check-each-in-2 : tie.Need-slice-aggregate-check-each-in-2
 slice-aggregate-check-each-in-2 c = search rowing
 
 check-each-in-requires : tie.Need-check-each-in-requires
-check-each-in-requires c κs = search rowing
+check-each-in-requires c κs = (search rowing, (search rowing, (search rowing, (search rowing, search rowing))))
 
 returns : tie.Need-returns
 returns c = search rowing
@@ -24,7 +24,7 @@ pub check-each-of-spec : {M : Type 1} → statement M
 check-each-of-spec =
     tie.close
     (tie.spec
-    points-requires
+    points-of-requires
     array-share-prefix-points
     slice-aggregate-check-each-in
     slice-aggregate-check-each-in-2

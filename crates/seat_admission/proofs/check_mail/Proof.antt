@@ -26,8 +26,8 @@ mul-if1 c = search mailing
 returns-2 : tie.Need-returns-2
 returns-2 c = search mailing
 
-add-if2 : tie.Need-add-if2
-add-if2 c = search mailing
+last-call-by-requires : tie.Need-last-call-by-requires
+last-call-by-requires c κs = search mailing
 
 returns-3 : tie.Need-returns-3
 returns-3 c = search mailing
@@ -50,7 +50,7 @@ check-mail-spec =
     written-by-requires
     mul-if1
     returns-2
-    add-if2
+    last-call-by-requires
     returns-3
     check-outs-requires
     returns-4)

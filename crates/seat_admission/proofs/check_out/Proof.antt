@@ -2,8 +2,8 @@ use Rattle.seat_admission.proofs.CheckLaws.{opening}
 use Rattle.seat_admission.proofs.check_out.Statement.{statement}
 use Rattle.seat_admission.proofs.check_out.Tie as tie
 
-shares-of-out-requires : tie.Need-shares-of-out-requires
-shares-of-out-requires c κs = search opening
+from-each-requires : tie.Need-from-each-requires
+from-each-requires c κs = search opening
 
 array-share-prefix-shares : tie.Need-array-share-prefix-shares
 array-share-prefix-shares c = search opening
@@ -33,7 +33,7 @@ pub check-out-spec : {M : Type 1} → statement M
 check-out-spec =
     tie.close
     (tie.spec
-    shares-of-out-requires
+    from-each-requires
     array-share-prefix-shares
     slice-aggregate-first-off-by
     first-off-by-requires

@@ -1,4 +1,4 @@
-use Rattle.seat_admission.proofs.CheckLaws.{owning, coins-fit}
+use Rattle.seat_admission.proofs.CheckLaws.{owning}
 use Rattle.seat_admission.proofs.check_own.Statement.{statement}
 use Rattle.seat_admission.proofs.check_own.Tie as tie
 
@@ -7,6 +7,9 @@ returns c = search owning
 
 returns-2 : tie.Need-returns-2
 returns-2 c = search owning
+
+own-inputs-by-requires : tie.Need-own-inputs-by-requires
+own-inputs-by-requires c κs = search owning
 
 check-inputs-requires : tie.Need-check-inputs-requires
 check-inputs-requires c κs = search owning
@@ -20,9 +23,6 @@ enum-told-2 c = search owning
 returns-3 : tie.Need-returns-3
 returns-3 c = search owning
 
-mul-count : tie.Need-mul-count
-mul-count c = search coins-fit
-
 check-coins-requires : tie.Need-check-coins-requires
 check-coins-requires c κs = search owning
 
@@ -35,10 +35,10 @@ check-own-spec =
     (tie.spec
     returns
     returns-2
+    own-inputs-by-requires
     check-inputs-requires
     enum-told
     enum-told-2
     returns-3
-    mul-count
     check-coins-requires
     returns-4)

@@ -37,9 +37,12 @@ same-length c = search calling
 returns-2 : tie.Need-returns-2
 returns-2 c = (search calling, (search calling, search calling))
 
+last-call-by-requires : tie.Need-last-call-by-requires
+last-call-by-requires c κs = search calling
+
 work-requires : tie.Need-work-requires
 work-requires c κs =
-    (search planned-read, (search needs, admitted-by _ _ _ _ _ _ _ _ (c .before .before .before .before .check .ensures) (search needs)))
+    (search planned-read, (search needs, admitted-by _ _ _ _ _ _ _ _ (c .before .before .before .before .before .check .ensures) (search needs)))
 
 same-length-2 : tie.Need-same-length-2
 same-length-2 c = search calling
@@ -65,6 +68,7 @@ call-spec =
     enum-told-3
     same-length
     returns-2
+    last-call-by-requires
     work-requires
     same-length-2
     same-length-3

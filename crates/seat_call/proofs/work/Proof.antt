@@ -6,7 +6,7 @@ read-requires : tie.Need-read-requires
 read-requires c κs = search working
 
 learn-requires : tie.Need-learn-requires
-learn-requires c κs = (search working, (search working, (search working, (search working, search working))))
+learn-requires c κs = (search working, (search working, (search working, search working)))
 
 send-requires : tie.Need-send-requires
 send-requires c κs = (search working, (search working, (search working, search working)))

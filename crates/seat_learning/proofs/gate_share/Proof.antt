@@ -44,6 +44,18 @@ enum-told-2 c = search working
 read-requires-6 : tie.Need-read-requires-6
 read-requires-6 c κs = search working
 
+enum-told-3 : tie.Need-enum-told-3
+enum-told-3 c = search working
+
+read-requires-7 : tie.Need-read-requires-7
+read-requires-7 c κs = search working
+
+enum-told-4 : tie.Need-enum-told-4
+enum-told-4 c = search working
+
+read-requires-8 : tie.Need-read-requires-8
+read-requires-8 c κs = search working
+
 returns : tie.Need-returns
 returns c = search working
 
@@ -58,6 +70,12 @@ returns-4 c = search working
 
 returns-5 : tie.Need-returns-5
 returns-5 c = search working
+
+returns-6 : tie.Need-returns-6
+returns-6 c = search working
+
+returns-7 : tie.Need-returns-7
+returns-7 c = search working
 
 pub gate-share-spec : {M : Type 1} → statement M
 gate-share-spec =
@@ -77,8 +95,14 @@ gate-share-spec =
     add-requires-2
     enum-told-2
     read-requires-6
+    enum-told-3
+    read-requires-7
+    enum-told-4
+    read-requires-8
     returns
     returns-2
     returns-3
     returns-4
-    returns-5)
+    returns-5
+    returns-6
+    returns-7)

@@ -1,37 +1,18 @@
-use Rattle.seat_learning.proofs.LearnLaws.{written-below, learning}
-use borrow.Author.Needs.{needs}
+use Rattle.seat_learning.proofs.LearnLaws.{reducing}
 use Rattle.seat_learning.proofs.learn_product.Statement.{statement}
 use Rattle.seat_learning.proofs.learn_product.Tie as tie
 
-multiply-wire-requires : tie.Need-multiply-wire-requires
-multiply-wire-requires c κs = search learning
-
 reduced-requires : tie.Need-reduced-requires
-reduced-requires c κs = search learning
+reduced-requires c κs = search reducing
 
 write-requires : tie.Need-write-requires
-write-requires c κs = search learning
-
-add-work-from : tie.Need-add-work-from
-add-work-from c = search learning
-
-work-from-requires : tie.Need-work-from-requires
-work-from-requires c κs = (search needs, search (needs, written-below))
+write-requires c κs = search reducing
 
 same-length : tie.Need-same-length
-same-length c = search learning
+same-length c = search reducing
 
 returns : tie.Need-returns
-returns c = search learning
+returns c = search reducing
 
 pub learn-product-spec : {M : Type 1} → statement M
-learn-product-spec =
-    tie.close
-    (tie.spec
-    multiply-wire-requires
-    reduced-requires
-    write-requires
-    add-work-from
-    work-from-requires
-    same-length
-    returns)
+learn-product-spec = tie.close (tie.spec reduced-requires write-requires same-length returns)

@@ -2,8 +2,8 @@ use Rattle.seat_learning.proofs.LearnLaws.{reducing}
 use Rattle.seat_learning.proofs.reduced.Statement.{statement}
 use Rattle.seat_learning.proofs.reduced.Tie as tie
 
-points-requires : tie.Need-points-requires
-points-requires c κs = search reducing
+points-of-requires : tie.Need-points-of-requires
+points-of-requires c κs = search reducing
 
 first-numbers-requires : tie.Need-first-numbers-requires
 first-numbers-requires c κs = search reducing
@@ -39,7 +39,7 @@ pub reduced-spec : {M : Type 1} → statement M
 reduced-spec =
     tie.close
     (tie.spec
-    points-requires
+    points-of-requires
     first-numbers-requires
     add-m
     add-m-2

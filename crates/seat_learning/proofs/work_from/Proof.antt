@@ -15,8 +15,8 @@ loop-holds c = search going-on
 gate-in-requires : tie.Need-gate-in-requires Inv-loop μ-loop
 gate-in-requires c κs = search going-on
 
-is-multiply-requires : tie.Need-is-multiply-requires Inv-loop μ-loop
-is-multiply-requires c κs = search going-on
+takes-rounds-requires : tie.Need-takes-rounds-requires Inv-loop μ-loop
+takes-rounds-requires c κs = search going-on
 
 same-length : tie.Need-same-length Inv-loop μ-loop
 same-length c = search going-on
@@ -50,7 +50,7 @@ work-from-spec =
     μ-loop
     loop-holds
     gate-in-requires
-    is-multiply-requires
+    takes-rounds-requires
     same-length
     returns
     work-gate-requires

@@ -2,8 +2,8 @@ use Rattle.seat_results.proofs.ResultLaws.{opening-one}
 use Rattle.seat_results.proofs.opening.Statement.{statement}
 use Rattle.seat_results.proofs.opening.Tie as tie
 
-shares-of-out-requires : tie.Need-shares-of-out-requires
-shares-of-out-requires c κs = search opening-one
+from-each-requires : tie.Need-from-each-requires
+from-each-requires c κs = search opening-one
 
 array-share-prefix-shares : tie.Need-array-share-prefix-shares
 array-share-prefix-shares c = search opening-one
@@ -21,7 +21,7 @@ pub opening-spec : {M : Type 1} → statement M
 opening-spec =
     tie.close
     (tie.spec
-    shares-of-out-requires
+    from-each-requires
     array-share-prefix-shares
     slice-aggregate-dot
     dot-requires

@@ -2,8 +2,8 @@ use Rattle.seat_results.proofs.ResultLaws.{resulting}
 use Rattle.seat_results.proofs.results.Statement.{statement}
 use Rattle.seat_results.proofs.results.Tie as tie
 
-points-requires : tie.Need-points-requires
-points-requires c κs = search resulting
+points-of-requires : tie.Need-points-of-requires
+points-of-requires c κs = search resulting
 
 add-top : tie.Need-add-top
 add-top c = search resulting
@@ -42,7 +42,7 @@ pub results-spec : {M : Type 1} → statement M
 results-spec =
     tie.close
     (tie.spec
-    points-requires
+    points-of-requires
     add-top
     array-share-prefix-points
     slice-aggregate-weights

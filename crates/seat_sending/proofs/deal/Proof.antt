@@ -7,13 +7,13 @@ use Rattle.seat_sending.proofs.deal.Statement.{statement}
 use Rattle.seat_sending.proofs.deal.Tie as tie
 
 abbrev Inv-loop : tie.InvT-loop
-Inv-loop h secret coins from out₀ points coefficients top j₀ out j = Dealt (h .field .p) (secret ∷ coinsFrom (h .t) from (numbers coins)) (h .n) out₀ out j
+Inv-loop plan h secret coins from out₀ points coefficients top j₀ out j = Dealt (h .field .p) (secret ∷ coinsFrom (h .t) from (numbers coins)) points (h .n) out₀ out j
 
 abbrev μ-loop : tie.MeasureT-loop
-μ-loop h secret coins from out₀ points coefficients top j₀ out j = h .n - j
+μ-loop plan h secret coins from out₀ points coefficients top j₀ out j = h .n - j
 
-points-requires : tie.Need-points-requires Inv-loop μ-loop
-points-requires c κs = search dealing-out
+points-of-requires : tie.Need-points-of-requires Inv-loop μ-loop
+points-of-requires c κs = search dealing-out
 
 polynomial-requires : tie.Need-polynomial-requires Inv-loop μ-loop
 polynomial-requires c κs = search dealing-out
@@ -63,7 +63,7 @@ deal-spec =
     (tie.spec
     Inv-loop
     μ-loop
-    points-requires
+    points-of-requires
     polynomial-requires
     add-top
     loop-holds

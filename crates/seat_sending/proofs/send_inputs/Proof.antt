@@ -16,8 +16,8 @@ Inv-loop plan h i inputs coins out₀ points at₀ j₀ out at j = Rows (λ j. i
 abbrev μ-loop : tie.MeasureT-loop
 μ-loop plan h i inputs coins out₀ points at₀ j₀ out at j = h .n - j
 
-points-requires : tie.Need-points-requires Inv-loop μ-loop
-points-requires c κs = search receiving
+points-of-requires : tie.Need-points-of-requires Inv-loop μ-loop
+points-of-requires c κs = search receiving
 
 loop-holds : tie.Need-loop-holds Inv-loop μ-loop
 loop-holds c = search receiving
@@ -52,7 +52,7 @@ send-inputs-spec =
     (tie.spec
     Inv-loop
     μ-loop
-    points-requires
+    points-of-requires
     loop-holds
     mul-send-inputs-to
     array-read-send-inputs-to

@@ -1,5 +1,5 @@
 use Prim.Native.Nat.{_-_}
-use Rattle.seat_sending.proofs.InputLaws.{Inputting, inputting, inputs-fit}
+use Rattle.seat_sending.proofs.InputLaws.{Inputting, inputting}
 use Rattle.seat_sending.proofs.send_inputs_to.Statement.{statement}
 use Rattle.seat_sending.proofs.send_inputs_to.Tie as tie
 
@@ -21,17 +21,11 @@ sub-read c = search inputting
 read-requires : tie.Need-read-requires Inv-loop μ-loop
 read-requires c κs = search inputting
 
-mul-send-input : tie.Need-mul-send-input Inv-loop μ-loop
-mul-send-input c = record { fits = search inputs-fit }
-
 send-input-requires : tie.Need-send-input-requires Inv-loop μ-loop
 send-input-requires c κs = search inputting
 
-is-dealer-requires : tie.Need-is-dealer-requires Inv-loop μ-loop
-is-dealer-requires c κs = search inputting
-
-one-if-requires : tie.Need-one-if-requires Inv-loop μ-loop
-one-if-requires c κs = search inputting
+own-coins-at-requires : tie.Need-own-coins-at-requires Inv-loop μ-loop
+own-coins-at-requires c κs = search inputting
 
 add-k : tie.Need-add-k Inv-loop μ-loop
 add-k c = search inputting
@@ -61,10 +55,8 @@ send-inputs-to-spec =
     gate-in-requires
     sub-read
     read-requires
-    mul-send-input
     send-input-requires
-    is-dealer-requires
-    one-if-requires
+    own-coins-at-requires
     add-k
     add-g
     loop-less

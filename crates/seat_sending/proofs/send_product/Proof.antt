@@ -1,4 +1,4 @@
-use Rattle.seat_sending.proofs.ProductLaws.{product-sending, product-fits}
+use Rattle.seat_sending.proofs.ProductLaws.{product-sending}
 use Rattle.seat_sending.proofs.send_product.Statement.{statement}
 use Rattle.seat_sending.proofs.send_product.Tie as tie
 
@@ -11,20 +11,11 @@ add-if1-2 c = search product-sending
 returns : tie.Need-returns
 returns c = search product-sending
 
-multiply-wire-requires : tie.Need-multiply-wire-requires
-multiply-wire-requires c κs = search product-sending
-
-gate-in-requires : tie.Need-gate-in-requires
-gate-in-requires c κs = search product-sending
-
 product-requires : tie.Need-product-requires
 product-requires c κs = search product-sending
 
-dealings-below-requires : tie.Need-dealings-below-requires
-dealings-below-requires c κs = search product-sending
-
-mul-deal : tie.Need-mul-deal
-mul-deal c = record { fits = search product-fits }
+coins-below-requires : tie.Need-coins-below-requires
+coins-below-requires c κs = search product-sending
 
 deal-requires : tie.Need-deal-requires
 deal-requires c κs = search product-sending
@@ -42,11 +33,8 @@ send-product-spec =
     add-if1
     add-if1-2
     returns
-    multiply-wire-requires
-    gate-in-requires
     product-requires
-    dealings-below-requires
-    mul-deal
+    coins-below-requires
     deal-requires
     same-length
     returns-2)

@@ -13,17 +13,8 @@ abbrev μ-loop : tie.MeasureT-loop
 loop-holds : tie.Need-loop-holds Inv-loop μ-loop
 loop-holds c = search matching-runs
 
-read-requires : tie.Need-read-requires Inv-loop μ-loop
-read-requires c κs = search matching-runs
-
-read-requires-2 : tie.Need-read-requires-2 Inv-loop μ-loop
-read-requires-2 c κs = search matching-runs
-
 match-step-requires : tie.Need-match-step-requires Inv-loop μ-loop
 match-step-requires c κs = (search matching-runs, (search matching-runs, search matching-runs))
-
-gate-at-requires : tie.Need-gate-at-requires Inv-loop μ-loop
-gate-at-requires c κs = search matching-runs
 
 inputs-taken-requires : tie.Need-inputs-taken-requires Inv-loop μ-loop
 inputs-taken-requires c κs = search matching-runs
@@ -39,8 +30,8 @@ loop-less c = search matching-runs
 
 loop-again : tie.Need-loop-again Inv-loop μ-loop
 loop-again c =
-    match-next _ _ _ _ _ _ _ _ _ _ _ _ _ _ _ _ _ (c .before .before .before .before .before .before .before .before .before .before .before .before .before .before .before .before .loop .inv) (search needs) _ _ (search needs) (search needs) _ _ _ _ _ _ (c .before .before .before .before .before .before .before .before .match-step .ensures)
-    (search needs) (search needs) (search needs) (c .before .gate-at .ensures) (c .inputs-taken .ensures .eq) (search needs)
+    match-next _ _ _ _ _ _ _ _ _ _ _ _ _ _ _ _ _ (c .before .before .before .before .before .before .before .before .before .before .before .before .before .loop .inv) (search needs) _ _ _ _ _ (c .before .before .before .before .before .before .before .match-step .ensures)
+    (search needs) (search needs) (search needs) (c .inputs-taken .ensures .eq) (search needs)
 
 same-length : tie.Need-same-length Inv-loop μ-loop
 same-length c = search matching-runs
@@ -61,10 +52,7 @@ match-runs-spec =
     Inv-loop
     μ-loop
     loop-holds
-    read-requires
-    read-requires-2
     match-step-requires
-    gate-at-requires
     inputs-taken-requires
     add-next
     add-g

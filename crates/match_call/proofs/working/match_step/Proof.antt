@@ -1,4 +1,5 @@
-use Rattle.match_call.proofs.StepMatchLaws.{matching-step}
+use borrow.Author.Needs.{needs}
+use Rattle.match_call.proofs.StepMatchLaws.{matching-step, turn-both}
 use Rattle.match_call.proofs.working.match_step.Statement.{statement}
 use Rattle.match_call.proofs.working.match_step.Tie as tie
 
@@ -6,7 +7,7 @@ match-coins-requires : tie.Need-match-coins-requires
 match-coins-requires c κs = (search matching-step, search matching-step)
 
 step-both-requires : tie.Need-step-both-requires
-step-both-requires c κs = (search matching-step, ((search matching-step, search matching-step), (search matching-step, (search matching-step, ((search matching-step, search matching-step), (search matching-step, (search matching-step, (search matching-step, search matching-step))))))))
+step-both-requires c κs = (turn-both _ _ _ _ (c .before .before .before .before .before .before .before .before .before .before .before .before .before .before .before .before .before .before .before .before .pre .0) _ _ _ _ _ _ _ _ (c .before .before .before .before .before .before .before .before .before .before .before .before .before .before .before .before .before .before .before .before .pre .1 .1) _ (search needs), search matching-step)
 
 same-length : tie.Need-same-length
 same-length c = search matching-step

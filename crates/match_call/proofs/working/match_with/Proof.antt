@@ -2,8 +2,8 @@ use Rattle.match_call.proofs.RunsLaws.{working}
 use Rattle.match_call.proofs.working.match_with.Statement.{statement}
 use Rattle.match_call.proofs.working.match_with.Tie as tie
 
-points-requires : tie.Need-points-requires
-points-requires c κs = search working
+points-of-requires : tie.Need-points-of-requires
+points-of-requires c κs = search working
 
 array-share-prefix-points : tie.Need-array-share-prefix-points
 array-share-prefix-points c = search working
@@ -51,7 +51,7 @@ pub match-with-spec : {M : Type 1} → statement M
 match-with-spec =
     tie.close
     (tie.spec
-    points-requires
+    points-of-requires
     array-share-prefix-points
     slice-aggregate-prepare
     slice-aggregate-prepare-2

@@ -1,4 +1,4 @@
-use Rattle.run_bench.proofs.RunCheckLaws.{giving, dealing-fits}
+use Rattle.run_bench.proofs.RunCheckLaws.{giving}
 use Rattle.run_bench.proofs.checking.check_given.Statement.{statement}
 use Rattle.run_bench.proofs.checking.check_given.Tie as tie
 
@@ -17,11 +17,8 @@ enum-told-2 c = search giving
 returns : tie.Need-returns
 returns c = search giving
 
-dealing-count-requires : tie.Need-dealing-count-requires
-dealing-count-requires c κs = search giving
-
-mul-count : tie.Need-mul-count
-mul-count c = search dealing-fits
+coin-count-requires : tie.Need-coin-count-requires
+coin-count-requires c κs = search giving
 
 check-coins-requires : tie.Need-check-coins-requires
 check-coins-requires c κs = search giving
@@ -38,7 +35,6 @@ check-given-spec =
     enum-told
     enum-told-2
     returns
-    dealing-count-requires
-    mul-count
+    coin-count-requires
     check-coins-requires
     returns-2)

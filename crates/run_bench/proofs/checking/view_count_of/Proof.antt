@@ -1,12 +1,9 @@
-use Rattle.run_bench.proofs.RunCheckLaws.{sizing, pieces-fits, outs-fits}
+use Rattle.run_bench.proofs.RunCheckLaws.{sizing, outs-fits}
 use Rattle.run_bench.proofs.checking.view_count_of.Statement.{statement}
 use Rattle.run_bench.proofs.checking.view_count_of.Tie as tie
 
 tally-of-requires : tie.Need-tally-of-requires
 tally-of-requires c κs = search sizing
-
-mul-coins : tie.Need-mul-coins
-mul-coins c = search sizing
 
 add-pieces : tie.Need-add-pieces
 add-pieces c = search sizing
@@ -15,7 +12,7 @@ add-pieces-2 : tie.Need-add-pieces-2
 add-pieces-2 c = search sizing
 
 mul-pieces : tie.Need-mul-pieces
-mul-pieces c = search pieces-fits
+mul-pieces c = search sizing
 
 own-out-count-requires : tie.Need-own-out-count-requires
 own-out-count-requires c κs = search sizing
@@ -46,7 +43,6 @@ view-count-of-spec =
     tie.close
     (tie.spec
     tally-of-requires
-    mul-coins
     add-pieces
     add-pieces-2
     mul-pieces

@@ -1,0 +1,4 @@
+pub mod Moved
+pub mod Joint
+pub mod Jointly
+pub mod Worked

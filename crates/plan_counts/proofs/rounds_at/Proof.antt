@@ -1,0 +1,18 @@
+use Rattle.plan_counts.proofs.Steps.{stepping}
+use Rattle.plan_counts.proofs.rounds_at.Statement.{statement}
+use Rattle.plan_counts.proofs.rounds_at.Tie as tie
+
+mul-byte : tie.Need-mul-byte
+mul-byte c = search stepping
+
+add-byte : tie.Need-add-byte
+add-byte c = search stepping
+
+byte-requires : tie.Need-byte-requires
+byte-requires c κs = search stepping
+
+returns : tie.Need-returns
+returns c = search stepping
+
+pub rounds-at-spec : {M : Type 1} → statement M
+rounds-at-spec = tie.close (tie.spec mul-byte add-byte byte-requires returns)
