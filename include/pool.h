@@ -71,7 +71,7 @@ extern "C" {
 #define POOL_STACK_BENCH 131072
 #define POOL_STACK_MATCH 262144
 #define POOL_STACK_IMPORT 81920
-#define POOL_STACK_SHEET 16384
+#define POOL_STACK_SHEET 32768
 
 /* The refusal's number in an answer, 0 where there is none; and its place. */
 #define POOL_REFUSAL(answer) ((unsigned)((answer) & 0xff))
@@ -99,8 +99,8 @@ static inline const char *pool_refusal_sentence(unsigned number)
  *
  * plan, plan_len: the bytes of a plan file, any number of them.
  *
- * Answers 0 where the plan passes, else the first of refusals 1 to 8 with its
- * place. Writes nothing.
+ * Answers 0 where the plan passes, else the first of refusals 1 to 8 and 25
+ * with its place. Writes nothing.
  */
 uint64_t pool_plan_check(const uint8_t *plan, size_t plan_len);
 
@@ -121,7 +121,7 @@ uint64_t pool_plan_check(const uint8_t *plan, size_t plan_len);
  *                 not 1.
  *
  * Answers the size as its value; or the first of refusals 23 and 24 and those
- * of the plan, 3 to 6. The time is linear in the text's length.
+ * of the plan, 3 to 6 and 25. The time is linear in the text's length.
  */
 uint64_t pool_import_size(const uint8_t *text, size_t text_len, uint32_t n,
     uint32_t t, uint32_t p);
@@ -137,7 +137,7 @@ uint64_t pool_import_size(const uint8_t *text, size_t text_len, uint32_t n,
  * order.
  *
  * Answers 0 and has written plan, or answers the first of refusals 23 and 24,
- * those of the plan, 3 to 6, and 19, and has written nothing.
+ * those of the plan, 3 to 6 and 25, and 19, and has written nothing.
  */
 uint64_t pool_import(const uint8_t *text, size_t text_len, uint32_t n,
     uint32_t t, uint32_t p, uint8_t *plan, size_t plan_len);
@@ -158,8 +158,8 @@ uint64_t pool_import(const uint8_t *text, size_t text_len, uint32_t n,
  * seat:           the party that gets the result, as it is.
  *
  * Answers the size as its value; or the first of refusals 27 and 24 and those
- * of the plan: 3 to 5, and 8 where the result's party is not 1 to n. The time
- * is linear in the text's length.
+ * of the plan: 3 to 5, 8 where the result's party is not 1 to n, and 25. The
+ * time is linear in the text's length.
  */
 uint64_t pool_sheet_size(const uint8_t *text, size_t text_len, uint32_t n,
     uint32_t t, uint32_t p, uint32_t seat);
@@ -175,7 +175,7 @@ uint64_t pool_sheet_size(const uint8_t *text, size_t text_len, uint32_t n,
  * value modulo p.
  *
  * Answers 0 and has written plan, or answers the first of refusals 27 and 24,
- * those of the plan, 3 to 5 and 8, and 19, and has written nothing.
+ * those of the plan, 3 to 5, 8 and 25, and 19, and has written nothing.
  */
 uint64_t pool_sheet(const uint8_t *text, size_t text_len, uint32_t n,
     uint32_t t, uint32_t p, uint32_t seat, uint8_t *plan, size_t plan_len);
@@ -184,7 +184,7 @@ uint64_t pool_sheet(const uint8_t *text, size_t text_len, uint32_t n,
  * How many calls each party makes: M + 3, numbered 0 to M + 2, with M the
  * multiply gates.
  *
- * Answers the count as its value, or the first of refusals 1 to 8.
+ * Answers the count as its value, or the first of refusals 1 to 8 and 25.
  */
 uint64_t pool_calls(const uint8_t *plan, size_t plan_len);
 
@@ -206,7 +206,7 @@ enum {
  * what:           one of the lists above.
  *
  * Answers the size as its value, 0 where there is no such call or list; or
- * the first of refusals 1 to 9.
+ * the first of refusals 1 to 8, 25 and 9.
  */
 uint64_t pool_seat_size(const uint8_t *plan, size_t plan_len, uint16_t seat,
     uint16_t call, uint16_t what);
@@ -233,7 +233,7 @@ uint64_t pool_seat_size(const uint8_t *plan, size_t plan_len, uint16_t seat,
  * M + 1 party i's part has a share for each of its outs.
  *
  * Answers 0 and has written state and out, or answers the first of refusals 1
- * to 20 and has written nothing.
+ * to 8, 25 and 9 to 20 and has written nothing.
  *
  * Refusal 20 speaks of the first of the party's outs that breaks. Its place is
  * a party's number, t + 2 to n: the shares of all parties before it lie on one
@@ -261,7 +261,7 @@ enum {
  * what: one of the lists above.
  *
  * Answers the size as its value, 0 where there is no such list; or the first
- * of refusals 1 to 9.
+ * of refusals 1 to 8, 25 and 9.
  */
 uint64_t pool_run_size(const uint8_t *plan, size_t plan_len, uint16_t set,
     uint16_t what);
@@ -278,7 +278,7 @@ uint64_t pool_run_size(const uint8_t *plan, size_t plan_len, uint16_t set,
  *                       each round's mail, its results.
  *
  * Answers the elements sent as its value and has written view, or answers the
- * first of refusals 1 to 13 and 19 and has written nothing.
+ * first of refusals 1 to 8, 25, 9 to 13 and 19 and has written nothing.
  */
 uint64_t pool_bench(const uint8_t *plan, size_t plan_len, uint16_t set,
     const uint8_t *figures, size_t figures_len,
@@ -295,8 +295,8 @@ uint64_t pool_bench(const uint8_t *plan, size_t plan_len, uint16_t set,
  * matched, matched_len:   written: all coins with which a run on the second
  *                         list gives the coalition the same view.
  *
- * Answers 0 and has written matched, or answers the first of refusals 1 to 13,
- * 19, 21 and 22 and has written nothing.
+ * Answers 0 and has written matched, or answers the first of refusals 1 to 8,
+ * 25, 9 to 13, 19, 21 and 22 and has written nothing.
  */
 uint64_t pool_match(const uint8_t *plan, size_t plan_len, uint16_t set,
     const uint8_t *first, size_t first_len,
@@ -319,7 +319,7 @@ uint64_t pool_match(const uint8_t *plan, size_t plan_len, uint16_t set,
  * the bill.
  *
  * Answers the bill in cents as its value and has written parts, or answers the
- * first of refusals 1 to 8, 31 and 19 and has written nothing.
+ * first of refusals 1 to 8, 25, 31 and 19 and has written nothing.
  */
 uint64_t pool_charge(const uint8_t *plan, size_t plan_len, uint32_t price,
     uint8_t *parts, size_t parts_len);

@@ -102,7 +102,8 @@ static void others(void)
     refused("257 seats are not 1", example, 257, 0, 11, 3);
     refused("16 seats", example, 16, 1, 17, 3);
     refused("no seats and no input value", "0 0\n0\n0\n", 0, 0, 11, 3);
-    refused("t too large", example, 3, 2, 11, 4);
+    refused("t of n", example, 3, 3, 11, 4);
+    refused("a product without a majority", example, 3, 2, 11, 25);
     refused("t of 2^31", example, 3, 1u << 31, 11, 4);
     refused("p not prime", example, 3, 1, 9, 5);
     refused("p not above n", example, 3, 1, 3, 5);
@@ -110,6 +111,7 @@ static void others(void)
     refused("p of 0", example, 3, 1, 0, 5);
     refused("no outs", "0 1\n1 1\n0\n", 3, 1, 11, 6);
     refused("no gates", "0 0\n0\n0\n", 3, 1, 11, 6);
+    imports("an INV without a majority", "1 2\n1 1\n1 1\n1 1 0 1 INV\n", 24, 2, 1, 11, 18 + 6 * 3 + 3);
     imports("an output value of no wires, input values of none", "0 2\n3 0 2 0\n2 0 1\n", 18, 3, 1, 11, 18 + 6 * 2 + 3);
 }
 

@@ -42,8 +42,9 @@ static void check_refusals(void)
     changed("version", 4, 2, 2, 0);
     changed("no party", 5, 0, 3, 0);
     changed("16 parties", 5, 16, 3, 0);
-    changed("n=2, t=1", 5, 2, 4, 0);
-    changed("2t is n + 1", 6, 2, 4, 0);
+    changed("n=2, t=1", 5, 2, 8, 0);
+    changed("t is n", 6, 3, 4, 0);
+    changed("2t is n + 1", 6, 2, 25, 0);
     changed("p=9", 8, 9, 5, 0);
     changed("p=3", 8, 3, 5, 0);
     changed("p=1", 8, 1, 5, 0);
@@ -123,10 +124,12 @@ static void field_of(unsigned n, unsigned t, unsigned p, unsigned number)
 static void check_fields(void)
 {
     field_of(1, 0, 2, 0);
-    field_of(2, 1, 11, 4);
+    field_of(2, 1, 11, 0);
+    field_of(2, 2, 11, 4);
     field_of(15, 7, 17, 0);
     field_of(15, 7, 13, 5);
-    field_of(15, 8, 17, 4);
+    field_of(15, 14, 17, 0);
+    field_of(15, 15, 17, 4);
     field_of(16, 7, 17, 3);
     field_of(3, 1, 3, 5);
     field_of(3, 1, 9, 5);

@@ -195,7 +195,8 @@ static void order(void)
     refused("257 seats are not 1", example, 257, 0, 11, 1, 3);
     refused("16 seats", example, 16, 9, 17, 0, 3);
     refused("no seats: a name's is not among them", example, 0, 0, 11, 1, 27);
-    refused("t too large", example, 3, 2, 9, 1, 4);
+    refused("t of n", example, 3, 3, 9, 1, 4);
+    refused("a product without a majority", example, 3, 2, 11, 1, 25);
     refused("t of 2^31", example, 3, 1u << 31, 11, 1, 4);
     refused("p not prime", example, 3, 1, 9, 0, 5);
     refused("p not above n", "a1 + b2", 3, 1, 3, 1, 5);
@@ -205,6 +206,9 @@ static void order(void)
     refused("p of 0 and a number", "a1 + 0", 3, 1, 0, 1, 27);
     compiles("a result for seat n", example, 3, 1, 11, 3, 11);
     refused("a result for seat n + 1", example, 3, 1, 11, 4, 8);
+    refused("8 comes before 25", example, 3, 2, 11, 4, 8);
+    compiles("the total of two plants", "a1 + b2", 2, 1, 11, 1, 3);
+    compiles("a depth of 16 without a majority", "((((((((((((((((a1 - 2 + b15))))))))))))))))", 15, 14, 17, 15, 7);
     refused("a result for seat 0", example, 3, 1, 11, 0, 8);
     refused("a result for seat 257", example, 3, 1, 11, 257, 8);
     refused("a result for seat 2^31 + 1", example, 3, 1, 11, (1u << 31) + 1, 8);

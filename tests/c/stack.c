@@ -13,12 +13,12 @@ enum { GATES = 1024, OUTS = 64, PAGE = 4096, PAINT = 0xa5 };
 static uint8_t plan[18 + 6 * GATES + 3 * OUTS], figures[4 * GATES], coins[400000], buffer[1000000], state[4 * GATES], mail[40000], written[40000];
 static size_t plan_len;
 
-/* n inputs of party 1, then multiplies; all outs go to party 1. */
+/* n inputs of party 1, then multiplies, or adds where there is no majority; all outs go to party 1. */
 static void largest(unsigned n, unsigned t)
 {
     contents(plan, n, t, 65521, GATES, OUTS);
     for (unsigned g = 0; g < GATES; g++)
-        gate(plan, g, g < n ? 1 : 5, g < n ? 1 : g - 1, g < n ? 0 : g / 2);
+        gate(plan, g, g < n ? 1 : 2 * t < n ? 5 : 2, g < n ? 1 : g - 1, g < n ? 0 : g / 2);
     for (unsigned o = 0; o < OUTS; o++)
         out(plan, GATES, o, 1, GATES - 1);
     plan_len = sizeof plan;
@@ -59,7 +59,7 @@ static uint64_t first_calls(void)
 {
     uint64_t answer = 0;
     memset(state, 0, sizeof state);
-    for (uint16_t call = 0; call < 4 && !answer; call++)
+    for (uint16_t call = 0; call < 4 && call < POOL_VALUE(pool_calls(plan, plan_len)) && !answer; call++)
         answer = pool_seat_call(plan, plan_len, 1, figures, seat_size(call, 0), coins, seat_size(call, 1), state, seat_size(call, 2), mail,
             seat_size(call, 3), written, seat_size(call, 4));
     return answer;
@@ -84,7 +84,7 @@ static uint64_t small(void)
     return refusals;
 }
 
-/* A circuit with as many wires as a text can have, and one that makes a plan. */
+/* A circuit with as many wires as a text can have, and one that makes a plan without a majority. */
 static uint64_t import(void)
 {
     static char text[2000000];
@@ -96,8 +96,8 @@ static uint64_t import(void)
     len = (size_t)sprintf(text, "511 512\n1 1\n1 1\n");
     for (unsigned g = 0; g < 511; g++)
         len += (size_t)sprintf(text + len, "1 1 %u %u INV\n", g, g + 1);
-    size_t size = POOL_VALUE(pool_import_size((uint8_t *)text, len, 3, 1, 11));
-    return pool_import((uint8_t *)text, len, 3, 1, 11, buffer, size);
+    size_t size = POOL_VALUE(pool_import_size((uint8_t *)text, len, 3, 2, 11));
+    return pool_import((uint8_t *)text, len, 3, 2, 11, buffer, size);
 }
 
 /* As many names as there are, the last within brackets as deep as they go; and a long sheet of which only the end is wrong. */
@@ -110,6 +110,11 @@ static uint64_t sheet(void)
     len += (size_t)sprintf(text + len, "((((((((((((((((z15 - 2*z15))))))))))))))))");
     size_t size = POOL_VALUE(pool_sheet_size((uint8_t *)text, len, 15, 7, 17, 1));
     uint64_t answer = pool_sheet((uint8_t *)text, len, 15, 7, 17, 1, buffer, size);
+    /* the same names added, which need no majority */
+    for (size_t at = 0; at < len; at++)
+        text[at] = text[at] == '*' ? '+' : text[at];
+    size = POOL_VALUE(pool_sheet_size((uint8_t *)text, len, 15, 14, 17, 1));
+    answer += pool_sheet((uint8_t *)text, len, 15, 14, 17, 1, buffer, size);
     while (len < sizeof text - 100)
         len += (size_t)sprintf(text + len, "+((((((((((((((((a1))))))))))))))))");
     len += (size_t)sprintf(text + len, "+(((((((((((((((((a1)))))))))))))))))");
@@ -164,8 +169,8 @@ static void on_stack(const char *what, uint64_t (*call)(void), size_t stated)
 
 int main(void)
 {
-    static const unsigned shapes[][2] = {{15, 7}, {3, 1}, {1, 0}};
-    for (unsigned k = 0; k < 3; k++) {
+    static const unsigned shapes[][2] = {{15, 14}, {15, 7}, {3, 1}, {1, 0}};
+    for (unsigned k = 0; k < 4; k++) {
         largest(shapes[k][0], shapes[k][1]);
         on_stack("pool_bench", bench, POOL_STACK_BENCH);
         on_stack("pool_match", match, POOL_STACK_MATCH);

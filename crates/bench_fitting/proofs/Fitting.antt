@@ -6,9 +6,10 @@
 -- Assumes nothing.
 use Prim.Native.Nat.{ℕ, zero, suc, _+_, _*_, _/_, _%_, _<_, _≤_}
 use mathlib.Core.Path.{_≡_, refl, sym, ap, _∙_}
+use mathlib.Core.Logic.{⊎-elim}
 use mathlib.Core.Bool.{Bool, true, false, cond}
 use mathlib.Core.List.{List, [], _∷_, _++_, map, flatMap}
-use native.Mathlib.Nat.{mul-le-mul}
+use native.Mathlib.Nat.{mul-le-mul, mul-suc, mul-zero}
 use native.Mathlib.Omega.{arith}
 use borrow.Author.Needs.{needs}
 use borrow.Author.Tests.{lt-ltb}
@@ -38,7 +39,7 @@ use Rattle.plan.specs.Planned.{Planned}
 use Rattle.plan.proofs.Refusals.{firstOf-append, passed-both}
 use Rattle.plan.proofs.Planned.{passing, modulus-small, planned, plan-t, plan-n, plan-dealers, plan-gates, plan-outs}
 use Rattle.plan.proofs.Wires.{out-wires-few}
-use Rattle.plan.proofs.Valid.{Valid, valid, sized, plain, plain-no-7}
+use Rattle.plan.proofs.Valid.{Valid, valid, sized, plain, plain-no-7, planned-or}
 use Rattle.plan_counts.proofs.Counts.{coins-input, coins-multiply, coins-random, coins-add, coins-scale, coins-offset, coins-spend}
 use Rattle.plan.proofs.Counts.{plain-steps, plain-own-inputs}
 use Rattle.plan_coalition.specs.Coalitions.{inSet, members, setFits}
@@ -117,10 +118,10 @@ line-most word xs = omega (arith, length-append word (flatMap field xs ++ (10 �
 numbers-short : (p : ℕ) (xs : List ℕ) → p ≤ 65536 → allBelow p xs ≡ true → Short xs
 numbers-short p xs l h = at-all (λ x. x < 100000) xs (λ i m. omega (arith, allBelow-at p xs i h m))
 
-flat-most : (f : ℕ → List ℕ) (is : List ℕ) → All (λ i. length (f i) ≤ 165576) is → length (flatMap f is) ≤ 165576 * length is
+flat-most : (most : ℕ) (f : ℕ → List ℕ) (is : List ℕ) → All (λ i. length (f i) ≤ most) is → length (flatMap f is) ≤ most * length is
 unfolding flatMap
-flat-most f [] a = omega arith
-flat-most f (i ∷ is) a = omega (arith, length-append (f i) (flatMap f is), a .0, flat-most f is (a .1))
+flat-most most f [] a = omega arith
+flat-most most f (i ∷ is) a = omega (arith, length-append (f i) (flatMap f is), a .0, flat-most most f is (a .1), mul-suc most (length is))
 
 -- lines of so many numbers and twelve bytes
 rounds-bound : (f : ℕ → List ℕ) (c u : ℕ → ℕ) (n : ℕ) → ((k : ℕ) → k < n → length (f (u k)) ≤ 12 + 6 * c k) → length (flatMap f (tab u n)) ≤ 12 * n + 6 * total (tab c n)
@@ -136,11 +137,11 @@ rounds-bound f c u (suc n) h =
 
 -- ---- a party's own coins: t at most at each gate
 module _ (bs : List ℕ) (h : Header) (k : Planned bs h) (i : ℕ) where
-  coins-by : (b : Bool) (r : ℕ) → cond b (h .t) 0 ≡ r → r ≤ 7
-  coins-by true r e = omega (arith, k .majority, k .n-high)
+  coins-by : (b : Bool) (r : ℕ) → cond b (h .t) 0 ≡ r → r ≤ h .t
+  coins-by true r e = omega arith
   coins-by false r e = omega arith
 
-  gate-coins : (x : Gate) → countWhere (eqb i) (coinOwnersAt (planOf bs) x) ≤ 7
+  gate-coins : (x : Gate) → countWhere (eqb i) (coinOwnersAt (planOf bs) x) ≤ h .t
   gate-coins (Input s) = coins-by (eqb i s) _ (coins-input bs h k i (Input s) s _ refl refl)
   gate-coins (Add a b) = omega (arith, coins-add bs h k i (Add a b) a b refl)
   gate-coins (Scale a c) = omega (arith, coins-scale bs h k i (Scale a c) a c refl)
@@ -149,11 +150,11 @@ module _ (bs : List ℕ) (h : Header) (k : Planned bs h) (i : ℕ) where
   gate-coins Random = coins-by (between 1 (h .n) i) _ (coins-random bs h k i Random _ _ refl refl refl)
   gate-coins (Spend a b) = omega (arith, coins-spend bs h k i (Spend a b) a b refl)
 
-  gates-coins : (gs : List Gate) → countWhere (eqb i) (flatMap (coinOwnersAt (planOf bs)) gs) ≤ 7 * length gs
+  gates-coins : (gs : List Gate) → countWhere (eqb i) (flatMap (coinOwnersAt (planOf bs)) gs) ≤ h .t * length gs
   unfolding flatMap countWhere
   gates-coins [] = omega arith
   gates-coins (x ∷ gs) =
-      omega (arith, gate-coins x, gates-coins gs, countWhere-append (eqb i) (coinOwnersAt (planOf bs) x) (flatMap (coinOwnersAt (planOf bs)) gs))
+      omega (arith, gate-coins x, gates-coins gs, countWhere-append (eqb i) (coinOwnersAt (planOf bs) x) (flatMap (coinOwnersAt (planOf bs)) gs), mul-suc (h .t) (length gs))
 
 -- ---- the lines of a run that passes
 pub contents : (bytes : List ℕ) → planCheck bytes ≡ Passed → Planned bytes (headerOf bytes)
@@ -194,16 +195,17 @@ module _ (bytes xs cs : List ℕ) (passes : planCheck bytes ≡ Passed) (inputs 
   own-few : (i : ℕ) → ownInputCount plan i ≤ 1024
   own-few i = omega (arith, plain-own-inputs plan (plain bytes passes) i, countWhere-le-length (isInputOf i) (plan .gates), gates-few)
 
-  own-coins-most : (i : ℕ) → ownCoinCount plan i ≤ 7168
+  own-coins-most : (i c : ℕ) → h .t ≤ c → ownCoinCount plan i ≤ c * 1024
   unfolding ownCoinCount coinOwners
-  own-coins-most i = omega (arith, gates-coins bytes h k i (plan .gates), gates-few)
+  own-coins-most i c l = omega (arith, gates-coins bytes h k i (plan .gates), mul-le-mul {n₁ = h .t} {m₁ = length (plan .gates)} {n₂ = c} {m₂ = 1024} l gates-few)
 
   own-outs-few : (i : ℕ) → ownOutCount plan i ≤ 64
   unfolding ownOutCount outWires
   own-outs-few i = omega (arith, out-wires-few i (plan .outs), plan-outs k, k .outs-high)
 
-  module _ (i : ℕ) (from1 : 1 ≤ i) (upto : i ≤ partyCount plan) where
-    view-line : length (viewLine plan xs cs i) ≤ 49200
+  -- of at most c coins a dealing, and d pieces
+  module _ (c d : ℕ) (few-coins : h .t ≤ c) (few-pieces : dealerCount plan * kindCount plan 5 ≤ d) (i : ℕ) (from1 : 1 ≤ i) (upto : i ≤ partyCount plan) where
+    view-line : length (viewLine plan xs cs i) ≤ 6192 + 6144 * c
     unfolding viewLine viewWord ownInputs ownCoins ownInputCount ownCoinCount
     view-line =
         let s : Short (i ∷ (ownInputs plan i xs ++ ownCoins plan i cs)) = (
@@ -219,7 +221,7 @@ module _ (bytes xs cs : List ℕ) (passes : planCheck bytes ≡ Passed) (inputs 
           length-own i (inputOwners plan) xs,
           length-own i (coinOwners plan) cs,
           own-few i,
-          own-coins-most i,
+          own-coins-most i c few-coins,
         )
 
     round-line : (r : ℕ) → r < lastCall plan → length (roundLine plan xs cs i r) ≤ 12 + 6 * received plan i (stepAt plan r)
@@ -230,20 +232,19 @@ module _ (bytes xs cs : List ℕ) (passes : planCheck bytes ≡ Passed) (inputs 
         let s : Short (r ∷ mail) = (omega (arith, calls-few), numbers-short (plan .p) mail prime-few small) in
         omega (arith, line-small roundWord (r ∷ mail) s, mail-count plan ok xs cs [] i from1 upto (suc r) (omega arith))
 
-    mail-most : total (map (received plan i) (steps plan)) ≤ 17344
+    mail-most : total (map (received plan i) (steps plan)) ≤ 1984 + d
     mail-most =
-        let d : dealerCount plan * kindCount plan 5 ≤ 15360 = mul-le-mul {n₁ = dealerCount plan} {m₁ = kindCount plan 5} {n₂ = 15} {m₂ = 1024} (omega (arith, plan-dealers k, k .majority, k .n-high)) (kind-few 5) in
         let o : partyCount plan * ownOutCount plan i ≤ 960 = mul-le-mul {n₁ = partyCount plan} {m₁ = ownOutCount plan i} {n₂ = 15} {m₂ = 64} (omega (arith, plan-n k, k .n-high)) (own-outs-few i) in
-        omega (arith, d, o, kind-few 1, mail-total plan (plain bytes passes) i)
+        omega (arith, few-pieces, o, kind-few 1, mail-total plan (plain bytes passes) i)
 
-    rounds-most : length (flatMap (roundLine plan xs cs i) (tab (λ r. r) (lastCall plan))) ≤ 116376
+    rounds-most : length (flatMap (roundLine plan xs cs i) (tab (λ r. r) (lastCall plan))) ≤ 24216 + 6 * d
     rounds-most =
-        let c : ℕ → ℕ = λ r. received plan i (stepAt plan r) in
-        let all : total (map (received plan i) (steps plan)) ≡ total (tab c (lastCall plan)) =
+        let f : ℕ → ℕ = λ r. received plan i (stepAt plan r) in
+        let all : total (map (received plan i) (steps plan)) ≡ total (tab f (lastCall plan)) =
         ap total (ap (map (received plan i)) (steps-tab plan ok xs cs [] [] (settings .count) tabled) ∙ tab-map (received plan i) (stepAt plan) (lastCall plan)) in
-        omega (arith, calls-few, mail-most, all, rounds-bound (roundLine plan xs cs i) c (λ r. r) (lastCall plan) round-line)
+        omega (arith, calls-few, mail-most, all, rounds-bound (roundLine plan xs cs i) f (λ r. r) (lastCall plan) round-line)
 
-    member-lines : length (memberLines plan xs cs i) ≤ 165576
+    member-lines : length (memberLines plan xs cs i) ≤ 30408 + 6144 * c + 6 * d
     unfolding memberLines
     member-lines = omega (arith, view-line, rounds-most, length-append (viewLine plan xs cs i) (flatMap (roundLine plan xs cs i) (tab (λ r. r) (lastCall plan))))
 
@@ -259,9 +260,12 @@ module _ (bytes xs cs : List ℕ) (passes : planCheck bytes ≡ Passed) (inputs 
       either true l m = m
       either false l m = omega arith
 
-  run-lines : (set : ℕ) → setFits (h .n) (h .t) set ≡ true → length (runLines plan set xs cs) ≤ 1300000
+  -- of at most c members too
+  run-lines-by :
+      (set c d most : ℕ) → h .t ≤ c → dealerCount plan * kindCount plan 5 ≤ d → 30408 + 6144 * c + 6 * d ≤ most → most * c ≤ 1690000 → setFits (h .n) (h .t) set ≡ true
+      → length (runLines plan set xs cs) ≤ 1700000
   unfolding runLines planLine planWord sentWord
-  run-lines set fits =
+  run-lines-by set c d most few-coins few-pieces each all fits =
       let ms : List ℕ = flatMap (memberLines plan xs cs) (members set) in
       let ol : List ℕ = outLinesFrom plan set xs cs 0 [] (plan .outs) in
       let sl : List ℕ = line sentWord (sentCount plan ∷ []) in
@@ -276,14 +280,24 @@ module _ (bytes xs cs : List ℕ) (passes : planCheck bytes ≡ Passed) (inputs 
         out-lines set (plan .outs) 0 [],
         plan-outs k,
         k .outs-high,
-        flat-most (memberLines plan xs cs) (members set)
-            (all-members (λ i. length (memberLines plan xs cs i) ≤ 165576) (members set)
-            (λ m w. member-lines m (member-in set m w .from) (rw (plan-n k) (member-party (h .n) (h .t) set fits m w)))),
-        set-few plan set (sym (set-ok bytes h set k) ∙ fits),
-        plan-t k,
-        k .majority,
-        k .n-high,
+        flat-most most (memberLines plan xs cs) (members set)
+            (all-members (λ i. length (memberLines plan xs cs i) ≤ most) (members set)
+            (λ m w. omega (arith, member-lines c d few-coins few-pieces m (member-in set m w .from) (rw (plan-n k) (member-party (h .n) (h .t) set fits m w)), each))),
+        mul-le-mul {n₁ = most} {m₁ = length (members set)} {n₂ = most} {m₂ = c} (omega arith) (omega (arith, set-few plan set (sym (set-ok bytes h set k) ∙ fits), plan-t k, few-coins)),
+        all,
       )
+
+  -- without multiply gates up to 14 members, with them up to 7
+  run-lines : (set : ℕ) → setFits (h .n) (h .t) set ≡ true → length (runLines plan set xs cs) ≤ 1700000
+  run-lines set fits =
+      ⊎-elim
+      (λ (z : kindCount plan 5 ≡ 0).
+      let none : dealerCount plan * kindCount plan 5 ≤ 0 = rw (z, mul-zero (dealerCount plan)) (omega arith) in
+      run-lines-by set 14 0 116424 (omega (arith, k .threshold, k .n-high)) none (omega arith) (omega arith) fits)
+      (λ (two : 2 * h .t < h .n).
+      let some : dealerCount plan * kindCount plan 5 ≤ 15360 = mul-le-mul {n₁ = dealerCount plan} {m₁ = kindCount plan 5} {n₂ = 15} {m₂ = 1024} (omega (arith, plan-dealers k, k .n-high)) (kind-few 5) in
+      run-lines-by set 7 15360 165576 (omega (arith, k .n-high)) some (omega arith) (omega arith) fits)
+      (planned-or bytes h k)
 
 -- ---- the text
 module _ (bytes : List ℕ) (set : ℕ) (figures coins : List ℕ) (room : ℕ) (passed : benchAnswer bytes set figures coins room ≡ Passed) where
@@ -298,14 +312,14 @@ module _ (bytes : List ℕ) (set : ℕ) (figures coins : List ℕ) (room : ℕ) 
   given : Given (planOf bytes) figures coins
   given = passed-given bytes set figures coins room _ refl (both .1)
 
-  passed-lines : length (runLines (planOf bytes) set (numbers figures) (numbers coins)) ≤ 1300000
+  passed-lines : length (runLines (planOf bytes) set (numbers figures) (numbers coins)) ≤ 1700000
   passed-lines =
       run-lines bytes (numbers figures) (numbers coins) plan-passes
       (record { count = omega (arith, numbers-length figures, given .inputs-count); small = given .inputs-below })
       (record { count = omega (arith, numbers-length coins, given .coins-count); small = given .coins-below }) set
       (passed-set bytes set figures coins room _ refl (both .1) (headerOf bytes) (contents bytes plan-passes))
 
-answer-lines : (c : Checked) (plan : Plan) (set : ℕ) (xs cs : List ℕ) → (c ≡ Passed → length (runLines plan set xs cs) ≤ 1300000) → length (answerLines c plan set xs cs) ≤ 1300000
+answer-lines : (c : Checked) (plan : Plan) (set : ℕ) (xs cs : List ℕ) → (c ≡ Passed → length (runLines plan set xs cs) ≤ 1700000) → length (answerLines c plan set xs cs) ≤ 1700000
 unfolding answerLines refusedWord
 answer-lines Passed plan set xs cs h = h refl
 answer-lines (Refused r) plan set xs cs h = omega (arith, line-most refusedWord (numberOf r ∷ placeOf r ∷ []))
@@ -315,7 +329,7 @@ unfolding report benchOf refusedWord
 fitting bs = step (unreadable bs)
   where
     step : (b : Bool)
-        → length (cond b (line refusedWord (1 ∷ 0 ∷ [])) (answerLines (benchOf bs) (planOf (planPart bs)) (setPart bs) (numbers (figuresPart bs)) (numbers (coinsPart bs)))) ≤ 1300000
+        → length (cond b (line refusedWord (1 ∷ 0 ∷ [])) (answerLines (benchOf bs) (planOf (planPart bs)) (setPart bs) (numbers (figuresPart bs)) (numbers (coinsPart bs)))) ≤ 1700000
     step true = omega (arith, line-most refusedWord (1 ∷ 0 ∷ []))
     step false =
         answer-lines (benchOf bs) (planOf (planPart bs)) (setPart bs) (numbers (figuresPart bs)) (numbers (coinsPart bs))

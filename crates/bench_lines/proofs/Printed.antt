@@ -132,7 +132,7 @@ view-count-append plan (x ∷ a) b = omega (arith, view-count-append plan a b)
 pub record Parting (plan : Plan) (set i k j : ℕ) : Type 0 where
   pub low : 1 ≤ j
   pub high : j - 1 ≤ i - 1
-  pub few : k + 25600 ≤ 25600 * j
+  pub few : k + 32768 ≤ 32768 * j
   pub is : k ≡ viewCount plan (membersFrom set 1 (j - 1))
 
 pub part-none : (plan : Plan) (set i : ℕ) → Parting plan set i 0 1
@@ -145,7 +145,7 @@ counted plan true j = omega arith
 counted plan false j = refl
 
 module _ (plan : Plan) (set i k j : ℕ) (h : Parting plan set i k j) where
-  pub part-next : (d : ℕ) → j < i → d ≡ cond (inSet set j) (viewCountOf plan j) 0 → d ≤ 25600 → Parting plan set i (k + d) (j + 1)
+  pub part-next : (d : ℕ) → j < i → d ≡ cond (inSet set j) (viewCountOf plan j) 0 → d ≤ 32768 → Parting plan set i (k + d) (j + 1)
   unfolding membersFrom
   part-next d l e m =
       let q : j + 1 - 1 ≡ j - 1 + 1 = omega (arith, h .low) in
@@ -166,7 +166,7 @@ module _ (plan : Plan) (set i k j : ℕ) (h : Parting plan set i k j) where
   unfolding partAt
   part-done l = let e : j - 1 ≡ i - 1 = omega (arith, h .low, h .high) in h .is ∙ ap (λ (n : ℕ). viewCount plan (membersFrom set 1 n)) e
 
-  pub part-few : i ≤ 16 → k ≤ 409600
+  pub part-few : i ≤ 16 → k ≤ 524288
   part-few l = omega (arith, h .few, h .high, h .low)
 
 pub ruleset parting = (needs, part-none, part-next, part-done, part-few)

@@ -67,7 +67,7 @@ fn put_rounds(
 ) -> usize
     requires { ⌜ Planned (now plan) h ⌝ }
     requires { ⌜ at ≤ length (now text) ⌝ }
-    requires { ⌜ from ≤ 500000 ⌝ }
+    requires { ⌜ from ≤ 540000 ⌝ }
     ensures { λ e. ⌜ Put (roundLinesIn (planOf (now (plan .entry))) i (drop from (numbers (now (view .entry)))) 0 (lastCall (planOf (now (plan .entry))))) at (now (text .entry)) (now (text .exit)) e ⌝ }
 {
     let tally = plan_counts::tally_of(plan, h, i);
@@ -87,7 +87,7 @@ fn put_rounds(
 // A party's own inputs and coins.
 fn own_count(plan: &[u8], h: Header, i: usize) -> usize
     requires { ⌜ Planned (now plan) h ⌝ }
-    ensures { λ r. ⌜ record { eq : r ≡ ownCount (planOf (now (plan .entry))) i; le : r ≤ 8192 } ⌝ }
+    ensures { λ r. ⌜ record { eq : r ≡ ownCount (planOf (now (plan .entry))) i; le : r ≤ 15360 } ⌝ }
 {
     plan_counts::own_input_count(plan, h, i) + plan_counts::own_coin_count(plan, h, i)
 }
@@ -104,7 +104,7 @@ fn put_member(
 ) -> usize
     requires { ⌜ Planned (now plan) h ⌝ }
     requires { ⌜ at ≤ length (now text) ⌝ }
-    requires { ⌜ from ≤ 409600 ⌝ }
+    requires { ⌜ from ≤ 524288 ⌝ }
     ensures { λ e. ⌜ Put (memberLinesIn (planOf (now (plan .entry))) i (drop from (numbers (now (view .entry))))) at (now (text .entry)) (now (text .exit)) e ⌝ }
 {
     let count = own_count(plan, h, i);
@@ -116,7 +116,7 @@ fn put_member(
 fn part_at(plan: &[u8], h: Header, set: u16, i: usize) -> usize
     requires { ⌜ Planned (now plan) h ⌝ }
     requires { ⌜ i ≤ 16 ⌝ }
-    ensures { λ r. ⌜ record { eq : r ≡ partAt (planOf (now (plan .entry))) set i; le : r ≤ 409600 } ⌝ }
+    ensures { λ r. ⌜ record { eq : r ≡ partAt (planOf (now (plan .entry))) set i; le : r ≤ 524288 } ⌝ }
 {
     let mut at: usize = 0;
     let mut j: usize = 1;
@@ -186,7 +186,7 @@ fn outs_before(plan: &[u8], h: Header, i: usize, o: usize) -> usize
 fn results_at(plan: &[u8], h: Header, set: u16, i: usize) -> usize
     requires { ⌜ Planned (now plan) h ⌝ }
     requires { ⌜ i ≤ 16 ⌝ }
-    ensures { λ r. ⌜ record { eq : r ≡ resultsAt (planOf (now (plan .entry))) set i; le : r ≤ 435200 } ⌝ }
+    ensures { λ r. ⌜ record { eq : r ≡ resultsAt (planOf (now (plan .entry))) set i; le : r ≤ 557056 } ⌝ }
 {
     let outs = plan_sizes::own_out_count(plan, h, i);
     let count = run_bench::checking::view_count_of(plan, h, i);

@@ -136,10 +136,10 @@ rest-all m l = take-all (length l - m) (drop m l) (omega (arith, length-drop m l
 pub front-long : (m : ℕ) (l : List ℕ) → m ≤ length l → m ≡ length (take m l)
 front-long m l h = sym (length-take-le m l h)
 
-pub view-long : (k : ℕ) (v : List ℕ) → k ≤ 409600 → 819200 ≤ length v → 2 * k ≡ length (take (2 * k) v)
+pub view-long : (k : ℕ) (v : List ℕ) → k ≤ 524288 → 1048576 ≤ length v → 2 * k ≡ length (take (2 * k) v)
 view-long k v h l = sym (length-take-le (2 * k) v (omega arith))
 
-pub view-sized : (k n : ℕ) (v : List ℕ) → k ≡ n → k ≤ 409600 → 819200 ≤ length v → length (take (2 * k) v) ≡ 2 * n
+pub view-sized : (k n : ℕ) (v : List ℕ) → k ≡ n → k ≤ 524288 → 1048576 ≤ length v → length (take (2 * k) v) ≡ 2 * n
 view-sized k n v e h l = length-take-le (2 * k) v (omega arith) ∙ ap (λ (x : ℕ). 2 * x) e
 
 pub split-lines : (bs : List ℕ) (set : ℕ) (list : List ℕ) (k m at e : ℕ) (t u : List ℕ) → k ≡ inputCount (planOf bs) → m ≡ min (2 * k) (length list)

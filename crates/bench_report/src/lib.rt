@@ -55,7 +55,7 @@ fn put_listed(
     view: &mut [u8],
 ) -> usize
     requires { ⌜ Planned (now plan) h ⌝ }
-    requires { ⌜ 819200 ≤ length (now view) ⌝ }
+    requires { ⌜ 1048576 ≤ length (now view) ⌝ }
     ensures { λ e. ⌜ Put (answered (now (plan .entry)) set (take (width * inputCount (planOf (now (plan .entry)))) (now (list .entry))) (drop (width * inputCount (planOf (now (plan .entry)))) (now (list .entry)))) 0 (now (text .entry)) (now (text .exit)) e ⌝ }
 {
     let size = 2 * run_bench::checking::view_count(plan, h, set);
@@ -78,7 +78,7 @@ fn put_in(
     h: Header,
     set: u16,
     list: &[u8],
-    view: &mut [u8; 819200],
+    view: &mut [u8; 1048576],
 ) -> usize
     requires { ⌜ Planned (now plan) h ⌝ }
     ensures { λ e. ⌜ Put (answered (now (plan .entry)) set (take (width * inputCount (planOf (now (plan .entry)))) (now (list .entry))) (drop (width * inputCount (planOf (now (plan .entry)))) (now (list .entry)))) 0 (now (text .entry)) (now (text .exit)) e ⌝ }
@@ -90,7 +90,7 @@ fn put_planned(text: &mut [u8], plan: &[u8], h: Header, set: u16, list: &[u8]) -
     requires { ⌜ Planned (now plan) h ⌝ }
     ensures { λ e. ⌜ Put (answered (now (plan .entry)) set (take (width * inputCount (planOf (now (plan .entry)))) (now (list .entry))) (drop (width * inputCount (planOf (now (plan .entry)))) (now (list .entry)))) 0 (now (text .entry)) (now (text .exit)) e ⌝ }
 {
-    let mut view = [0u8; 819200];
+    let mut view = [0u8; 1048576];
     put_in(text, plan, h, set, list, &mut view)
 }
 

@@ -26,7 +26,7 @@ use Rattle.plan.specs.declared.Refusal.the-variants as refusal
 use Rattle.plan.specs.declared.Checked.{Checked}
 use Rattle.plan.specs.declared.Checked.the-variants.{Passed, Refused}
 use Rattle.plan.specs.Refusals.{andThen, firstOf, need}
-use Rattle.plan.specs.Plans.{Plan, partyCount, dealerCount, kindCount, perMultiply, sentCount}
+use Rattle.plan.specs.Plans.{Plan, partyCount, kindCount, perMultiply, sentCount}
 use Rattle.plan.specs.File.{planChecks, planCheck, planOf, outcomeOf}
 use Rattle.plan.specs.Planned.{Planned, ReadAs}
 use Rattle.plan.proofs.Refusals.{firstOf-append, andThen-passed, andThen-refused}
@@ -105,13 +105,9 @@ module _ (bs : List ℕ) (h : Header) (p : Planned bs h) where
         sym (take-all i d l) ∙ f .front ∙ ap (tab (λ k. elementsBy (planOf bs) (suc k))) e ∙ sym (elements-tab (planOf bs))
 
   -- ---- the whole
-  dealers-few : dealerCount (planOf bs) ≤ partyCount (planOf bs)
-  unfolding dealerCount
-  dealers-few = omega (arith, plain bs (p .passes) .majority)
-
   module _ (es : List ℕ) (ee : es ≡ elements (planOf bs)) (sent : ℕ) (is : sent ≡ sentCount (planOf bs)) where
     pub sent-sum : sent ≡ total es
-    sent-sum = is ∙ sym (ap total ee ∙ elements-sent (planOf bs) (valid bs (p .passes)) dealers-few)
+    sent-sum = is ∙ sym (ap total ee ∙ elements-sent (planOf bs) (valid bs (p .passes)))
 
     pub parts-room : (parts : List ℕ) → length parts ≡ h .n → length parts ≡ length es
     parts-room parts e = e ∙ sym (ap length ee ∙ elements-long (planOf bs) ∙ plan-n p)

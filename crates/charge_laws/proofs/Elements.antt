@@ -6,6 +6,7 @@
 -- Assumes nothing.
 use Prim.Native.Nat.{ℕ, zero, suc, _+_, _-_, _*_, _<_, _≤_}
 use mathlib.Core.Path.{_≡_, refl, sym, ap, ap₂, _∙_}
+use mathlib.Core.Logic.{⊎-elim}
 use mathlib.Core.Bool.{Bool, cond}
 use mathlib.Core.List.{List, [], _∷_, _++_, map, flatMap}
 use native.Mathlib.Nat.{mul-zero, zero-mul, suc-mul, mul-add, mul-comm, mul-assoc}
@@ -22,7 +23,7 @@ use Rattle.plan.specs.declared.Rule.the-variants.{Reduction, Truncation}
 use Rattle.plan.specs.declared.Step.{Step}
 use Rattle.plan.specs.declared.Step.the-variants.{DealInputs, SendOuts}
 use Rattle.plan.specs.Plans.{Plan, partyCount, parties, dealerCount, kindOf, isKind, kindCount, isInputOf, inputWires, multiplySteps, stepsAt, stepsFrom, steps, stepAt, lastCall, sentBy, writtenCount, perMultiply, sentCount}
-use Rattle.plan.proofs.Valid.{Valid, Plain, plain-no-6, plain-no-7}
+use Rattle.plan.proofs.Valid.{Valid, Plain, plain-no-6, plain-no-7, none-or-majority}
 use Rattle.plan.proofs.Wires.{length-inputWires}
 use Rattle.seat_messages.specs.Messages.{wiresByParty}
 use Rattle.run_protocol.proofs.Counts.{placed}
@@ -134,15 +135,25 @@ module _ (plan : Plan) where
         ∙ ap₂ (λ (a b : ℕ). partyCount plan * a + (kindCount plan 5 * sentFor Reduction i + b)) (length-inputWires plan i) plain-alike
 
   -- ---- all parties
-  module _ (valid : Valid plan) (few : dealerCount plan ≤ partyCount plan) where
+  module _ (valid : Valid plan) where
     inputs-all : total (tab (λ k. length (inputWires plan (suc k))) (partyCount plan)) ≡ kindCount plan 1
     unfolding wiresByParty parties
     inputs-all = sym (length-flat (inputWires plan) suc (partyCount plan)) ∙ placed plan valid
 
-    multiplies-all : (rule : Rule) → total (tab (λ k. sentFor rule (suc k)) (partyCount plan)) ≡ partyCount plan * perMultiply plan rule
-    unfolding sentFor perMultiply
-    multiplies-all Reduction = dealt (partyCount plan) (dealerCount plan) (partyCount plan) few ∙ mul-comm (dealerCount plan) (partyCount plan)
-    multiplies-all Truncation = total-same (λ k. 3 * partyCount plan) (3 * partyCount plan) (partyCount plan) (λ k q. refl)
+    multiplies-all : plan .t + plan .t < partyCount plan → (rule : Rule) → total (tab (λ k. sentFor rule (suc k)) (partyCount plan)) ≡ partyCount plan * perMultiply plan rule
+    unfolding sentFor perMultiply dealerCount
+    multiplies-all two Reduction = dealt (partyCount plan) (plan .t + plan .t + 1) (partyCount plan) (omega arith) ∙ mul-comm (plan .t + plan .t + 1) (partyCount plan)
+    multiplies-all two Truncation = total-same (λ k. 3 * partyCount plan) (3 * partyCount plan) (partyCount plan) (λ k q. refl)
+
+    -- without multiply gates nothing is dealt in them
+    multiplies-sent : kindCount plan 5 * total (tab (λ k. sentFor (plan .rule) (suc k)) (partyCount plan)) ≡ kindCount plan 5 * (partyCount plan * perMultiply plan (plan .rule))
+    multiplies-sent =
+        let x : ℕ = total (tab (λ k. sentFor (plan .rule) (suc k)) (partyCount plan)) in
+        let y : ℕ = partyCount plan * perMultiply plan (plan .rule) in
+        ⊎-elim
+        (λ (z : kindCount plan 5 ≡ 0). ap (λ (m : ℕ). m * x) z ∙ zero-mul x ∙ sym (ap (λ (m : ℕ). m * y) z ∙ zero-mul y))
+        (λ two. ap (λ (k : ℕ). kindCount plan 5 * k) (multiplies-all two (plan .rule)))
+        (none-or-majority plan valid)
 
     pub elements-sent : total (elements plan) ≡ sentCount plan
     unfolding sentCount alike
@@ -153,7 +164,7 @@ module _ (plan : Plan) where
         let own : ℕ → ℕ = λ k. length (inputWires plan (suc k)) in
         let sends : ℕ → ℕ = λ k. sentFor (plan .rule) (suc k) in
         let a : total (tab (λ k. n * own k) n) ≡ n * kindCount plan 1 = total-scale n own n ∙ ap (λ (z : ℕ). n * z) inputs-all in
-        let b : total (tab (λ k. m * sends k) n) ≡ m * (n * r) = total-scale m sends n ∙ ap (λ (z : ℕ). m * z) (multiplies-all (plan .rule)) in
+        let b : total (tab (λ k. m * sends k) n) ≡ m * (n * r) = total-scale m sends n ∙ multiplies-sent in
         let c : total (tab (λ k. alike) n) ≡ n * alike = total-same (λ k. alike) alike n (λ k q. refl) in
         let q : m * (n * r) ≡ n * (m * r) = sym (mul-assoc m n r) ∙ ap (λ (z : ℕ). z * r) (mul-comm m n) ∙ mul-assoc n m r in
         let s : n * (kindCount plan 1 + m * r + alike) ≡ n * kindCount plan 1 + n * (m * r) + n * alike =

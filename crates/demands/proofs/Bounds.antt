@@ -2,6 +2,7 @@
 -- Assumes nothing.
 use Prim.Native.Nat.{ℕ, zero, suc, _+_, _*_, _≤_, _<_}
 use mathlib.Core.Path.{_≡_}
+use mathlib.Core.Logic.{_⊎_, ⊎-elim}
 use mathlib.Core.List.{List, [], _∷_}
 use native.Mathlib.Nat.{mul-le-mul}
 use native.Mathlib.Omega.{arith}
@@ -19,7 +20,7 @@ use Rattle.plan.specs.declared.Step.the-variants.{DealInputs, DealProduct, Deal
 use Rattle.plan.specs.Plans.{Plan, partyCount, dealerCount, kindOf, isKind, kindCount, inputOwners, coinOwners, inputCount, ownInputCount, coinCount, ownCoinCount, outWires, ownOutCount, stepAt, received, mailCount, sentCount}
 use Rattle.plan.specs.File.{nAt, tAt, gateCountAt, outCountAt, planCheck, planOf}
 use Rattle.plan.proofs.Planned.{passing, between-true, Laid, laid, length-gates, length-outs}
-use Rattle.plan.proofs.Valid.{Plain, plain}
+use Rattle.plan.proofs.Valid.{Plain, plain, valid, none-or-majority}
 use Rattle.plan.proofs.Counts.{plain-inputs, plain-coins, plain-sent}
 use Rattle.plan.proofs.Wires.{out-wires-few}
 use Rattle.charge_laws.specs.Charges.{billOf}
@@ -50,13 +51,16 @@ module _ (bs : List ℕ) (passes : planCheck bs ≡ Passed) where
   unfolding partyCount planOf
   parties-few = omega (arith, length-tab suc (nAt bs), between-true 1 15 (nAt bs) (passing bs passes .parties) .1)
 
-  pub threshold-few : planOf bs .t ≤ 7
+  pub threshold-few : planOf bs .t ≤ 14
   unfolding planOf
-  threshold-few = omega (arith, ltb-true (2 * tAt bs) (nAt bs) (passing bs passes .threshold), between-true 1 15 (nAt bs) (passing bs passes .parties) .1)
+  threshold-few = omega (arith, ltb-true (tAt bs) (nAt bs) (passing bs passes .threshold), between-true 1 15 (nAt bs) (passing bs passes .parties) .1)
 
-  pub dealers-few : dealerCount (planOf bs) ≤ 15
+  dealers-few : dealerCount (planOf bs) ≤ 29
   unfolding dealerCount
   dealers-few = omega (arith, threshold-few)
+
+  none-or : (kindCount (planOf bs) 5 ≡ 0) ⊎ (planOf bs .t + planOf bs .t < partyCount (planOf bs))
+  none-or = none-or-majority (planOf bs) (valid bs passes)
 
   abbrev plan : Plan
   plan = planOf bs
@@ -68,8 +72,22 @@ module _ (bs : List ℕ) (passes : planCheck bs ≡ Passed) where
   unfolding kindCount
   kind-few k = omega (arith, gates-few, countWhere-le-length (isKind k) (planOf bs .gates))
 
-  dealt-few : kindCount plan 1 + kindCount plan 5 * dealerCount plan ≤ 16384
-  dealt-few = omega (arith, kind-few 1, mul-le-mul {n₁ = kindCount plan 5} {m₁ = dealerCount plan} {n₂ = 1024} {m₂ = 15} (kind-few 5) dealers-few)
+  -- a gate of kind 1 is none of kind 5
+  none-dealt : kindCount plan 5 ≡ 0 → kindCount plan 1 + kindCount plan 5 * dealerCount plan ≤ 1024
+  none-dealt z = rw z (omega (arith, kind-few 1))
+
+  some-dealt : plan .t + plan .t < partyCount plan → kindCount plan 1 + kindCount plan 5 * dealerCount plan ≤ 15360
+  unfolding kindCount dealerCount
+  some-dealt two =
+      omega (
+        arith,
+        kinds-apart (planOf bs .gates),
+        gates-few,
+        mul-le-mul {n₁ = kindCount plan 5} {m₁ = plan .t + plan .t + 1} {n₂ = kindCount plan 5} {m₂ = 15} (omega arith) (omega (arith, parties-few)),
+      )
+
+  dealt-most : kindCount plan 1 + kindCount plan 5 * dealerCount plan ≤ 15360
+  dealt-most = ⊎-elim (λ z. omega (arith, none-dealt z)) some-dealt none-or
 
   pub inputs-few : inputCount plan ≤ 1024
   inputs-few = omega (arith, plain-inputs plan file-plain, kind-few 1)
@@ -78,15 +96,16 @@ module _ (bs : List ℕ) (passes : planCheck bs ≡ Passed) where
   unfolding ownInputCount inputCount
   own-few i = omega (arith, inputs-few, countWhere-le-length (eqb i) (inputOwners plan))
 
-  pub coins-few : coinCount plan ≤ 114688
+  pub coins-few : coinCount plan ≤ 107520
   coins-few =
-      omega (
-        arith,
-        plain-coins plan file-plain,
-        mul-le-mul {n₁ = plan .t} {m₁ = kindCount plan 1 + kindCount plan 5 * dealerCount plan} {n₂ = 7} {m₂ = 16384} threshold-few dealt-few,
-      )
+      let most : plan .t * (kindCount plan 1 + kindCount plan 5 * dealerCount plan) ≤ 107520 =
+      ⊎-elim
+      (λ z. omega (arith, mul-le-mul {n₁ = plan .t} {m₁ = kindCount plan 1 + kindCount plan 5 * dealerCount plan} {n₂ = 14} {m₂ = 1024} threshold-few (none-dealt z)))
+      (λ (two : plan .t + plan .t < partyCount plan). mul-le-mul {n₁ = plan .t} {m₁ = kindCount plan 1 + kindCount plan 5 * dealerCount plan} {n₂ = 7} {m₂ = 15360} (omega (arith, parties-few)) (some-dealt two))
+      none-or in
+      omega (arith, plain-coins plan file-plain, most)
 
-  pub own-coins-few : (i : ℕ) → ownCoinCount plan i ≤ 114688
+  pub own-coins-few : (i : ℕ) → ownCoinCount plan i ≤ 107520
   unfolding ownCoinCount coinCount
   own-coins-few i = omega (arith, coins-few, countWhere-le-length (eqb i) (coinOwners plan))
 
@@ -109,17 +128,6 @@ module _ (bs : List ℕ) (passes : planCheck bs ≡ Passed) where
   unfolding mailCount
   mail-few i zero = omega arith
   mail-few i (suc k) = received-few i (stepAt plan k)
-
-  -- a gate of kind 1 is none of kind 5
-  dealt-most : kindCount plan 1 + kindCount plan 5 * dealerCount plan ≤ 15360
-  unfolding kindCount
-  dealt-most =
-      omega (
-        arith,
-        kinds-apart (planOf bs .gates),
-        gates-few,
-        mul-le-mul {n₁ = kindCount plan 5} {m₁ = dealerCount plan} {n₂ = kindCount plan 5} {m₂ = 15} (omega arith) dealers-few,
-      )
 
   pub sent-most : sentCount plan ≤ 231360
   sent-most =

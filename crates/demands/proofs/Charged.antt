@@ -9,9 +9,9 @@ use native.Mathlib.Omega.{arith}
 use lib.ListN.{length, getD}
 use Rattle.numbers.specs.Tables.{total}
 use Rattle.plan.specs.declared.Checked.the-variants.{Passed}
-use Rattle.plan.specs.Plans.{partyCount, dealerCount, sentCount}
+use Rattle.plan.specs.Plans.{sentCount}
 use Rattle.plan.specs.File.{planCheck, planOf}
-use Rattle.plan.proofs.Valid.{valid, plain}
+use Rattle.plan.proofs.Valid.{valid}
 use Rattle.seat_messages.specs.Calls.{unlessRefused}
 use Rattle.charge_laws.specs.Charges.{elements, partAt, partsOf, billOf, chargeOf}
 use Rattle.charge_laws.proofs.Totals.{entry-total}
@@ -34,12 +34,8 @@ shared bill es l = record {
 }
 
 module _ (bytes : List ℕ) (passes : planCheck bytes ≡ Passed) where
-  dealers : dealerCount (planOf bytes) ≤ partyCount (planOf bytes)
-  unfolding dealerCount
-  dealers = omega (arith, plain bytes passes .majority)
-
   all : total (elements (planOf bytes)) ≡ sentCount (planOf bytes)
-  all = elements-sent (planOf bytes) (valid bytes passes) dealers
+  all = elements-sent (planOf bytes) (valid bytes passes)
 
   some : 1 ≤ total (elements (planOf bytes))
   some = omega (arith, all, sent-some bytes passes)

@@ -5,7 +5,7 @@
 use Prim.Native.Nat.{ℕ, suc, _+_, _*_, _<_}
 use mathlib.Core.Path.{_≡_, refl, sym, ap, ap₂, subst, _∙_}
 use mathlib.Core.Bool.{Bool, true, false, cond, not, _||_}
-use mathlib.Core.List.{List, [], _∷_, _++_, map}
+use mathlib.Core.List.{List, [], _∷_, map}
 use native.Mathlib.Omega.{arith}
 use borrow.Author.Tests.{eqb-true}
 use lib.Dec.{eqb}
@@ -18,6 +18,7 @@ use Rattle.numbers.proofs.Bytes.{holds-length, holds-numbers, bytes-of-numbers}
 use Rattle.plan.specs.declared.Output.{Output}
 use Rattle.plan.specs.declared.Checked.the-variants.{Passed}
 use Rattle.plan.specs.declared.Refusal.the-variants as refusal
+use Rattle.plan.specs.Refusals.{firstOf}
 use Rattle.plan.proofs.Refusals.{firstOf-append, passed-both, passed-need, passed-found}
 use Rattle.plan.specs.Plans.{Plan, inputOwners, inputCount, coinCount, outWiresOf, outWires, ownOf, ownInputs}
 use Rattle.plan.specs.File.{planChecks, planCheck, planOf}
@@ -97,53 +98,56 @@ whole-bytes k bs b h = bytes-of-numbers k bs (holds-length k bs h) (λ i l. allB
 module _ (bytes : List ℕ) (set : ℕ) (first second coins out view view′ : List ℕ) (is-bytes : allBelow 256 bytes ≡ true)
     (b1 : allBelow 256 first ≡ true) (b2 : allBelow 256 second ≡ true) (b3 : allBelow 256 coins ≡ true)
     (passed : matchAnswer bytes set first second coins (length out) ≡ Passed) where
-  plan-passes : planCheck bytes ≡ Passed
-  unfolding planCheck matchAnswer
-  plan-passes = passed-both _ _ (sym (firstOf-append (planChecks bytes) (pairChecks (planOf bytes) set first second coins (length out))) ∙ passed) .0
-
-  each : (k : ℕ) → getD (planChecks bytes ++ pairChecks (planOf bytes) set first second coins (length out)) k Passed ≡ Passed
+  two : (firstOf (planChecks bytes) ≡ Passed) × (firstOf (pairChecks (planOf bytes) set first second coins (length out)) ≡ Passed)
   unfolding matchAnswer
-  each = first-passed _ passed
+  two = passed-both _ _ (sym (firstOf-append (planChecks bytes) (pairChecks (planOf bytes) set first second coins (length out))) ∙ passed)
+
+  plan-passes : planCheck bytes ≡ Passed
+  unfolding planCheck
+  plan-passes = two .0
+
+  each : (k : ℕ) → getD (pairChecks (planOf bytes) set first second coins (length out)) k Passed ≡ Passed
+  each = first-passed _ (two .1)
 
   set-passes : setOk (planOf bytes) set ≡ true
-  unfolding planChecks pairChecks
-  set-passes = passed-need refusal.Coalition _ (each 8)
+  unfolding pairChecks
+  set-passes = passed-need refusal.Coalition _ (each 0)
 
   first-count : holdsCount (inputCount (planOf bytes)) first ≡ true
-  unfolding planChecks pairChecks
-  first-count = passed-need refusal.InputCount _ (each 9)
+  unfolding pairChecks
+  first-count = passed-need refusal.InputCount _ (each 1)
 
   second-count : holdsCount (inputCount (planOf bytes)) second ≡ true
-  unfolding planChecks pairChecks
-  second-count = passed-need refusal.InputCount _ (each 10)
+  unfolding pairChecks
+  second-count = passed-need refusal.InputCount _ (each 2)
 
   first-small : allBelow (planOf bytes .p) (numbers first) ≡ true
-  unfolding planChecks pairChecks
-  first-small = firstOver-nothing (planOf bytes .p) (numbers first) (passed-found refusal.InputValue _ (each 11))
+  unfolding pairChecks
+  first-small = firstOver-nothing (planOf bytes .p) (numbers first) (passed-found refusal.InputValue _ (each 3))
 
   second-small : allBelow (planOf bytes .p) (numbers second) ≡ true
-  unfolding planChecks pairChecks
-  second-small = firstOver-nothing (planOf bytes .p) (numbers second) (passed-found refusal.InputValue _ (each 12))
+  unfolding pairChecks
+  second-small = firstOver-nothing (planOf bytes .p) (numbers second) (passed-found refusal.InputValue _ (each 4))
 
   coin-count : holdsCount (coinCount (planOf bytes)) coins ≡ true
-  unfolding planChecks pairChecks
-  coin-count = passed-need refusal.CoinCount _ (each 13)
+  unfolding pairChecks
+  coin-count = passed-need refusal.CoinCount _ (each 5)
 
   coins-small : allBelow (planOf bytes .p) (numbers coins) ≡ true
-  unfolding planChecks pairChecks
-  coins-small = firstOver-nothing (planOf bytes .p) (numbers coins) (passed-found refusal.CoinValue _ (each 14))
+  unfolding pairChecks
+  coins-small = firstOver-nothing (planOf bytes .p) (numbers coins) (passed-found refusal.CoinValue _ (each 6))
 
   out-long : length out ≡ width * coinCount (planOf bytes)
-  unfolding planChecks pairChecks
-  out-long = eqb-true (length out) (width * coinCount (planOf bytes)) (passed-need refusal.BufferLength _ (each 15))
+  unfolding pairChecks
+  out-long = eqb-true (length out) (width * coinCount (planOf bytes)) (passed-need refusal.BufferLength _ (each 7))
 
   agreed : inputsAgree (planOf bytes) set (numbers first) (numbers second) ≡ Passed
-  unfolding planChecks pairChecks
-  agreed = each 16
+  unfolding pairChecks
+  agreed = each 8
 
   granted-same : outsAgree (planOf bytes) set (values (planOf bytes) (numbers first)) (values (planOf bytes) (numbers second)) ≡ Passed
-  unfolding planChecks pairChecks
-  granted-same = each 17
+  unfolding pairChecks
+  granted-same = each 9
 
   first-inputs : Inputs (planOf bytes) (numbers first)
   first-inputs = record { count = holds-numbers (inputCount (planOf bytes)) first first-count; small = first-small }

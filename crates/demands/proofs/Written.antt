@@ -17,11 +17,12 @@ use Rattle.numbers.specs.Bytes.{width, bytesOf, allBelow}
 use Rattle.numbers.proofs.Tables.{length-tab}
 use Rattle.numbers.proofs.Searches.{nothing-passes}
 use Rattle.field.proofs.Primes.{prime-sound}
+use Rattle.plan.specs.declared.Checked.{Checked}
 use Rattle.plan.specs.declared.Checked.the-variants.{Passed, Refused}
 use Rattle.plan.specs.declared.Refusal.the-variants as refusal
-use Rattle.plan.specs.Refusals.{firstOf, unlessFound}
+use Rattle.plan.specs.Refusals.{andThen, firstOf, unlessFound}
 use Rattle.plan.specs.Plans.{Plan, partyCount, lastCall, writtenCount}
-use Rattle.plan.specs.File.{modulusOk, planCheck, planOf}
+use Rattle.plan.specs.File.{modulusOk, majorityCheck, planCheck, planOf}
 use Rattle.plan.proofs.Refusals.{passed-both}
 use Rattle.plan.proofs.Planned.{between-true, modulus-prime, modulus-small, Passing, passing}
 use Rattle.plan_file.specs.Bodies.{Bodies, planWith, planFile, contentChecks, outMade}
@@ -44,8 +45,8 @@ module _ (n t p : ℕ) (b : Bodies) (few-gates : length (b .gates) ≤ 1024) (fe
   pub parties : (1 ≤ n) × (n ≤ 15)
   parties = between-true 1 15 n (rw (n-back n t p b) at (checked .parties))
 
-  threshold : 2 * t < n
-  threshold = ltb-true (2 * t) n (rw (n-back n t p b, t-back n t p b) at (checked .threshold))
+  threshold : t < n
+  threshold = ltb-true t n (rw (n-back n t p b, t-back n t p b) at (checked .threshold))
 
   modulus : modulusOk n p ≡ true
   modulus = rw (n-back n t p b, p-back n t p b) at (checked .modulus)
@@ -59,9 +60,11 @@ module _ (n t p : ℕ) (b : Bodies) (few-gates : length (b .gates) ≤ 1024) (fe
   pub sound : Sound n p b
   unfolding outMade
   sound =
-      let both = passed-both (firstOf (contentChecks n t p (length (b .gates)) (length (b .outs)))) (unlessFound refusal.OutputRule (firstFailing (outMade n b) (length (b .outs))))
+      let found : Checked = unlessFound refusal.OutputRule (firstFailing (outMade n b) (length (b .outs))) in
+      let both = passed-both (firstOf (contentChecks n t p (length (b .gates)) (length (b .outs)))) (andThen found (majorityCheck (planFile n t p b)))
       (sym (file-check-outs n t p b few-gates few-outs (λ e f. kept)) ∙ passes) in
-      let none = not-found (firstFailing (outMade n b) (length (b .outs))) (both .1) in
+      let outs = passed-both found (majorityCheck (planFile n t p b)) (both .1) in
+      let none = not-found (firstFailing (outMade n b) (length (b .outs))) (outs .0) in
       record { low = kept .low; gates = kept .gates; outs = λ o l. nothing-passes (outMade n b) (length (b .outs)) none o l }
 
   pub plan-is : planOf (planFile n t p b) ≡ planWith n t p b

@@ -99,6 +99,9 @@ pub record CircuitSums : Type 0 where
   pub too-large : answerFor 3 1 11 "0 65536\n1 1\n1 1\n" 0 ≡ 23
   pub too-many-outs : answerFor 3 1 11 "0 65\n1 65\n1 65\n" 0 ≡ 24
   pub parties-of-257 : codeOf (importAnswer 257 0 11 example 99) ≡ 3
-  pub threshold : codeOf (importAnswer 3 2 11 example 99) ≡ 4
+  pub threshold : codeOf (importAnswer 3 3 11 example 99) ≡ 4
+  -- XOR and AND multiply, INV does not
+  pub majority : codeOf (importAnswer 3 2 11 example 99) ≡ 25
+  pub no-majority : codeOf (importAnswer 2 1 11 inverter 39) ≡ 0
   pub modulus : codeOf (importAnswer 3 1 65537 example 99) ≡ 5
   pub no-outs : answerFor 3 1 11 "0 1\n1 1\n0\n" 24 ≡ 6

@@ -109,5 +109,7 @@ pub record SheetSums : Type 0 where
   pub result-party-4 : codeOf (sheetAnswer 3 1 11 4 formula 87) ≡ 8
   pub result-party-257 : codeOf (sheetAnswer 3 1 11 257 formula 87) ≡ 8
   pub parties-of-257 : codeOf (sheetAnswer 257 0 11 3 formula 87) ≡ 3
-  pub threshold : codeOf (sheetAnswer 3 2 11 3 formula 87) ≡ 4
+  pub threshold : codeOf (sheetAnswer 3 3 11 3 formula 87) ≡ 4
+  pub majority : codeOf (sheetAnswer 3 2 11 3 formula 87) ≡ 25
+  pub no-majority : codeOf (sheetAnswer 2 1 11 1 (ascii "a1 + b2") 39) ≡ 0
   pub modulus : codeOf (sheetAnswer 3 1 65537 3 formula 87) ≡ 5

@@ -1,4 +1,4 @@
--- The sums worked by hand of document 01, P1 to P10, as one table, with R-9's of document 02; and that plan K with P5's lists meets the premises of the demands.
+-- The sums worked by hand of document 01, P1 to P10, as one table, with those of R-3 and R-9 of document 02; and that plan K with P5's lists meets the premises of the demands.
 use Prim.Native.Nat.{ℕ, _+_, _*_}
 use mathlib.Core.Path.{_≡_}
 use mathlib.Core.Bool.{true}
@@ -21,19 +21,19 @@ use Rattle.demands.specs.Demands.{Given, Alike}
 unfoldable pub contents : ℕ → ℕ → ℕ → ℕ → List ℕ
 contents n t low high = 80 ∷ 79 ∷ 79 ∷ 76 ∷ 1 ∷ n ∷ t ∷ 0 ∷ low ∷ high ∷ 18 ∷ 0 ∷ 4 ∷ 0 ∷ 42 ∷ 0 ∷ 1 ∷ 0 ∷ []
 
--- input 1, input 2, multiply 0 1, add 2 0; one out: party 3, wire 3
-unfoldable pub bodies : List ℕ
-bodies =
+-- input 1, input 2, multiply 0 1, add 2 0; one out: this party, wire 3
+unfoldable pub bodies : ℕ → List ℕ
+bodies i =
     1 ∷ 0 ∷ 1 ∷ 0 ∷ 0 ∷ 0
     ∷ 1 ∷ 0 ∷ 2 ∷ 0 ∷ 0 ∷ 0
     ∷ 5 ∷ 0 ∷ 0 ∷ 0 ∷ 1 ∷ 0
     ∷ 2 ∷ 0 ∷ 2 ∷ 0 ∷ 0 ∷ 0
-    ∷ 3 ∷ 3 ∷ 0
+    ∷ i ∷ 3 ∷ 0
     ∷ []
 
 -- K's file, and K with another n, t and p
 unfoldable pub likeK : ℕ → ℕ → ℕ → ℕ → List ℕ
-likeK n t low high = contents n t low high ++ bodies
+likeK n t low high = contents n t low high ++ bodies 3
 
 unfoldable pub K : Plan
 K = planOf (likeK 3 1 11 0)
@@ -41,6 +41,27 @@ K = planOf (likeK 3 1 11 0)
 -- P9's file: n = 1, t = 0, p = 2, input 1, one out: party 1, wire 0
 unfoldable pub single : List ℕ
 single = 80 ∷ 79 ∷ 79 ∷ 76 ∷ 1 ∷ 1 ∷ 0 ∷ 0 ∷ 2 ∷ 0 ∷ 18 ∷ 0 ∷ 1 ∷ 0 ∷ 24 ∷ 0 ∷ 1 ∷ 0 ∷ 1 ∷ 0 ∷ 1 ∷ 0 ∷ 0 ∷ 0 ∷ 1 ∷ 0 ∷ 0 ∷ []
+
+-- source document 001's example: four inputs, added; one out: party 1, wire 6
+unfoldable pub addition : List ℕ
+addition =
+    80 ∷ 79 ∷ 79 ∷ 76 ∷ 1 ∷ 4 ∷ 2 ∷ 0 ∷ 5 ∷ 0 ∷ 18 ∷ 0 ∷ 7 ∷ 0 ∷ 60 ∷ 0 ∷ 1 ∷ 0
+    ∷ 1 ∷ 0 ∷ 1 ∷ 0 ∷ 0 ∷ 0
+    ∷ 1 ∷ 0 ∷ 2 ∷ 0 ∷ 0 ∷ 0
+    ∷ 1 ∷ 0 ∷ 3 ∷ 0 ∷ 0 ∷ 0
+    ∷ 1 ∷ 0 ∷ 4 ∷ 0 ∷ 0 ∷ 0
+    ∷ 2 ∷ 0 ∷ 0 ∷ 0 ∷ 1 ∷ 0
+    ∷ 2 ∷ 0 ∷ 4 ∷ 0 ∷ 2 ∷ 0
+    ∷ 2 ∷ 0 ∷ 5 ∷ 0 ∷ 3 ∷ 0
+    ∷ 1 ∷ 6 ∷ 0
+    ∷ []
+
+-- its figures, and the coins of 2, 1 + X², 1 + 2X, 3X + 2X²
+abbrev pub inputs3 : List ℕ
+inputs3 = 2 ∷ 1 ∷ 1 ∷ 0 ∷ []
+
+abbrev pub coins3 : List ℕ
+coins3 = 0 ∷ 0 ∷ 0 ∷ 1 ∷ 2 ∷ 0 ∷ 3 ∷ 2 ∷ []
 
 abbrev pub inputs1 : List ℕ
 inputs1 = 4 ∷ 5 ∷ []
@@ -75,7 +96,8 @@ pub record Sums : Type 0 where
   pub p5-coins : matchedCoins K (3 ∷ []) inputs1 inputs5 coins1 ≡ 3 ∷ 8 ∷ 5 ∷ 2 ∷ 7 ∷ []
   pub p5-first-view : view K (3 ∷ []) inputs1 coins1 [] ≡ 7 ∷ 10 ∷ 3 ∷ 7 ∷ 4 ∷ 7 ∷ 10 ∷ 7 ∷ 4 ∷ 2 ∷ []
   pub p5-view : view K (3 ∷ []) inputs5 (3 ∷ 8 ∷ 5 ∷ 2 ∷ 7 ∷ []) [] ≡ view K (3 ∷ []) inputs1 coins1 []
-  pub p6-refused : codeOf (planCheck (likeK 2 1 11 0)) ≡ 4
+  -- P6 as R-3 has it: K's out names party 3
+  pub p6-first : codeOf (planCheck (likeK 2 1 11 0)) ≡ 8
   pub p6-passes : codeOf (planCheck (likeK 15 7 17 0)) ≡ 0
   pub p7-not-above : codeOf (planCheck (likeK 3 1 3 0)) ≡ 5
   pub p7-nine : codeOf (planCheck (likeK 3 1 9 0)) ≡ 5
@@ -86,6 +108,17 @@ pub record Sums : Type 0 where
   pub p9-passes : codeOf (planCheck single) ≡ 0
   pub p9-result : results (planOf single) (1 ∷ []) [] [] 1 ≡ 1 ∷ []
   pub p10 : benchOf 3 inputs1 0 ≡ 9
+  -- R-3: t = n; a multiply gate at n = 2, t = 1; and source document 001's example, with the two matchings for parties 1 and 4
+  pub r3-threshold : codeOf (planCheck (likeK 3 3 11 0)) ≡ 4
+  pub r3-majority : codeOf (planCheck (contents 2 1 11 0 ++ bodies 2)) ≡ 25
+  pub r3-passes : codeOf (planCheck addition) ≡ 0
+  pub r3-shares : map (wireAt (shareTable (planOf addition) inputs3 coins3 []) 6) (planOf addition .points) ≡ 2 ∷ 1 ∷ 1 ∷ 2 ∷ []
+  pub r3-result : results (planOf addition) inputs3 coins3 [] 1 ≡ 4 ∷ []
+  pub r3-delta : delta 5 (1 ∷ 4 ∷ []) ≡ 1 ∷ 0 ∷ 4 ∷ []
+  pub r3-coins : matchedCoins (planOf addition) (1 ∷ 4 ∷ []) inputs3 (2 ∷ 0 ∷ 2 ∷ 0 ∷ []) coins3 ≡ 0 ∷ 0 ∷ 0 ∷ 2 ∷ 2 ∷ 4 ∷ 3 ∷ 2 ∷ []
+  pub r3-other-coins : matchedCoins (planOf addition) (1 ∷ 4 ∷ []) inputs3 (2 ∷ 2 ∷ 0 ∷ 0 ∷ []) coins3 ≡ 0 ∷ 0 ∷ 0 ∷ 0 ∷ 2 ∷ 1 ∷ 3 ∷ 2 ∷ []
+  pub r3-view :
+      view (planOf addition) (1 ∷ 4 ∷ []) (2 ∷ 0 ∷ 2 ∷ 0 ∷ []) (0 ∷ 0 ∷ 0 ∷ 2 ∷ 2 ∷ 4 ∷ 3 ∷ 2 ∷ []) [] ≡ view (planOf addition) (1 ∷ 4 ∷ []) inputs3 coins3 []
   -- R-9: seat 3's last call in P1's run, its shares 10 7 4 as they came and with the last wrong; and three openings of five shares, of which the
   -- second breaks at seats 4 and 5, the third at seat 3
   pub r9-right : lastCallOf (10 ∷ 7 ∷ 4 ∷ []) ≡ 0

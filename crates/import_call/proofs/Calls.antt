@@ -1,16 +1,18 @@
 -- The import's checks, by what the code finds; and what it writes.
---     file-checks              after 23 and 24 only 3 to 6 can fall, and the contents decide them
+--     file-checks              after 23 and 24 only 3 to 6 can fall, and the contents decide them, and 25
 --     measuring, importing     what closes the needs of the functions
 -- Assumes nothing.
 use Prim.Native.Nat.{ℕ, _+_, _*_, _<_, _≤_}
 use mathlib.Core.Path.{_≡_, refl, sym, ap, ap₂, subst, _∙_}
 use mathlib.Core.Bool.{Bool, true, false, cond}
-use mathlib.Core.List.{List, [], _∷_}
+use mathlib.Core.List.{List, [], _∷_, _++_}
 use native.Mathlib.Omega.{arith}
 use borrow.Author.Needs.{needs}
 use borrow.Author.Tests.{le-leb, lt-leb, ltb-true, eq-eqb, ne-eqb}
 use lib.Dec.{T, eqb}
-use lib.ListN.{length}
+use lib.ListN.{length, take, drop}
+use mir.Syntax.{w32}
+use mir.Val.{Fits}
 use Rattle.numbers.proofs.Truth.{both-true}
 use Rattle.field.proofs.Primes.{prime-sound}
 use Rattle.plan.specs.declared.Checked.{Checked}
@@ -18,11 +20,12 @@ use Rattle.plan.specs.declared.Checked.the-variants.{Passed, Refused}
 use Rattle.plan.specs.declared.Refusal.{Refusal}
 use Rattle.plan.specs.declared.Refusal.the-variants as refusal
 use Rattle.plan.specs.Refusals.{andThen, firstOf, need}
-use Rattle.plan.specs.File.{partiesOk, thresholdOk, modulusOk, planCheck}
+use Rattle.plan.specs.File.{partiesOk, thresholdOk, modulusOk, majorityCheck, planCheck}
 use Rattle.plan.proofs.Refusals.{firstOf-append, andThen-passed, andThen-refused, passed-both, passed-need}
 use Rattle.plan.proofs.Planned.{between-true, modulus-prime, modulus-small}
 use Rattle.plan_file.specs.Bodies.{fileSize, planFile, contentChecks}
-use Rattle.plan_file.proofs.Files.{Sound, file-long, file-check}
+use Rattle.plan_file.proofs.Rooms.{room-long, room-majority, rooms}
+use Rattle.plan_file.proofs.Files.{Sound, file-long, file-check, file-majority}
 use Rattle.seat_messages.specs.Calls.{unlessRefused}
 use Rattle.import_lines.specs.Lines.{linesOf}
 use Rattle.import_text.specs.Circuits.{formatOk, circuitOf}
@@ -37,7 +40,7 @@ use Rattle.import_write.specs.Second.{Importable}
 use Rattle.import_call.specs.declared.Measured.{Measured}
 use Rattle.import_call.specs.declared.Measured.the-variants as measured
 use Rattle.import_call.specs.Importing.{importBodies, importFile, textChecks, importChecks, importAnswer, importAfter, measuredOf, measure, refusalOf}
-use Rattle.import_call.specs.Measures.{Ready, MeasuredAs}
+use Rattle.import_call.specs.Measures.{Counted, Ready, MeasuredAs}
 
 pub measured-passed : (c : Checked) (gates outs : ℕ) → c ≡ Passed → measured.Counts gates outs ≡ measuredOf c gates outs
 unfolding measuredOf
@@ -82,12 +85,14 @@ module _ (n t p : ℕ) (text : List ℕ) (ok : textOk n text ≡ true) where
   sound a m = made-sound n p (circuitOf text) rules (between-true 1 15 n a .0) (prime-above m)
 
   module _ (few-gates : length (importBodies p text .gates) ≤ 1024) (few-outs : length (importBodies p text .outs) ≤ 64) where
-    file-checks : planCheck (importFile n t p text) ≡ firstOf (contentChecks n t p (length (importBodies p text .gates)) (length (importBodies p text .outs)))
+    file-checks : planCheck (importFile n t p text)
+        ≡ andThen (firstOf (contentChecks n t p (length (importBodies p text .gates)) (length (importBodies p text .outs)))) (majorityCheck (importFile n t p text))
     unfolding importFile
     file-checks = file-check n t p (importBodies p text) few-gates few-outs sound
 
     measure-is : measure n t p text
-        ≡ measuredOf (firstOf (contentChecks n t p (length (importBodies p text .gates)) (length (importBodies p text .outs)))) (length (importBodies p text .gates)) (length (importBodies p text .outs))
+        ≡ measuredOf (andThen (firstOf (contentChecks n t p (length (importBodies p text .gates)) (length (importBodies p text .outs)))) (majorityCheck (importFile n t p text)))
+        (length (importBodies p text .gates)) (length (importBodies p text .outs))
     unfolding measure textChecks firstOf andThen need
     measure-is = rw (ok, le-leb (length (importBodies p text .gates)) 1024 few-gates, le-leb (length (importBodies p text .outs)) 64 few-outs) (unfold planCheck in rw file-checks)
 
@@ -100,6 +105,61 @@ module _ (n t p gates outs : ℕ) (passed : firstOf (contentChecks n t p gates o
       let b = passed-both _ _ (a .1) in
       let c = passed-both _ _ (b .1) in
       (passed-need refusal.Parties _ (a .0), passed-need refusal.Threshold _ (b .0), passed-need refusal.Modulus _ (c .0))
+
+-- ---- 25
+module _ (n t p gates outs : ℕ) (text : List ℕ) (w : Importable text n t p gates) (eo : outs ≡ outputWires (circuitOf text)) where
+  pub majority-fits : Fits w32 (2 * t)
+  majority-fits = record { fits = omega (arith, w .threshold) }
+
+  pub majority-passed : 2 * t < n → Passed ≡ majorityCheck (importFile n t p text)
+  unfolding importFile
+  majority-passed l = file-majority n t p (importBodies p text) l
+
+  pub majority-gates : gates ≤ 1024
+  majority-gates = w .few
+
+  pub majority-outs : outs ≤ 64
+  majority-outs = omega (arith, w .outs)
+
+  module _ (size : ℕ) (es : size ≡ fileSize gates outs) (room : List ℕ) (long : length room ≡ 6354) (few : size ≤ 6354) where
+    pub majority-room : length (take size room) ≡ fileSize gates (outputWires (circuitOf text))
+    majority-room = room-long size room long few ∙ es ∙ ap (fileSize gates) eo
+
+    pub majority-is : (ys : List ℕ) (c : Checked) → length ys ≡ length (take size room) → ys ≡ planFile n t p (circuitBodies p (circuitOf text))
+        → c ≡ majorityCheck (take size (ys ++ drop size room)) → c ≡ majorityCheck (importFile n t p text)
+    unfolding importFile importBodies
+    majority-is ys c kept is e = room-majority size room long few ys kept c (planFile n t p (circuitBodies p (circuitOf text))) is e
+
+pub ruleset majorities = (needs, majority-fits, majority-passed, majority-gates, majority-outs, majority-room, majority-is, rooms)
+
+-- ---- 3 to 6 and 25
+module _ (n t p gates outs : ℕ) (text : List ℕ) (w : Counted text n p gates outs) (c : Checked) (ec : c ≡ firstOf (contentChecks n t p gates outs)) where
+  pub plan-importable : c ≡ Passed → Importable text n t p gates
+  plan-importable q =
+      let parts = contents-parts n t p gates outs (sym ec ∙ q) in
+      let parties : n ≤ 15 = between-true 1 15 n (parts .0) .1 in
+      record {
+        format = format n t p text (w .ok);
+        rules = rules n t p text (w .ok);
+        count = sym (w .gates-are) ∙ (unfold importBodies in unfold circuitBodies in refl);
+        few = w .gates-few;
+        outs = omega (arith, w .outs-are, w .outs-few);
+        parties = omega arith;
+        threshold = omega (arith, ltb-true t n (parts .1));
+        prime = prime-above n t p text (w .ok) (parts .2);
+        small = modulus-small n p (parts .2);
+      }
+
+  pub plan-refused : (r : Refusal) (d : Checked) → c ≡ Refused r → c ≡ andThen (firstOf (contentChecks n t p gates outs)) d
+  plan-refused r d q = q ∙ sym (andThen-refused _ d r (sym ec ∙ q))
+
+  pub plan-further : (d : Checked) → c ≡ Passed → d ≡ majorityCheck (importFile n t p text) → d ≡ andThen (firstOf (contentChecks n t p gates outs)) (majorityCheck (importFile n t p text))
+  plan-further d q e = e ∙ sym (andThen-passed _ _ (sym ec ∙ q))
+
+pub counted-outs : (n p gates outs : ℕ) (text : List ℕ) → Counted text n p gates outs → outs ≡ outputWires (circuitOf text)
+counted-outs n p gates outs text w = w .outs-are
+
+pub ruleset checking-plan = (needs, plan-importable, plan-refused, plan-further, counted-outs)
 
 -- ---- the first pass
 module _ (n : ℕ) (text : List ℕ) (r : Survey) (h : Surveyed (surveyOf n text) r) where
@@ -145,7 +205,14 @@ module _ (n : ℕ) (text : List ℕ) (r : Survey) (h : Surveyed (surveyOf n text
         unfolding measure textChecks firstOf andThen need measuredOf Ready
         measure-outs l = record { eq = rw (ok, gates-are, outs-are, le-leb gates 1024 few, lt-leb outs 64 l); ready = tt }
 
-        module _ (few-outs : outs ≤ 64) (c : Checked) (ec : c ≡ firstOf (contentChecks n t p gates outs)) where
+        module _ (few-outs : outs ≤ 64) where
+          counted : Counted text n p gates outs
+          counted = record { ok = ok; gates-are = gates-are; outs-are = text-counts gates outs e .2; gates-few = few; outs-few = few-outs }
+
+        pub measure-counted : outs ≤ 64 → Counted text n p gates outs
+        measure-counted few-outs = counted few-outs
+
+        module _ (few-outs : outs ≤ 64) (c : Checked) (ec : c ≡ andThen (firstOf (contentChecks n t p gates outs)) (majorityCheck (importFile n t p text))) where
           measure-same : measure n t p text ≡ measuredOf c gates outs
           measure-same =
               measure-is n t p text ok (omega (arith, gates-are)) (omega (arith, outs-are))
@@ -153,19 +220,8 @@ module _ (n : ℕ) (text : List ℕ) (r : Survey) (h : Surveyed (surveyOf n text
 
           importable : c ≡ Passed → Importable text n t p gates
           importable q =
-              let parts = contents-parts n t p gates outs (sym ec ∙ q) in
-              let parties : n ≤ 15 = between-true 1 15 n (parts .0) .1 in
-              record {
-                format = format n t p text ok;
-                rules = rules n t p text ok;
-                count = sym gates-are ∙ (unfold importBodies in unfold circuitBodies in refl);
-                few = few;
-                outs = omega (arith, text-counts gates outs e .2);
-                parties = omega arith;
-                threshold = omega (arith, ltb-true (2 * t) n (parts .1));
-                prime = prime-above n t p text ok (parts .2);
-                small = modulus-small n p (parts .2);
-              }
+              plan-importable n t p gates outs text (counted few-outs) (firstOf (contentChecks n t p gates outs)) refl
+              (passed-both (firstOf (contentChecks n t p gates outs)) (majorityCheck (importFile n t p text)) (sym ec ∙ q) .0)
 
           pub measure-counts : (m : Measured) → m ≡ measuredOf c gates outs → MeasuredAs text n t p m
           measure-counts m em = record { eq = em ∙ sym measure-same; ready = rw em (by c refl) }
@@ -174,7 +230,7 @@ module _ (n : ℕ) (text : List ℕ) (r : Survey) (h : Surveyed (surveyOf n text
               by Passed q = unfold measuredOf in unfold Ready in record { gates-few = few; outs-few = few-outs; outs-are = text-counts gates outs e .2; text = importable q }
               by (Refused x) q = unfold measuredOf in unfold Ready in tt
 
-pub ruleset measuring = (needs, measured-passed, measured-refused, refusal-counts, refusal-refused, measure-wrong, measure-gates, measure-outs, measure-counts)
+pub ruleset measuring = (needs, measured-passed, measured-refused, refusal-counts, refusal-refused, measure-wrong, measure-gates, measure-outs, measure-counted, measure-counts)
 
 -- ---- the call
 measured-told : (c : Checked) (gates outs : ℕ) (m : Measured) → m ≡ measuredOf c gates outs → refusalOf m ≡ c

@@ -5,8 +5,14 @@ use plan::Refusal;
 ghost use mathlib.Core.Path.{_≡_};
 ghost use Prim.Native.Nat.{_≤_};
 ghost use lib.ListN.{length};
-ghost use Rattle.import_call.specs.Importing.{measure, measuredOf, refusalOf, importAnswer, importAfter};
-ghost use Rattle.import_call.specs.Measures.{MeasuredAs};
+ghost use Rattle.import_call.specs.Importing.{importFile, measure, measuredOf, refusalOf, importAnswer, importAfter};
+ghost use Rattle.plan.specs.Refusals.{andThen, firstOf};
+ghost use Rattle.plan.specs.File.{majorityCheck};
+ghost use Rattle.plan_file.specs.Bodies.{contentChecks};
+ghost use Rattle.import_circuit.specs.Wires.{outputWires};
+ghost use Rattle.import_text.specs.Circuits.{circuitOf};
+ghost use Rattle.import_write.specs.Second.{Importable};
+ghost use Rattle.import_call.specs.Measures.{Counted, MeasuredAs};
 
 // How many gates and outs the plan has, or the refusal.
 pub enum Measured {
@@ -23,6 +29,33 @@ fn measured_of(c: Checked, gates: usize, outs: usize) -> Measured
     }
 }
 
+// Refusal 25 of the file that would be written, which is written in a room of its own where 2t is not below n.
+fn check_majority(text: &[u8], n: u32, t: u32, p: u32, gates: usize, outs: usize) -> Checked
+    requires { ⌜ Importable (now text) n t p gates ⌝ }
+    requires { ⌜ outs ≡ outputWires (circuitOf (now text)) ⌝ }
+    ensures { λ r. ⌜ r ≡ majorityCheck (importFile n t p (now (text .entry))) ⌝ }
+{
+    if 2 * t < n {
+        return Checked::Passed;
+    }
+    let size = plan_file::file_size(gates, outs);
+    let mut room = [0u8; 6354];
+    import_write::write_text(text, n, t, p, gates, &mut room[..size]);
+    plan_reading::check_majority(&room[..size])
+}
+
+// Refusals 3 to 6 and 25 of the plan.
+fn check_plan(text: &[u8], n: u32, t: u32, p: u32, gates: usize, outs: usize) -> Checked
+    requires { ⌜ Counted (now text) n p gates outs ⌝ }
+    ensures { λ r. ⌜ r ≡ andThen (firstOf (contentChecks n t p gates outs)) (majorityCheck (importFile n t p (now (text .entry)))) ⌝ }
+{
+    let c = plan_file::check(n, t, p, gates, outs);
+    let Checked::Passed = c else {
+        return c;
+    };
+    check_majority(text, n, t, p, gates, outs)
+}
+
 // Checks a text and what is given beside it: refusals 23, 24 and those of its plan.
 pub fn measure_text(text: &[u8], n: u32, t: u32, p: u32) -> Measured
     ensures { λ r. ⌜ MeasuredAs (now (text .entry)) n t p r ⌝ }
@@ -36,7 +69,7 @@ pub fn measure_text(text: &[u8], n: u32, t: u32, p: u32) -> Measured
     if 64 < outs {
         return Measured::Refused(Refusal::TooLarge);
     }
-    measured_of(plan_file::check(n, t, p, gates, outs), gates, outs)
+    measured_of(check_plan(text, n, t, p, gates, outs), gates, outs)
 }
 
 // A measure's refusal, handed on.

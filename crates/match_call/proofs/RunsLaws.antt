@@ -260,9 +260,9 @@ tail-of bs h p set ok =
     let em : map (pointOf (planOf bs)) (members set) ≡ members set = points-of-members bs h set p ok in
     cc
 
-module _ (bs : List ℕ) (h : Header) (p : Planned bs h) (d : List ℕ) (size : length d ≡ 8) where
+module _ (bs : List ℕ) (h : Header) (p : Planned bs h) (d : List ℕ) (size : length d ≡ 15) where
   pub delta-count : h .t + 1 ≡ length (take (h .t + 1) d)
-  delta-count = sym (length-take-le (h .t + 1) d (omega (arith, p .majority, p .n-high)))
+  delta-count = sym (length-take-le (h .t + 1) d (omega (arith, p .threshold, p .n-high)))
 
   module _ (set : ℕ) (ok : setOk (planOf bs) set ≡ true) (k : ℕ) (room : List ℕ) (e : take k room ≡ members set) where
     pub members-room : length (take k room) + 1 ≤ length (take (h .t + 1) d)

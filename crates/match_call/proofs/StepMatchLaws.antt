@@ -11,7 +11,7 @@ use Prim.Native.Nat.{ℕ, suc, _+_, _*_, _<_, _≤_}
 use native.Mathlib.Nat.{mul-zero, mul-suc}
 use native.Mathlib.Omega.{arith}
 use borrow.Author.Needs.{needs}
-use borrow.Author.Tests.{ltb-true}
+use borrow.Author.Tests.{ltb-true, lt-ltb}
 use lib.Dec.{ltb}
 use lib.ListN.{length, getD, take, drop, length-append, length-drop, take-append-drop}
 use lib.Seq.{length-take-le, getD-take, take-at, drop-at}
@@ -32,12 +32,12 @@ use Rattle.plan.specs.declared.Rule.{Rule}
 use Rattle.plan.specs.declared.Rule.the-variants.{Reduction}
 use Rattle.plan.specs.declared.Dealing.{Dealing}
 use Rattle.plan.specs.declared.Header.{Header}
-use Rattle.plan.specs.Plans.{Plan, dealerCount, dealerPoints, kindOf, isKind, operandsOf, firstDealings, multiplyDealings, dealingsAt, coinOwnersAt}
-use Rattle.plan.specs.File.{planOf, gateAt, gateOk}
+use Rattle.plan.specs.Plans.{Plan, dealerCount, dealerPoints, kindOf, isKind, multiplying, operandsOf, firstDealings, multiplyDealings, dealingsAt, coinOwnersAt}
+use Rattle.plan.specs.File.{planOf, gateAt, gateOk, majorityOk}
 use Rattle.plan.specs.Planned.{Planned}
 use Rattle.plan_coalition.specs.Coalitions.{members}
 use Rattle.plan.proofs.Planned.{between-true, plan-n, plan-t, plan-p, plan-dealers, plan-gate}
-use Rattle.plan.proofs.Valid.{Valid, valid, plain, gate-kept}
+use Rattle.plan.proofs.Valid.{Valid, valid, plain, gate-kept, gate-majority}
 use Rattle.run_protocol.specs.Shares.{Before, productOf, multiplyDealt, dealtAt, gateShare, past}
 use Rattle.run_dealings.specs.Rows.{rowsOf, productsOf, Sized, Standing, Taking, Holds, Stepped}
 use Rattle.run_tables.proofs.StepLaws.{planned-sized}
@@ -86,15 +86,16 @@ module _ (plan : Plan) (h : Header) (et : plan .t ≡ h .t) (rule : plan .rule �
       either false = refl
 
 -- the dealers are parties
-dealers-low : (h : Header) (n p g : ℕ) → n ≤ 15 → h .t + h .t + 1 ≤ n → h .n ≤ n → (gate : Gate) → gateOk n p g gate ≡ true → All (λ d. (1 ≤ d) × (d ≤ 16)) (dealersIn h gate)
-unfolding dealersIn gateOk
-dealers-low h n p g le few upto (Input s) ok = let b = between-true 1 n s ok in ((b .0, omega (arith, b .1)), tt)
-dealers-low h n p g le few upto (Add a b) ok = tt
-dealers-low h n p g le few upto (Scale a c) ok = tt
-dealers-low h n p g le few upto (Offset a c) ok = tt
-dealers-low h n p g le few upto (Multiply a b) ok = all-tab (λ d. (1 ≤ d) × (d ≤ 16)) suc (h .t + h .t + 1) (λ i l. (omega arith, omega arith))
-dealers-low h n p g le few upto Random ok = all-tab (λ d. (1 ≤ d) × (d ≤ 16)) suc (h .n) (λ i l. (omega arith, omega arith))
-dealers-low h n p g le few upto (Spend a b) ok = tt
+dealers-low : (h : Header) (p g : ℕ) → h .n ≤ 15 → (gate : Gate) → gateOk (h .n) p g gate ≡ true → majorityOk (h .n) (h .t) gate ≡ true → All (λ d. (1 ≤ d) × (d ≤ 16)) (dealersIn h gate)
+unfolding dealersIn gateOk majorityOk multiplying isKind kindOf
+dealers-low h p g le (Input s) ok major = let b = between-true 1 (h .n) s ok in ((b .0, omega (arith, b .1)), tt)
+dealers-low h p g le (Add a b) ok major = tt
+dealers-low h p g le (Scale a c) ok major = tt
+dealers-low h p g le (Offset a c) ok major = tt
+dealers-low h p g le (Multiply a b) ok major =
+    all-tab (λ d. (1 ≤ d) × (d ≤ 16)) suc (h .t + h .t + 1) (λ i l. (omega arith, omega (arith, ltb-true (2 * h .t) (h .n) major)))
+dealers-low h p g le Random ok major = all-tab (λ d. (1 ≤ d) × (d ≤ 16)) suc (h .n) (λ i l. (omega arith, omega arith))
+dealers-low h p g le (Spend a b) ok major = tt
 
 module _ (bs : List ℕ) (h : Header) (k : Planned bs h) (g : ℕ) (table xs : List ℕ) (room : h .n * g ≤ length table) (s : Before) (front : take (h .n * g) table ≡ rowsOf (planOf bs .points) (s .env)) (inputs : s .inputs ≡ xs) where
   product-at : (a b j : ℕ) → a < g → b < g → j < h .n → mul (h .field .p) (getD table (h .n * a + j) 0) (getD table (h .n * b + j) 0) ≡ productOf (planOf bs) (s .env) a b (getD (planOf bs .points) j 0)
@@ -104,12 +105,12 @@ module _ (bs : List ℕ) (h : Header) (k : Planned bs h) (g : ℕ) (table xs : L
       (ap₂ (mul (h .field .p)) (entry-of-wire (planOf bs .points) (h .n) (plan-points-long bs h k) (k .n-low) table g room (s .env) front a j la l)
       (entry-of-wire (planOf bs .points) (h .n) (plan-points-long bs h k) (k .n-low) table g room (s .env) front b j lb l))
 
-  products-are : (a b : ℕ) → a < g → b < g → productsOf (h .field .p) (h .n) (h .t + h .t + 1) a b table ≡ dealtAt (planOf bs) (Multiply a b) s
+  products-are : (a b : ℕ) → 2 * h .t < h .n → a < g → b < g → productsOf (h .field .p) (h .n) (h .t + h .t + 1) a b table ≡ dealtAt (planOf bs) (Multiply a b) s
   unfolding productsOf dealtAt multiplyDealt dealerPoints
-  products-are a b la lb =
+  products-are a b two la lb =
       let m : ℕ = h .t + h .t + 1 in
       let F : ℕ → ℕ = productOf (planOf bs) (s .env) a b in
-      let le : m ≤ h .n = omega (arith, k .majority) in
+      let le : m ≤ h .n = omega arith in
       let long : length (take m (planOf bs .points)) ≡ m = length-take-le m (planOf bs .points) (rw (plan-points-long bs h k) le) in
       tab-ext _ (λ j. F (getD (take m (planOf bs .points)) j 0)) m
       (λ j l. rw (getD-take m (planOf bs .points) j 0 l) (product-at a b j la lb (omega arith)))
@@ -117,17 +118,17 @@ module _ (bs : List ℕ) (h : Header) (k : Planned bs h) (g : ℕ) (table xs : L
       ∙ map-tab F (take m (planOf bs .points)) ∙ ap (tab (λ j. F (getD (take m (planOf bs .points)) j 0))) long)
       ∙ sym (ap (λ (r : Rule). multiplyDealt (planOf bs) r s a b) (plain bs (k .passes) .rule))
 
-  dealt-by : (gate : Gate) → gateOk (h .n) (h .field .p) g gate ≡ true → dealtIn h gate table xs ≡ dealtAt (planOf bs) gate s
-  unfolding dealtIn dealtAt gateOk
-  dealt-by (Multiply a b) ok =
+  dealt-by : (gate : Gate) → gateOk (h .n) (h .field .p) g gate ≡ true → majorityOk (h .n) (h .t) gate ≡ true → dealtIn h gate table xs ≡ dealtAt (planOf bs) gate s
+  unfolding dealtIn dealtAt gateOk majorityOk multiplying isKind kindOf
+  dealt-by (Multiply a b) ok major =
       let l = both-true (ltb a g) (ltb b g) ok in
-      products-are a b (ltb-true a g (l .0)) (ltb-true b g (l .1))
-  dealt-by (Input i) ok = rw inputs
-  dealt-by (Add a b) ok = refl
-  dealt-by (Scale a c) ok = refl
-  dealt-by (Offset a c) ok = refl
-  dealt-by Random ok = rw (plan-n k, inputs)
-  dealt-by (Spend a b) ok = refl
+      products-are a b (ltb-true (2 * h .t) (h .n) major) (ltb-true a g (l .0)) (ltb-true b g (l .1))
+  dealt-by (Input i) ok major = rw inputs
+  dealt-by (Add a b) ok major = refl
+  dealt-by (Scale a c) ok major = refl
+  dealt-by (Offset a c) ok major = refl
+  dealt-by Random ok major = rw (plan-n k, inputs)
+  dealt-by (Spend a b) ok major = refl
 
 -- ---- what is written, within the list
 module _ (old new block : List ℕ) (at k : ℕ) (le : at ≤ length old) (front : take (at + k) new ≡ take at old ++ block) where
@@ -175,6 +176,14 @@ module _ (bs : List ℕ) (h : Header) (set : ℕ) (es : List ℕ) (w : Equipped 
   module _ (g : ℕ) (gate : Gate) (l : g < h .gates) (eg : gate ≡ gateAt bs g) where
     step-kept : gateOk (h .n) (h .field .p) g gate ≡ true
     step-kept = gate-kept bs h (w .planned) g gate l eg
+
+    step-major : majorityOk (h .n) (h .t) gate ≡ true
+    unfolding majorityOk
+    step-major = by (multiplying gate) refl
+      where
+        by : (m : Bool) → multiplying gate ≡ m → cond m (ltb (2 * h .t) (h .n)) true ≡ true
+        by true e = lt-ltb (2 * h .t) (h .n) (gate-majority bs h (w .planned) g gate l eg e)
+        by false e = refl
 
     step-low : kindOf gate ≤ 5
     step-low = rw (eg, ← plan-gate (w .planned) g l) (plain bs (w .planned .passes) .kinds g)
@@ -231,11 +240,11 @@ module _ (bs : List ℕ) (h : Header) (set : ℕ) (es : List ℕ) (w : Equipped 
             (hb : Holds plan (h .n) g xs (drop at (numbers coins)) before s) (ha : Holds plan (h .n) g ys (s′ .coins) after s′) where
           -- what is dealt in both runs
           first-dealt : dealtIn h gate before xs ≡ dealtAt plan gate s
-          first-dealt = dealt-by bs h (w .planned) g before xs (sb .room) s (hb .rows) (hb .inputs) gate step-kept
+          first-dealt = dealt-by bs h (w .planned) g before xs (sb .room) s (hb .rows) (hb .inputs) gate step-kept step-major
 
           second-dealt : dealtIn h gate after ys ≡ dealtAt plan gate (withCoins (s .coins) s′)
           unfolding withCoins
-          second-dealt = dealt-by bs h (w .planned) g after ys (sa .room) (withCoins (s .coins) s′) (ha .rows) (ha .inputs) gate step-kept
+          second-dealt = dealt-by bs h (w .planned) g after ys (sa .room) (withCoins (s .coins) s′) (ha .rows) (ha .inputs) gate step-kept step-major
 
           matched-is : matchedBlocks plan (members set) (dealingsAt plan gate) (dealtAt plan gate s) (dealtAt plan gate (withCoins (s .coins) s′)) (s .coins) ≡ matchedAt plan (members set) gate s s′
           unfolding matchedAt
@@ -247,7 +256,6 @@ module _ (bs : List ℕ) (h : Header) (set : ℕ) (es : List ℕ) (w : Equipped 
           unfolding block
           block-matched =
               let v : Valid plan = valid bs (w .planned .passes) in
-              let few : h .t + h .t + 1 ≤ h .n = omega (arith, w .planned .majority) in
               let ep : plan .p ≡ h .field .p = plan-p (w .planned) in
               let et : plan .t ≡ h .t = plan-t (w .planned) in
               let room : plan .t * length (dealersIn h gate) ≤ length (drop at (numbers coins)) =
@@ -261,7 +269,7 @@ module _ (bs : List ℕ) (h : Header) (set : ℕ) (es : List ℕ) (w : Equipped 
               cc in
               is
               ∙ blocks-are plan v set (w .set-ok) (dealersIn h gate) (dealtAt plan gate s) (dealtAt plan gate (withCoins (s .coins) s′)) (drop at (numbers coins))
-              (dealers-low h (h .n) (h .field .p) g (w .planned .n-high) few (omega arith) gate step-kept) room
+              (dealers-low h (h .field .p) g (w .planned .n-high) gate step-kept step-major) room
               (below-canon (plan .p) (drop at (numbers coins)) coins-small)
               ∙ ap₂ (λ (ds : List Dealing) (cs : List ℕ). matchedBlocks plan (members set) ds (dealtAt plan gate s) (dealtAt plan gate (withCoins (s .coins) s′)) cs)
               (sym (dealings-by plan h (plan-t (w .planned)) file-rule gate step-low)) (sym (hb .coins))
@@ -292,6 +300,9 @@ module _ (bs : List ℕ) (h : Header) (set : ℕ) (es : List ℕ) (w : Equipped 
   pub turn-kept : gateOk (h .n) (h .field .p) g gate ≡ true
   turn-kept = step-kept bs h set es w g gate (turn .gate) eg
 
+  pub turn-major : majorityOk (h .n) (h .t) gate ≡ true
+  turn-major = step-major bs h set es w g gate (turn .gate) eg
+
   pub turn-low : kindOf gate ≤ 5
   turn-low = step-low bs h set es w g gate (turn .gate) eg
 
@@ -306,7 +317,7 @@ module _ (bs : List ℕ) (h : Header) (set : ℕ) (es : List ℕ) (w : Equipped 
   turn-matched next out′ r same moves =
       gate-matched bs h set es w g gate (turn .gate) eg at coins out (turn .lent) (drop next (numbers xs)) (drop next (numbers ys)) before after out′ r same moves (turn .first) (turn .second)
 
-pub ruleset matching-coins = (needs, es-long, es-below, equipped-sized, turn-kept, turn-low, turn-lent, turn-matched)
+pub ruleset matching-coins = (needs, es-long, es-below, equipped-sized, turn-kept, turn-major, turn-low, turn-lent, turn-matched)
 
 -- ---- both runs
 module _ (bs : List ℕ) (h : Header) (set : ℕ) (es : List ℕ) (w : Equipped bs h set es) (g : ℕ) (xs ys before after : List ℕ) (at : ℕ) (coins out : List ℕ) (turn : Turn bs h g xs ys before after at coins out) where

@@ -227,7 +227,7 @@ fn match_with(
     requires { ⌜ Matchable (now plan) h set (now first) (now second) (now coins) (length (now out)) ⌝ }
     ensures { λ _. ⌜ numbers (now (out .exit)) ≡ matchedCoins (planOf (now (plan .entry))) (members set) (numbers (now (first .entry))) (numbers (now (second .entry))) (numbers (now (coins .entry))) ⌝ }
 {
-    let mut rows = [0u64; 120];
+    let mut rows = [0u64; 240];
     let mut weights = [0u64; 15];
     let mut before = [0u64; 15360];
     let mut after = [0u64; 15360];
@@ -252,14 +252,14 @@ fn match_with(
 }
 
 // Delta's coefficients: from entry 1 on those of X to X^t.
-fn delta(plan: &[u8], h: Header, set: u16) -> [u64; 8]
+fn delta(plan: &[u8], h: Header, set: u16) -> [u64; 15]
     requires { ⌜ Planned (now plan) h ⌝ }
     requires { ⌜ setOk (planOf (now plan)) set ≡ true ⌝ }
     ensures { λ r. ⌜ take (h .t + 1 - 1) (drop 1 r) ≡ deltaTail (planOf (now (plan .entry))) set ⌝ }
 {
     let e = h.t + 1;
     let mut points = [0u64; 16];
-    let mut delta = [0u64; 8];
+    let mut delta = [0u64; 15];
     let k = match_moves::members(set, &mut points);
     sharing_delta::vanishing(h.field, &points[..k], &mut delta[..e]);
     delta

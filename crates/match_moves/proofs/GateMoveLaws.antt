@@ -25,8 +25,8 @@ use Rattle.field.specs.Field.{Ready}
 use Rattle.plan.specs.declared.Gate.{Gate}
 use Rattle.plan.specs.declared.Gate.the-variants.{Input, Add, Scale, Offset, Multiply, Random, Spend}
 use Rattle.plan.specs.declared.Header.{Header}
-use Rattle.plan.specs.Plans.{kindOf}
-use Rattle.plan.specs.File.{gateOk}
+use Rattle.plan.specs.Plans.{kindOf, isKind, multiplying}
+use Rattle.plan.specs.File.{gateOk, majorityOk}
 use Rattle.run_dealings.specs.Rows.{productsOf, Rowed, Standing}
 use Rattle.sharing.proofs.Coding.{entry-below}
 use Rattle.run_dealings.proofs.RowLaws.{standing-row}
@@ -48,6 +48,10 @@ products-moved p n t m coalition a b at es before after first second cs old new 
 pub ruleset moving-products = (needs, products-below, products-moved)
 
 -- ---- a gate by its kind
+pub multiply-majority : (n t : ℕ) (gate : Gate) (a b : ℕ) → majorityOk n t gate ≡ true → gate ≡ Multiply a b → 2 * t < n
+unfolding majorityOk multiplying isKind kindOf
+multiply-majority n t gate a b ok e = let k : ltb (2 * t) n ≡ true = rw e at ok in ltb-true (2 * t) n k
+
 module _ (n p g : ℕ) (gate : Gate) (table : List ℕ) (ok : gateOk n p g gate ≡ true) (a b : ℕ) (e : gate ≡ Multiply a b) (s : Standing p n g table) where
   pub left-stands : Rowed p n a table
   unfolding gateOk
@@ -124,4 +128,4 @@ module _ (h : Header) (gate : Gate) where
   unfolding dealersIn
   none-spend a b e = rw e
 
-pub ruleset moving-gate = (needs, left-stands, right-stands, input-lent, multiply-lent, input-small, moved-input, moved-multiply, moved-random, moved-none, none-add, none-scale, none-offset, none-spend)
+pub ruleset moving-gate = (needs, multiply-majority, left-stands, right-stands, input-lent, multiply-lent, input-small, moved-input, moved-multiply, moved-random, moved-none, none-add, none-scale, none-offset, none-spend)

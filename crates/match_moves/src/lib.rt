@@ -11,7 +11,7 @@ ghost use Rattle.numbers.specs.Tables.{tab};
 ghost use Rattle.numbers.specs.Bytes.{numbers, allBelow};
 ghost use Rattle.field.specs.Field.{Below2, Is, Ready};
 ghost use Rattle.plan.specs.Plans.{kindOf};
-ghost use Rattle.plan.specs.File.{gateOk};
+ghost use Rattle.plan.specs.File.{gateOk, majorityOk};
 ghost use Rattle.plan_coalition.specs.Coalitions.{members};
 ghost use Rattle.run_dealings.specs.Rows.{productsOf, Sized, Rowed, Standing};
 ghost use Rattle.match_moves.specs.Moves.{moved, changeOf, movedBlocks, dealersIn, dealtIn, Lent, Written, Advanced};
@@ -128,6 +128,7 @@ fn match_products(
 // What a multiply gate's dealers deal in a run: each one's own product of its two shares.
 fn products(h: Header, a: usize, b: usize, table: &[u64]) -> [u64; 15]
     requires { ⌜ Sized h ⌝ }
+    requires { ⌜ 2 * h .t < h .n ⌝ }
     requires { ⌜ Rowed (h .field .p) (h .n) a (now table) ⌝ }
     requires { ⌜ Rowed (h .field .p) (h .n) b (now table) ⌝ }
     ensures { λ r. ⌜ record { eq : take (h .t + h .t + 1) r ≡ productsOf (h .field .p) (h .n) (h .t + h .t + 1) a b (now (table .entry)); below : allBelow (h .field .p) (take (h .t + h .t + 1) r) ≡ true } ⌝ }
@@ -149,6 +150,7 @@ fn match_multiply(
     out: &mut [u8],
 ) -> usize
     requires { ⌜ Sized h ⌝ }
+    requires { ⌜ 2 * h .t < h .n ⌝ }
     requires { ⌜ (Rowed (h .field .p) (h .n) a (now before)) × (Rowed (h .field .p) (h .n) b (now before)) ⌝ }
     requires { ⌜ (Rowed (h .field .p) (h .n) a (now after)) × (Rowed (h .field .p) (h .n) b (now after)) ⌝ }
     requires { ⌜ allBelow (h .field .p) (now delta) ≡ true ⌝ }
@@ -180,6 +182,7 @@ pub fn match_gate(
     requires { ⌜ (length (now delta) ≡ h .t) × (allBelow (h .field .p) (now delta) ≡ true) ⌝ }
     requires { ⌜ Sized h ⌝ }
     requires { ⌜ (gateOk (h .n) (h .field .p) g gate ≡ true) × (kindOf gate ≤ 5) ⌝ }
+    requires { ⌜ majorityOk (h .n) (h .t) gate ≡ true ⌝ }
     requires { ⌜ (allBelow (h .field .p) (numbers (now first)) ≡ true) × (allBelow (h .field .p) (numbers (now second)) ≡ true) ⌝ }
     requires { ⌜ Standing (h .field .p) (h .n) g (now before) ⌝ }
     requires { ⌜ Standing (h .field .p) (h .n) g (now after) ⌝ }

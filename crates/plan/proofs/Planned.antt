@@ -1,10 +1,11 @@
 -- What a plan that passes is.
 --     Passing, passing              the checks, one by one
+--     passing-majority              2t < n where a gate multiplies
 --     planned, planned-read         the bounds of its contents
 --     party-count .. out-of-plan    the plan's parts, by its contents
 -- Assumes nothing.
 use mathlib.Core.Path.{_≡_, refl, sym, ap, _∙_}
-use mathlib.Core.Bool.{Bool, true, _&&_}
+use mathlib.Core.Bool.{Bool, true, cond, _&&_}
 use mathlib.Core.List.{List}
 use Prim.Native.Nat.{ℕ, suc, _+_, _*_, _<_, _≤_}
 use native.Mathlib.Omega.{arith}
@@ -15,6 +16,7 @@ use Rattle.numbers.specs.Tables.{tab, firstFailing}
 use Rattle.numbers.specs.Bytes.{wordAt}
 use Rattle.numbers.specs.declared.Found.the-variants.{Nothing}
 use Rattle.numbers.proofs.Tables.{length-tab, getD-tab}
+use Rattle.numbers.proofs.Searches.{nothing-passes}
 use Rattle.numbers.proofs.Truth.{both-true}
 use Rattle.field.specs.Prime.{isPrime}
 use Rattle.field.specs.Field.{fieldLimit}
@@ -26,8 +28,8 @@ use Rattle.plan.specs.declared.Refusal.{Refusal}
 use Rattle.plan.specs.declared.Refusal.the-variants as refusal
 use Rattle.plan.specs.declared.Checked.the-variants.{Passed, Refused}
 use Rattle.plan.specs.Refusals.{firstOf}
-use Rattle.plan.specs.Plans.{partyCount, dealerCount}
-use Rattle.plan.specs.File.{nAt, tAt, pAt, gateCountAt, outCountAt, between, partiesOk, thresholdOk, modulusOk, gateAt, outAt, gateKept, outKept, layoutOk, planChecks, planCheck, planOf, headerOf}
+use Rattle.plan.specs.Plans.{multiplying, partyCount, dealerCount}
+use Rattle.plan.specs.File.{nAt, tAt, pAt, gateCountAt, outCountAt, between, partiesOk, thresholdOk, modulusOk, gateAt, outAt, majorityOk, gateKept, outKept, majorityKept, layoutOk, majorityCheck, planChecks, planCheck, planOf, headerOf}
 use Rattle.plan.specs.Planned.{Planned, ReadAs}
 use Rattle.plan.proofs.Refusals.{passed-both, passed-need, passed-found}
 use Rattle.plan.proofs.Ways.{check-of-passed, check-of-refused, header-of-passed, read-outcome}
@@ -41,9 +43,10 @@ pub record Passing (bs : List ℕ) : Type 0 where
   pub layout : layoutOk bs ≡ true
   pub gates : firstFailing (gateKept bs) (gateCountAt bs) ≡ Nothing
   pub outs : firstFailing (outKept bs) (outCountAt bs) ≡ Nothing
+  pub majority : firstFailing (majorityKept bs) (gateCountAt bs) ≡ Nothing
 
 pub passing : (bs : List ℕ) → planCheck bs ≡ Passed → Passing bs
-unfolding planCheck planChecks firstOf
+unfolding planCheck planChecks firstOf majorityCheck
 passing bs h =
     let a = passed-both _ _ h in
     let b = passed-both _ _ (a .1) in
@@ -53,6 +56,7 @@ passing bs h =
     let f = passed-both _ _ (e .1) in
     let g = passed-both _ _ (f .1) in
     let o = passed-both _ _ (g .1) in
+    let m = passed-both _ _ (o .1) in
     record {
       version = passed-need refusal.Version _ (b .0);
       parties = passed-need refusal.Parties _ (c .0);
@@ -61,7 +65,15 @@ passing bs h =
       layout = passed-need refusal.Layout _ (f .0);
       gates = passed-found refusal.GateRule _ (g .0);
       outs = passed-found refusal.OutputRule _ (o .0);
+      majority = passed-found (λ g. refusal.Majority) _ (m .0);
     }
+
+-- a gate that multiplies has its majority
+pub passing-majority : (bs : List ℕ) → Passing bs → (g : ℕ) → g < gateCountAt bs → multiplying (gateAt bs g) ≡ true → 2 * tAt bs < nAt bs
+unfolding majorityKept majorityOk
+passing-majority bs q g l m =
+    let kept : cond (multiplying (gateAt bs g)) (ltb (2 * tAt bs) (nAt bs)) true ≡ true = nothing-passes (majorityKept bs) (gateCountAt bs) (q .majority) g l in
+    ltb-true (2 * tAt bs) (nAt bs) (rw m at kept)
 
 -- ---- its bounds
 module _ (n p : ℕ) (h : modulusOk n p ≡ true) where
@@ -109,7 +121,7 @@ planned bs small h =
       is = refl;
       n-low = n .0;
       n-high = n .1;
-      majority = ltb-true (2 * tAt bs) (nAt bs) (q .threshold);
+      threshold = ltb-true (tAt bs) (nAt bs) (q .threshold);
       p-low = modulus-above (nAt bs) (pAt bs) (q .modulus);
       p-high = small;
       gates-low = g .0;

@@ -1,17 +1,18 @@
 -- What the proofs use of a plan, and that a plan that passes has it.
 --     Valid, valid            all that the protocol asks: 2t < n only where there is a gate of kind 5 or 7
 --     Sized, sized            what its lists and calls need beside
---     Plain, plain            what a plan file may have today: the rule of versions 1 to 3, kinds 1 to 5, the points 1 to n, and 2t < n
+--     Plain, plain            what a plan file may have today: the rule of versions 1 to 3, kinds 1 to 5, and the points 1 to n
 --     version-read            and its version is 1
 --     points-apart            no two points are the same
+--     none-or-majority        no gate of kind 5, or 2t < n
 --     plain-no-6, plain-no-7  a plain plan has no gate of kind 6 or 7
 -- Assumes nothing.
 use Prim.Native.Nat.{ℕ, zero, suc, _+_, _*_, _%_, _<_, _≤_}
 use native.Mathlib.Nat.{mod-eq-of-lt}
 use native.Mathlib.Omega.{arith}
 use mathlib.Core.Path.{_≡_, refl, sym, ap, subst}
-use mathlib.Core.Logic.{_≢_}
-use mathlib.Core.Bool.{Bool, true, false, cond}
+use mathlib.Core.Logic.{_≢_, _⊎_, inl, inr}
+use mathlib.Core.Bool.{Bool, true, false, cond, _||_}
 use mathlib.Core.List.{List, [], _∷_}
 use borrow.Author.Tests.{ltb-true, eqb-true, ne-eqb}
 use lib.Dec.{T, eqb, ltb}
@@ -36,7 +37,7 @@ use Rattle.plan.specs.declared.Header.{Header}
 use Rattle.plan.specs.Plans.{Plan, partyCount, kindOf, isKind, kindCount, multiplying}
 use Rattle.plan.specs.File.{nAt, tAt, pAt, gateCountAt, outCountAt, gateOf, gateAt, outAt, gateOk, outOk, gateKept, outKept, planCheck, planOf}
 use Rattle.plan.specs.Planned.{Planned}
-use Rattle.plan.proofs.Planned.{Passing, passing, laid, between-true, modulus-prime, modulus-above, modulus-small, plan-p, plan-n, plan-gates, plan-gate}
+use Rattle.plan.proofs.Planned.{Passing, passing, passing-majority, laid, between-true, modulus-prime, modulus-above, modulus-small, plan-t, plan-p, plan-n, plan-gates, plan-gate}
 
 pub record Valid (plan : Plan) : Type 0 where
   pub prime : Prime (plan .p)
@@ -58,7 +59,6 @@ pub record Plain (plan : Plan) : Type 0 where
   pub rule : plan .rule ≡ Reduction
   pub kinds : (g : ℕ) → kindOf (getD (plan .gates) g (Input 0)) ≤ 5
   pub points : plan .points ≡ tab suc (partyCount plan)
-  pub majority : plan .t + plan .t < partyCount plan
 
 -- ---- no two points are the same
 apart-from : (p : ℕ) (xs : List ℕ) → Distinct p xs → (i j : ℕ) → j < i → i < length xs → getD xs i 0 ≢ getD xs j 0
@@ -105,8 +105,8 @@ module _ (bs : List ℕ) (h : planCheck bs ≡ Passed) where
   points-small : (i : ℕ) → i < nAt bs → suc i < pAt bs
   points-small i l = omega (arith, above)
 
-  two : 2 * tAt bs < nAt bs
-  two = ltb-true (2 * tAt bs) (nAt bs) (checks .threshold)
+  below-n : tAt bs < nAt bs
+  below-n = ltb-true (tAt bs) (nAt bs) (checks .threshold)
 
   gates-kept : (g : ℕ) → g < gateCountAt bs → gateOk (nAt bs) (pAt bs) g (gateAt bs g) ≡ true
   unfolding gateKept
@@ -122,8 +122,12 @@ module _ (bs : List ℕ) (h : planCheck bs ≡ Passed) where
   valid =
       record {
         prime = prime-sound (pAt bs) (subst T (sym (modulus-prime (nAt bs) (pAt bs) (checks .modulus))) tt);
-        threshold = rw (length-tab suc (nAt bs)) (omega (arith, two));
-        majority = λ g l m. rw (length-tab suc (nAt bs)) (omega (arith, two));
+        threshold = rw (length-tab suc (nAt bs)) below-n;
+        majority =
+            λ g l m.
+            let k : g < gateCountAt bs = rw (← length-tab (gateAt bs) (gateCountAt bs)) l in
+            let is : multiplying (gateAt bs g) ≡ true = rw (getD-tab (gateAt bs) (gateCountAt bs) g (Input 0) k) at m in
+            rw (length-tab suc (nAt bs)) (omega (arith, passing-majority bs checks g k is));
         distinct = points-distinct (pAt bs) (nAt bs) above;
         nonzero =
             all-tab (λ x. x % pAt bs ≢ 0) suc (nAt bs) (λ i l e. omega (arith, mod-eq-of-lt {n = suc i} {m = pAt bs} (points-small i l)));
@@ -166,7 +170,6 @@ module _ (bs : List ℕ) (h : planCheck bs ≡ Passed) where
         rule = refl;
         kinds = λ g. kinds-read (gateAt bs) (gateCountAt bs) g (λ i. kind-read _ _ _ _);
         points = ap (tab suc) (sym (length-tab suc (nAt bs)));
-        majority = rw (length-tab suc (nAt bs)) (omega (arith, two));
       }
 
 -- ---- of kinds above 5 a plain plan has none
@@ -184,6 +187,22 @@ module _ (plan : Plan) (p : Plain plan) where
   unfolding kindCount
   plain-no-7 = none-above 7 (omega arith) (plan .gates) (p .kinds)
 
+-- ---- no gate of kind 5, or 2t < n
+none-or : (P : Type 0) (gs : List Gate) → ((g : ℕ) → g < length gs → multiplying (getD gs g (Input 0)) ≡ true → P) → (countWhere (isKind 5) gs ≡ 0) ⊎ P
+unfolding countWhere multiplying
+none-or P [] h = inl refl
+none-or P (x ∷ gs) h = pick (isKind 5 x) refl (h 0 (omega arith)) (none-or P gs (λ g l. h (suc g) (omega arith)))
+  where
+    pick :
+        (t : Bool) → isKind 5 x ≡ t → ((isKind 5 x || isKind 7 x) ≡ true → P) → (countWhere (isKind 5) gs ≡ 0) ⊎ P
+        → (cond t (suc (countWhere (isKind 5) gs)) (countWhere (isKind 5) gs) ≡ 0) ⊎ P
+    pick true e m r = inr (m (rw e))
+    pick false e m r = r
+
+pub none-or-majority : (plan : Plan) → Valid plan → (kindCount plan 5 ≡ 0) ⊎ (plan .t + plan .t < partyCount plan)
+unfolding kindCount
+none-or-majority plan valid = none-or (plan .t + plan .t < partyCount plan) (plan .gates) (valid .majority)
+
 -- ---- as the code asks it
 module _ (bs : List ℕ) (h : Header) (k : Planned bs h) where
   pub planned-ready : Ready (h .field .p)
@@ -192,6 +211,19 @@ module _ (bs : List ℕ) (h : Header) (k : Planned bs h) where
   pub gate-kept : (g : ℕ) (gate : Gate) → g < h .gates → gate ≡ gateAt bs g → gateOk (h .n) (h .field .p) g gate ≡ true
   gate-kept g gate l e =
       rw (e, ← plan-n k, ← plan-p k, ← plan-gate k g l) (valid bs (k .passes) .gates g (rw (plan-gates k) l))
+
+  pub planned-or : (kindCount (planOf bs) 5 ≡ 0) ⊎ (2 * h .t < h .n)
+  planned-or = by (none-or-majority (planOf bs) (valid bs (k .passes)))
+    where
+      by : (kindCount (planOf bs) 5 ≡ 0) ⊎ (planOf bs .t + planOf bs .t < partyCount (planOf bs)) → (kindCount (planOf bs) 5 ≡ 0) ⊎ (2 * h .t < h .n)
+      by (inl e) = inl e
+      by (inr l) = inr (omega (arith, plan-t k, plan-n k))
+
+  -- 2t < n where a gate of the plan multiplies
+  pub gate-majority : (g : ℕ) (gate : Gate) → g < h .gates → gate ≡ gateAt bs g → multiplying gate ≡ true → 2 * h .t < h .n
+  gate-majority g gate l e m =
+      let is : multiplying (getD (planOf bs .gates) g (Input 0)) ≡ true = rw (plan-gate k g l, ← e) m in
+      omega (arith, valid bs (k .passes) .majority g (rw (plan-gates k) l) is, plan-t k, plan-n k)
 
 -- a gate's constant is an element
 module _ (n p g : ℕ) (gate : Gate) (ok : gateOk n p g gate ≡ true) where

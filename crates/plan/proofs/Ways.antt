@@ -1,13 +1,13 @@
 -- What each way through the reader says of its definition.
---     rules, seeking, beginning, laying, contents, body, reads     what closes the needs of the functions that read a plan
+--     rules, seeking, majorities, beginning, laying, contents, body, reads     what closes the needs of the functions that read a plan
 -- Assumes nothing.
 use mathlib.Core.Path.{_≡_, refl, sym, ap, _∙_}
 use mathlib.Core.Bool.{Bool, true, false, cond, _&&_}
 use mathlib.Core.List.{List, [], _∷_}
-use Prim.Native.Nat.{ℕ, _+_, _-_, _*_, _<_, _≤_}
+use Prim.Native.Nat.{ℕ, _+_, _*_, _<_, _≤_}
 use native.Mathlib.Omega.{arith}
 use borrow.Author.Needs.{needs}
-use borrow.Author.Tests.{not-true, not-false, lt-ltb, le-ltb, ltb-true, ltb-false, le-leb, lt-leb, eq-eqb, ne-eqb}
+use borrow.Author.Tests.{not-true, not-false, lt-ltb, le-ltb, le-leb, lt-leb, eq-eqb, ne-eqb}
 use mir.Syntax.{w8}
 use mir.Val.{Fits}
 use lib.Dec.{eqb, leb, ltb}
@@ -16,7 +16,7 @@ use Rattle.numbers.specs.Tables.{firstFailing}
 use Rattle.numbers.specs.Bytes.{wordAt}
 use Rattle.numbers.specs.declared.Found.{Found}
 use Rattle.numbers.specs.declared.Found.the-variants.{At, Nothing}
-use Rattle.numbers.proofs.Searches.{Seeking, begin, found, passed, nothing}
+use Rattle.numbers.proofs.Searches.{Seeking, begin, found, passed, nothing, passes-nothing}
 use Rattle.field.specs.declared.Field.{Field}
 use Rattle.field.specs.declared.Made.{Made}
 use Rattle.field.specs.declared.Made.the-variants as made
@@ -33,8 +33,9 @@ use Rattle.plan.specs.declared.Checked.the-variants.{Passed, Refused}
 use Rattle.plan.specs.declared.Refusal.{Refusal}
 use Rattle.plan.specs.declared.Refusal.the-variants as refusal
 use Rattle.plan.specs.Refusals.{firstOf, andThen, need, unlessFound}
-use Rattle.plan.proofs.Refusals.{andThen-passed, andThen-refused, firstOf-append}
-use Rattle.plan.specs.File.{magic, sameBytes, between, partiesOk, thresholdOk, modulusOk, fieldAbove, gateAt, outAt, gateOk, outOk, gateKept, outKept, layoutOk, planChecks, planCheck, headerOf, readingOf, outcomeOf, readPlan}
+use Rattle.plan.specs.Plans.{multiplying}
+use Rattle.plan.proofs.Refusals.{andThen-passed, andThen-refused, andThen-end, firstOf-append}
+use Rattle.plan.specs.File.{magic, sameBytes, between, partiesOk, thresholdOk, modulusOk, fieldAbove, gateAt, outAt, gateOk, outOk, majorityOk, gateKept, outKept, majorityKept, layoutOk, majorityCheck, planChecks, planCheck, headerOf, readingOf, outcomeOf, readPlan}
 use Rattle.plan.specs.Planned.{ReadAs}
 
 -- ---- small tests
@@ -134,6 +135,51 @@ module _ (bs : List ℕ) (outs : ℕ) where
 
 pub ruleset seeking = (needs, not-true, not-false, gates-begin, gates-end, gates-found, gates-passed, outs-begin, outs-end, outs-found, outs-passed)
 
+-- ---- the gate that lacks its majority
+pub multiplies-as : (g q : Gate) (m : Bool) → g ≡ q → m ≡ multiplying q → m ≡ multiplying g
+multiplies-as g q m e f = f ∙ sym (ap multiplying e)
+
+module _ (bs : List ℕ) (n t : ℕ) (en : n ≡ getD bs 5 0) (et : t ≡ getD bs 6 0) where
+  kept-by : (g : ℕ) (m : Bool) → m ≡ multiplying (gateAt bs g) → cond m (ltb (2 * t) n) true ≡ majorityKept bs g
+  unfolding majorityKept majorityOk
+  kept-by g m e = rw (← en, ← et, ← e)
+
+  pub majority-all : 2 * t < n → Nothing ≡ firstFailing (majorityKept bs) (wordAt bs 12)
+  majority-all l = sym (passes-nothing (majorityKept bs) (wordAt bs 12) (λ g k. sym (kept-by g (multiplying (gateAt bs g)) refl) ∙ rw (lt-ltb (2 * t) n l) (both (multiplying (gateAt bs g)))))
+    where
+      both : (m : Bool) → cond m true true ≡ true
+      both true = refl
+      both false = refl
+
+  module _ (gates : ℕ) where
+    pub majority-begin : Seeking (majorityKept bs) gates 0
+    majority-begin = begin (majorityKept bs) gates
+
+    module _ (g : ℕ) (h : Seeking (majorityKept bs) gates g) (s : gates ≡ wordAt bs 12) where
+      pub majority-end : gates ≤ g → Nothing ≡ firstFailing (majorityKept bs) (wordAt bs 12)
+      majority-end l = rw (← s) (nothing (majorityKept bs) gates g h l)
+
+      module _ (far : n ≤ 2 * t) (gate : Gate) (m : Bool) (l : g < gates) (e : gate ≡ gateAt bs g) (k : m ≡ multiplying gate) where
+        lacks : cond m false true ≡ majorityKept bs g
+        lacks = rw (le-ltb (2 * t) n far) at (kept-by g m (k ∙ ap multiplying e))
+
+        pub majority-found : m ≡ true → At g ≡ firstFailing (majorityKept bs) (wordAt bs 12)
+        majority-found f = rw (← s) (found (majorityKept bs) gates g h l (sym (rw f at lacks)))
+
+        pub majority-passed : m ≡ false → Seeking (majorityKept bs) gates (g + 1)
+        majority-passed f = passed (majorityKept bs) gates g h l (sym (rw f at lacks))
+
+module _ (bs : List ℕ) (f : Found) (e : f ≡ firstFailing (majorityKept bs) (wordAt bs 12)) where
+  pub majority-lacking : (g : ℕ) → f ≡ At g → Refused refusal.Majority ≡ majorityCheck bs
+  unfolding majorityCheck unlessFound
+  majority-lacking g h = rw (← e, h)
+
+  pub majority-there : f ≡ Nothing → Passed ≡ majorityCheck bs
+  unfolding majorityCheck unlessFound
+  majority-there h = rw (← e, h)
+
+pub ruleset majorities = (needs, multiplies-as, majority-all, majority-begin, majority-end, majority-found, majority-passed, majority-lacking, majority-there)
+
 -- ---- the letters POOL
 same-four : (s : List ℕ) → 4 ≤ length s → sameBytes (take 4 s) magic ≡ (eqb (getD s 0 0) 80 && (eqb (getD s 1 0) 79 && (eqb (getD s 2 0) 79 && eqb (getD s 3 0) 76)))
 unfolding sameBytes magic
@@ -232,7 +278,7 @@ module _ (s : List ℕ) (t : Bool) (et : t ≡ (leb 18 (length s) && sameBytes (
 
 pub ruleset contents = (needs, not-true, not-false, contents-magic, contents-version, contents-parties, contents-threshold, contents-passed)
 
--- ---- refusals 6 to 8
+-- ---- refusals 6 to 8 and 25
 module _ (s : List ℕ) (t : Bool) (et : t ≡ layoutOk s) where
   pub body-layout : t ≡ false → Refused refusal.Layout ≡ firstOf (drop 5 (planChecks s))
   unfolding planChecks firstOf andThen need
@@ -248,11 +294,11 @@ module _ (s : List ℕ) (t : Bool) (et : t ≡ layoutOk s) where
       unfolding planChecks firstOf andThen need unlessFound
       body-out k h = rw (← et, ht, ← ef, hf, ← eo, h)
 
-      pub body-passed : o ≡ Nothing → Passed ≡ firstOf (drop 5 (planChecks s))
+      pub body-majority : o ≡ Nothing → (c : Checked) → c ≡ majorityCheck s → c ≡ firstOf (drop 5 (planChecks s))
       unfolding planChecks firstOf andThen need unlessFound
-      body-passed h = rw (← et, ht, ← ef, hf, ← eo, h)
+      body-majority h c ec = rw (← et, ht, ← ef, hf, ← eo, h, ← ec) (sym (andThen-end c))
 
-pub ruleset body = (needs, not-true, not-false, body-layout, body-gate, body-out, body-passed)
+pub ruleset body = (needs, not-true, not-false, body-layout, body-gate, body-out, body-majority)
 
 -- ---- the whole reading
 -- bytes make a two-byte number
@@ -269,16 +315,6 @@ unfolding readingOf
 reading-refused c h r e = rw e
 
 -- the field of a prime above n
-pub threshold-far : (n t : ℕ) → n ≤ t → false ≡ thresholdOk n t
-threshold-far n t l = let m : n ≤ 2 * t = omega arith in rw (le-ltb (2 * t) n m)
-
-pub threshold-near : (n t : ℕ) → t < n → ltb t (n - t) ≡ thresholdOk n t
-threshold-near n t l = pick (ltb t (n - t)) refl
-  where
-    pick : (b : Bool) → ltb t (n - t) ≡ b → b ≡ thresholdOk n t
-    pick true e = let m : 2 * t < n = omega (arith, ltb-true t (n - t) e) in rw (lt-ltb (2 * t) n m)
-    pick false e = let m : n ≤ 2 * t = omega (arith, ltb-false t (n - t) e) in rw (le-ltb (2 * t) n m)
-
 pub above-low : (n p : ℕ) → p ≤ n → made.Refused ≡ fieldAbove n p
 unfolding fieldAbove
 above-low n p l = rw (le-ltb n p l) (pick (ltb p fieldLimit && isPrime p))
@@ -386,4 +422,4 @@ pub header-of-passed : (s : List ℕ) (h : Header) → readPlan s ≡ reading.Pa
 unfolding readPlan
 header-of-passed s h e = of-passed (planCheck s) (headerOf s) h e .1
 
-pub ruleset reads = (needs, reading-passed, reading-refused, threshold-far, threshold-near, above-low, above-made, reading-no-field, reading-on, read-contents, read-further, outcome-passed, outcome-refused, read-outcome)
+pub ruleset reads = (needs, reading-passed, reading-refused, above-low, above-made, reading-no-field, reading-on, read-contents, read-further, outcome-passed, outcome-refused, read-outcome)

@@ -12,8 +12,8 @@ use Rattle.plan.specs.declared.Checked.the-variants.{Passed, Refused}
 use Rattle.plan.specs.declared.Refusal.the-variants as refusal
 use Rattle.plan.specs.Refusals.{firstOf, andThen, need, unlessFound}
 use Rattle.plan.specs.declared.Step.the-variants.{DealInputs, DealProduct, SendOuts}
-use Rattle.plan.specs.Plans.{partyCount, parties, dealerCount, kindOf, isKind, kindCount, operandsOf, isInputOf, wiresFrom, inputWires, outWiresOf, outWires, inputOwnersAt, inputOwners, firstDealings, multiplyDealings, dealingsAt, coinOwnersAt, coinOwners, multiplySteps, stepsAt, stepsFrom, steps, stepAt, lastCall, inputCount, coinCount, ownOutCount, received, sentBy, mailCount, writtenCount, perMultiply, sentCount}
-use Rattle.plan.specs.File.{magic, sameBytes, between, gateOf, gateAt, outAt, gateOk, outOk, gateKept, outKept, layoutOk, planChecks, planCheck, planOf}
+use Rattle.plan.specs.Plans.{partyCount, parties, dealerCount, kindOf, isKind, kindCount, multiplying, operandsOf, isInputOf, wiresFrom, inputWires, outWiresOf, outWires, inputOwnersAt, inputOwners, firstDealings, multiplyDealings, dealingsAt, coinOwnersAt, coinOwners, multiplySteps, stepsAt, stepsFrom, steps, stepAt, lastCall, inputCount, coinCount, ownOutCount, received, sentBy, mailCount, writtenCount, perMultiply, sentCount}
+use Rattle.plan.specs.File.{magic, sameBytes, between, gateOf, gateAt, outAt, gateOk, outOk, majorityOk, gateKept, outKept, majorityKept, layoutOk, majorityCheck, planChecks, planCheck, planOf}
 
 -- the contents of a plan of four gates and one out, with its version, n, t, byte 7 and p
 contents : ℕ → ℕ → ℕ → ℕ → ℕ → List ℕ
@@ -62,8 +62,11 @@ pub worked : List Row
 worked =
     row k Passed
     ∷ row single Passed
-    ∷ row (plan 1 2 1 0 11) (Refused refusal.Threshold)
+    ∷ row (plan 1 2 1 0 11) (Refused (refusal.OutputRule 0))
     ∷ row (plan 1 15 7 0 17) Passed
+    ∷ row (plan 1 3 3 0 11) (Refused refusal.Threshold)
+    ∷ row (contents 1 2 1 0 11 ++ (input1 ++ (input2 ++ (multiply ++ (add ++ (2 ∷ 3 ∷ 0 ∷ [])))))) (Refused refusal.Majority)
+    ∷ row (plan 1 4 2 0 11) (Refused refusal.Majority)
     ∷ row (plan 1 3 1 0 3) (Refused refusal.Modulus)
     ∷ row (plan 1 3 1 0 9) (Refused refusal.Modulus)
     ∷ row (plan 1 3 1 0 65521) Passed
@@ -77,16 +80,18 @@ faults =
     ∷ row (80 ∷ plan 2 3 1 0 11) (Refused refusal.Magic)
     ∷ row (plan 2 16 1 0 11) (Refused refusal.Version)
     ∷ row (plan 1 0 1 0 11) (Refused refusal.Parties)
-    ∷ row (plan 1 2 1 0 9) (Refused refusal.Threshold)
+    ∷ row (plan 1 2 2 0 9) (Refused refusal.Threshold)
     ∷ row (plan 1 3 1 1 9) (Refused refusal.Modulus)
     ∷ row (contents 1 3 1 1 11 ++ (add ++ (input2 ++ (multiply ++ (add ++ out))))) (Refused refusal.Layout)
     ∷ row (contents 1 3 1 0 11 ++ (add ++ (add ++ (multiply ++ (add ++ out))))) (Refused (refusal.GateRule 0))
     ∷ row (contents 1 3 1 0 11 ++ (input1 ++ (multiply ++ (multiply ++ (add ++ (0 ∷ 3 ∷ 0 ∷ [])))))) (Refused (refusal.GateRule 1))
+    ∷ row (contents 1 3 2 0 11 ++ (input1 ++ (input2 ++ (multiply ++ (add ++ (4 ∷ 4 ∷ 0 ∷ [])))))) (Refused (refusal.OutputRule 0))
+    ∷ row (contents 1 3 2 0 11 ++ (input1 ++ (input2 ++ (input1 ++ (add ++ out))))) Passed
     ∷ row (contents 1 3 1 0 11 ++ (input1 ++ (input2 ++ (multiply ++ (add ++ (4 ∷ 4 ∷ 0 ∷ [])))))) (Refused (refusal.OutputRule 0))
     ∷ []
 
 pub plans-worked : map (λ r. planCheck (r .bytes)) (worked ++ faults) ≡ map (λ r. r .answer) (worked ++ faults)
-unfolding contents input1 input2 multiply add out body plan k single row worked faults planCheck firstOf andThen planChecks need unlessFound firstFailing firstFrom magic sameBytes between gateOf gateAt outAt gateOk outOk gateKept outKept layoutOk wordAt isPrime divisorOf divisorFrom
+unfolding contents input1 input2 multiply add out body plan k single row worked faults planCheck firstOf andThen planChecks need unlessFound firstFailing firstFrom magic sameBytes between gateOf gateAt outAt gateOk outOk isKind kindOf multiplying majorityOk gateKept outKept majorityKept layoutOk majorityCheck wordAt isPrime divisorOf divisorFrom
 plans-worked = refl
 
 -- K's steps

@@ -1,4 +1,4 @@
--- The plan file (document 01): its checks, 1 to 8, and the plan that it stands for.
+-- The plan file (document 01): its checks, 1 to 8 and 25, and the plan that it stands for.
 use Prim.Native.Nat.{ℕ, suc, _+_, _*_}
 use mathlib.Core.Bool.{Bool, true, false, cond, _&&_}
 use mathlib.Core.List.{List, [], _∷_}
@@ -21,7 +21,7 @@ use Rattle.plan.specs.declared.Checked.{Checked}
 use Rattle.plan.specs.declared.Checked.the-variants.{Passed, Refused}
 use Rattle.plan.specs.declared.Refusal.the-variants as refusal
 use Rattle.plan.specs.Refusals.{firstOf, need, unlessFound}
-use Rattle.plan.specs.Plans.{Plan}
+use Rattle.plan.specs.Plans.{Plan, multiplying}
 
 -- the ASCII letters POOL
 unfoldable pub magic : List ℕ
@@ -90,12 +90,19 @@ gateOk n p g (Spend a b) = ltb a g && ltb b g
 unfoldable pub outOk : ℕ → ℕ → Output → Bool
 outOk n gates o = between 1 n (o .party) && ltb (o .wire) gates
 
--- gate g of a plan keeps its rule, and out o its own
+-- a gate that multiplies takes 2t below n
+unfoldable pub majorityOk : ℕ → ℕ → Gate → Bool
+majorityOk n t g = cond (multiplying g) (ltb (2 * t) n) true
+
+-- gate g of a plan keeps its rule, and out o its own; gate g has its majority
 unfoldable pub gateKept : List ℕ → ℕ → Bool
 gateKept bs g = gateOk (nAt bs) (pAt bs) g (gateAt bs g)
 
 unfoldable pub outKept : List ℕ → ℕ → Bool
 outKept bs o = outOk (nAt bs) (gateCountAt bs) (outAt bs o)
+
+unfoldable pub majorityKept : List ℕ → ℕ → Bool
+majorityKept bs g = majorityOk (nAt bs) (tAt bs) (gateAt bs g)
 
 unfoldable pub layoutOk : List ℕ → Bool
 layoutOk bs =
@@ -111,13 +118,17 @@ abbrev pub partiesOk : ℕ → Bool
 partiesOk n = between 1 15 n
 
 abbrev pub thresholdOk : ℕ → ℕ → Bool
-thresholdOk n t = ltb (2 * t) n
+thresholdOk n t = ltb t n
 
 -- a prime above n; on bytes p is below the limit
 abbrev pub modulusOk : ℕ → ℕ → Bool
 modulusOk n p = (ltb p fieldLimit && isPrime p) && ltb n p
 
--- refusals 1 to 8
+-- refusal 25: a gate multiplies, and 2t is not below n
+unfoldable pub majorityCheck : List ℕ → Checked
+majorityCheck bs = unlessFound (λ g. refusal.Majority) (firstFailing (majorityKept bs) (gateCountAt bs))
+
+-- refusals 1 to 8 and 25
 unfoldable pub planChecks : List ℕ → List Checked
 planChecks bs =
     need refusal.Magic (leb 18 (length bs) && sameBytes (take 4 bs) magic)
@@ -128,6 +139,7 @@ planChecks bs =
     ∷ need refusal.Layout (layoutOk bs)
     ∷ unlessFound refusal.GateRule (firstFailing (gateKept bs) (gateCountAt bs))
     ∷ unlessFound refusal.OutputRule (firstFailing (outKept bs) (outCountAt bs))
+    ∷ majorityCheck bs
     ∷ []
 
 unfoldable pub planCheck : List ℕ → Checked

@@ -14,7 +14,7 @@ pub record Planned (bs : List ℕ) (h : Header) : Type 0 where
   pub is : h ≡ headerOf bs
   pub n-low : 1 ≤ h .n
   pub n-high : h .n ≤ 15
-  pub majority : 2 * h .t < h .n
+  pub threshold : h .t < h .n
   pub p-low : h .n < h .field .p
   pub p-high : h .field .p < 65536
   pub gates-low : 1 ≤ h .gates

@@ -147,7 +147,7 @@ module _ (f : Gate → Bool) (bs : List ℕ) (h : Header) (k g : ℕ) (p : Plann
 -- a loop over the gates below `top` that adds up party i's coins: k at the first g
 pub record Coining (bs : List ℕ) (i top k g : ℕ) : Type 0 where
   pub within : g ≤ top
-  pub few : k ≤ 7 * g
+  pub few : k ≤ 14 * g
   pub is : k ≡ countWhere (eqb i) (flatMap (coinOwnersAt (planOf bs)) (take g (planOf bs .gates)))
 
 module _ (bs : List ℕ) (i top : ℕ) where
@@ -156,7 +156,7 @@ module _ (bs : List ℕ) (i top : ℕ) where
   coin-none = record { within = omega arith; few = omega arith; is = refl }
 
   module _ (h : Header) (k g : ℕ) (p : Planned bs h) (m : top ≤ h .gates) (c : Coining bs i top k g) where
-    pub coin-next : g < top → (gate : Gate) (o : ℕ) → gate ≡ gateAt bs g → o ≡ countWhere (eqb i) (coinOwnersAt (planOf bs) gate) → o ≤ 7 → Coining bs i top (k + o) (g + 1)
+    pub coin-next : g < top → (gate : Gate) (o : ℕ) → gate ≡ gateAt bs g → o ≡ countWhere (eqb i) (coinOwnersAt (planOf bs) gate) → o ≤ 14 → Coining bs i top (k + o) (g + 1)
     coin-next l gate o eg eo few = record {
       within = omega arith;
       few = omega (arith, c .few);
@@ -169,7 +169,7 @@ module _ (bs : List ℕ) (i top : ℕ) where
             rw (add-one, take-suc (planOf bs .gates) g (Input 0) (rw (plan-gates p) l), plan-gate p g l, ← eg, flat-snoc)
             (countWhere-append (eqb i) (flatMap (coinOwnersAt (planOf bs)) (take g (planOf bs .gates))) (coinOwnersAt (planOf bs) gate))
 
-    pub coin-few : k ≤ 7168
+    pub coin-few : k ≤ 14336
     coin-few = omega (arith, c .few, c .within, p .gates-high)
 
     pub coin-done : top ≤ g → k ≡ countWhere (eqb i) (flatMap (coinOwnersAt (planOf bs)) (take top (planOf bs .gates)))
@@ -208,7 +208,7 @@ module _ (bs : List ℕ) (i : ℕ) where
   module _ (h : Header) (a b m d g : ℕ) (p : Planned bs h) (c : Tallying bs (h .gates) i a b m d g) where
     pub tally-next : g < h .gates → (gate : Gate) → gate ≡ gateAt bs g → (k : ℕ) → k ≡ kindOf gate → (tb : Bool) (oa ob om od : ℕ)
         → oa ≡ cond (eqb k 1) 1 0 → tb ≡ isInputOf i gate → ob ≡ cond tb 1 0 → om ≡ cond (eqb k 5) 1 0
-        → od ≡ countWhere (eqb i) (coinOwnersAt (planOf bs) gate) → od ≤ 7
+        → od ≡ countWhere (eqb i) (coinOwnersAt (planOf bs) gate) → od ≤ 14
         → Tallying bs (h .gates) i (a + oa) (b + ob) (m + om) (d + od) (g + 1)
     unfolding isKind
     tally-next l gate e k ek tb oa ob om od ea et eb em ed few = record {
@@ -219,7 +219,7 @@ module _ (bs : List ℕ) (i : ℕ) where
       coins = coin-next bs i (h .gates) h d g p (omega arith) (c .coins) l gate od e ed few;
     }
 
-    pub tally-fits : d ≤ 7168
+    pub tally-fits : d ≤ 14336
     tally-fits = coin-few bs i (h .gates) h d g p (omega arith) (c .coins)
 
     pub tallied : h .gates ≤ g → Tallied (planOf bs) i (record { inputs = a; own = b; multiplies = m; coins = d })

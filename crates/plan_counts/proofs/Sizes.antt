@@ -2,6 +2,7 @@
 --     sizing, bringing, sending, mailing, totalling     what closes the needs of the functions that give them
 -- Assumes nothing.
 use mathlib.Core.Path.{_≡_, refl, sym, ap, _∙_}
+use mathlib.Core.Logic.{⊎-elim}
 use mathlib.Core.Bool.{cond}
 use mathlib.Core.List.{List}
 use Prim.Native.Nat.{ℕ, zero, suc, _+_, _-_, _*_, _<_, _≤_}
@@ -21,27 +22,39 @@ use Rattle.plan.specs.Plans.{Plan, isInputOf, kindCount, ownOutCount, lastCall,
 use Rattle.plan.specs.File.{planOf}
 use Rattle.plan.specs.Planned.{Planned}
 use Rattle.plan.proofs.Planned.{plan-n, plan-dealers, plan-outs}
-use Rattle.plan.proofs.Valid.{plain}
+use Rattle.plan.proofs.Valid.{plain, planned-or}
 use Rattle.plan.proofs.Counts.{plain-sent}
 use Rattle.plan.proofs.Wires.{length-inputWires}
 use Rattle.plan_counts.proofs.Counts.{last-is, own-is, inputs-are, coins-are}
 
 -- ---- products that fit, by the bounds of the contents
 module _ (bs : List ℕ) (h : Header) (p : Planned bs h) where
-  pub by-dealers-le : (a m : ℕ) → a + m ≤ 1024 → a + m * (h .t + h .t + 1) ≤ 15360
-  by-dealers-le a m l = omega (arith, mul-le-mul {n₁ = m} {m₁ = h .t + h .t + 1} {n₂ = m} {m₂ = 15} (omega arith) (omega (arith, p .majority, p .n-high)))
+  -- with a multiply gate there are at most n dealers
+  module _ (a m : ℕ) (is : m ≡ kindCount (planOf bs) 5) (l : a + m ≤ 1024) where
+    dealt-all : 2 * h .t < h .n → a + m * (h .t + h .t + 1) ≤ 15360
+    dealt-all two = omega (arith, mul-le-mul {n₁ = m} {m₁ = h .t + h .t + 1} {n₂ = m} {m₂ = 15} (omega arith) (omega (arith, p .n-high)))
 
-  pub by-dealers-fits : (a m : ℕ) → a + m ≤ 1024 → Fits w64 (m * (h .t + h .t + 1))
-  by-dealers-fits a m l = record { fits = omega (arith, by-dealers-le a m l) }
+    none-dealt : kindCount (planOf bs) 5 ≡ 0 → a + m * (h .t + h .t + 1) ≤ 1024
+    none-dealt e = let z : m ≡ 0 = is ∙ e in rw z (omega arith)
 
-  pub dealt-fits : (a m : ℕ) → a + m ≤ 1024 → Fits w64 (a + m * (h .t + h .t + 1))
-  dealt-fits a m l = record { fits = omega (arith, by-dealers-le a m l) }
+    pub by-dealers-le : a + m * (h .t + h .t + 1) ≤ 15360
+    by-dealers-le = ⊎-elim (λ e. omega (arith, none-dealt e)) dealt-all (planned-or bs h p)
 
-  pub coins-le : (a m : ℕ) → a + m ≤ 1024 → h .t * (a + m * (h .t + h .t + 1)) ≤ 107520
-  coins-le a m l = omega (arith, mul-le-mul {n₁ = h .t} {m₁ = a + m * (h .t + h .t + 1)} {n₂ = 7} {m₂ = 15360} (omega (arith, p .majority, p .n-high)) (by-dealers-le a m l))
+    pub by-dealers-fits : Fits w64 (m * (h .t + h .t + 1))
+    by-dealers-fits = record { fits = omega (arith, by-dealers-le) }
 
-  pub coins-fit : (a m : ℕ) → a + m ≤ 1024 → Fits w64 (h .t * (a + m * (h .t + h .t + 1)))
-  coins-fit a m l = record { fits = omega (arith, coins-le a m l) }
+    pub dealt-fits : Fits w64 (a + m * (h .t + h .t + 1))
+    dealt-fits = record { fits = omega (arith, by-dealers-le) }
+
+    pub coins-le : h .t * (a + m * (h .t + h .t + 1)) ≤ 107520
+    coins-le =
+        ⊎-elim
+        (λ e. omega (arith, mul-le-mul {n₁ = h .t} {m₁ = a + m * (h .t + h .t + 1)} {n₂ = 14} {m₂ = 1024} (omega (arith, p .threshold, p .n-high)) (none-dealt e)))
+        (λ (two : 2 * h .t < h .n). mul-le-mul {n₁ = h .t} {m₁ = a + m * (h .t + h .t + 1)} {n₂ = 7} {m₂ = 15360} (omega (arith, p .n-high)) (dealt-all two))
+        (planned-or bs h p)
+
+    pub coins-fit : Fits w64 (h .t * (a + m * (h .t + h .t + 1)))
+    coins-fit = record { fits = omega (arith, coins-le) }
 
   by-n : (x b : ℕ) → x ≤ b → h .n * x ≤ 15 * b
   by-n x b l = mul-le-mul (p .n-high) l
@@ -58,12 +71,12 @@ module _ (bs : List ℕ) (h : Header) (p : Planned bs h) where
   pub by-n-1024-fits : (x : ℕ) → x ≤ 1024 → Fits w64 (h .n * x)
   by-n-1024-fits x l = record { fits = omega (arith, by-n-1024 x l) }
 
-  module _ (a m : ℕ) (l : a + m ≤ 1024) where
+  module _ (a m : ℕ) (is : m ≡ kindCount (planOf bs) 5) (l : a + m ≤ 1024) where
     pub sum-fits : Fits w64 (a + m * (h .t + h .t + 1) + h .outs)
-    sum-fits = record { fits = omega (arith, by-dealers-le a m l, p .outs-high) }
+    sum-fits = record { fits = omega (arith, by-dealers-le a m is l, p .outs-high) }
 
     pub by-n-sent : h .n * (a + m * (h .t + h .t + 1) + h .outs) ≤ 231360
-    by-n-sent = omega (arith, by-n (a + m * (h .t + h .t + 1) + h .outs) 15424 (omega (arith, by-dealers-le a m l, p .outs-high)))
+    by-n-sent = omega (arith, by-n (a + m * (h .t + h .t + 1) + h .outs) 15424 (omega (arith, by-dealers-le a m is l, p .outs-high)))
 
     pub by-n-sent-fits : Fits w64 (h .n * (a + m * (h .t + h .t + 1) + h .outs))
     by-n-sent-fits = record { fits = omega (arith, by-n-sent) }

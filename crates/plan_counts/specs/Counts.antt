@@ -21,7 +21,7 @@ pub record Tallied (plan : Plan) (i : ℕ) (c : Tally) : Type 0 where
   pub coins : c .coins ≡ ownCoinCount plan i
   pub few : c .inputs + c .multiplies ≤ 1024
   pub own-few : c .own ≤ 1024
-  pub coins-few : c .coins ≤ 7168
+  pub coins-few : c .coins ≤ 14336
 
 -- whether an out is party i's
 unfoldable pub isOutOf : ℕ → Output → Bool

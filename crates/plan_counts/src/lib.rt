@@ -85,7 +85,7 @@ fn coins_if(t: usize, b: bool) -> usize
 // Party i's coins at a gate: t at its own inputs, t at each multiply gate if it is one of the 2t + 1 dealers.
 pub fn own_coins_at(plan: &[u8], h: Header, i: usize, gate: Gate) -> usize
     requires { ⌜ Planned (now plan) h ⌝ }
-    ensures { λ r. ⌜ record { eq : r ≡ countWhere (eqb i) (coinOwnersAt (planOf (now (plan .entry))) gate); le : r ≤ 7 } ⌝ }
+    ensures { λ r. ⌜ record { eq : r ≡ countWhere (eqb i) (coinOwnersAt (planOf (now (plan .entry))) gate); le : r ≤ 14 } ⌝ }
 {
     match gate {
         Gate::Input(dealer) => coins_if(h.t, i == dealer),
@@ -163,7 +163,7 @@ pub fn own_input_count(plan: &[u8], h: Header, i: usize) -> usize
 
 pub fn own_coin_count(plan: &[u8], h: Header, i: usize) -> usize
     requires { ⌜ Planned (now plan) h ⌝ }
-    ensures { λ r. ⌜ record { eq : r ≡ ownCoinCount (planOf (now (plan .entry))) i; le : r ≤ 7168 } ⌝ }
+    ensures { λ r. ⌜ record { eq : r ≡ ownCoinCount (planOf (now (plan .entry))) i; le : r ≤ 14336 } ⌝ }
 {
     tally_of(plan, h, i).coins
 }
@@ -190,7 +190,7 @@ pub fn coins_below(plan: &[u8], h: Header, i: usize, g: usize) -> usize
     requires { ⌜ g ≤ h .gates ⌝ }
     ensures { λ r. ⌜ record {
       eq : r ≡ countWhere (eqb i) (flatMap (coinOwnersAt (planOf (now (plan .entry)))) (take g (planOf (now (plan .entry)) .gates)));
-      le : r ≤ 7168;
+      le : r ≤ 14336;
     } ⌝ }
 {
     let mut k: usize = 0;

@@ -1,6 +1,7 @@
 -- A file that is written reads back as what was made, and is refused for its contents alone.
 --     gate-back, out-back, plan-back      reading back
 --     file-check-outs, file-check         the checks of a plan, on a file whose gates keep their rules; and its outs too
+--     file-majority                       25 does not fall on it where 2t < n
 --     file-bytes                          a file that passes is a list of bytes
 -- Assumes nothing.
 use Prim.Native.Nat.{ℕ, zero, suc, _+_, _*_, _/_, _%_, _<_, _≤_}
@@ -28,8 +29,9 @@ use Rattle.plan.specs.declared.Checked.the-variants.{Passed, Refused}
 use Rattle.plan.specs.declared.Refusal.the-variants as refusal
 use Rattle.plan.specs.Refusals.{andThen, firstOf, need, unlessFound}
 use Rattle.plan.specs.Plans.{kindOf, operandsOf}
-use Rattle.plan.specs.File.{magic, sameBytes, between, gateOf, gateAt, outAt, gateOk, outOk, gateKept, outKept, gateCountAt, outCountAt, nAt, tAt, pAt, partiesOk, thresholdOk, modulusOk, layoutOk, planChecks, planCheck, planOf}
+use Rattle.plan.specs.File.{magic, sameBytes, between, gateOf, gateAt, outAt, gateOk, outOk, gateKept, outKept, gateCountAt, outCountAt, nAt, tAt, pAt, partiesOk, thresholdOk, modulusOk, layoutOk, majorityCheck, planChecks, planCheck, planOf}
 use Rattle.plan.proofs.Planned.{between-true, modulus-small}
+use Rattle.plan.proofs.Ways.{majority-all, majority-there}
 use Rattle.plan_file.specs.Bodies.{Bodies, planWith, words, gateBytes, outBytes, started, counted, contents, fileSize, planFile, contentChecks, outMade}
 
 -- ---- rows of k bytes within the file
@@ -293,9 +295,10 @@ module _ (n t p : ℕ) (b : Bodies) (few-gates : length (b .gates) ≤ 1024) (fe
   unfolding planFile contents started magic
   first-version = refl
 
-  -- a file that was made is refused for its contents and for the parties of its outs alone
+  -- a file that was made is refused for its contents, for the parties of its outs and for want of a majority alone
   pub file-check-outs : (partiesOk n ≡ true → modulusOk n p ≡ true → Wired n p b)
-      → planCheck (planFile n t p b) ≡ andThen (firstOf (contentChecks n t p (length (b .gates)) (length (b .outs)))) (unlessFound refusal.OutputRule (firstFailing (outMade n b) (length (b .outs))))
+      → planCheck (planFile n t p b) ≡ andThen (firstOf (contentChecks n t p (length (b .gates)) (length (b .outs))))
+      (andThen (unlessFound refusal.OutputRule (firstFailing (outMade n b) (length (b .outs)))) (majorityCheck (planFile n t p b)))
   unfolding planCheck planChecks firstOf andThen need contentChecks
   file-check-outs wired =
       rw (begun, first-version, n-back n t p b, t-back n t p b, p-back n t p b, layout-back n t p b few-gates few-outs)
@@ -304,10 +307,11 @@ module _ (n t p : ℕ) (b : Bodies) (few-gates : length (b .gates) ≤ 1024) (fe
       rest : List Checked
       rest =
           unlessFound refusal.GateRule (firstFailing (gateKept (planFile n t p b)) (gateCountAt (planFile n t p b)))
-          ∷ unlessFound refusal.OutputRule (firstFailing (outKept (planFile n t p b)) (outCountAt (planFile n t p b))) ∷ []
+          ∷ unlessFound refusal.OutputRule (firstFailing (outKept (planFile n t p b)) (outCountAt (planFile n t p b)))
+          ∷ majorityCheck (planFile n t p b) ∷ []
 
       made : Checked
-      made = unlessFound refusal.OutputRule (firstFailing (outMade n b) (length (b .outs)))
+      made = andThen (unlessFound refusal.OutputRule (firstFailing (outMade n b) (length (b .outs)))) (majorityCheck (planFile n t p b))
 
       only : (c : Checked) → andThen c Passed ≡ c
       only Passed = refl
@@ -324,10 +328,11 @@ module _ (n t p : ℕ) (b : Bodies) (few-gates : length (b .gates) ≤ 1024) (fe
           let n-small : n ≤ 15 = between-true 1 15 n e .1 in
           let p-small : p < 65536 = modulus-small n p f in
           rw (gates-pass n p b n-small (omega arith) few-gates (wired e f) t few-outs, outs-same n p b n-small (omega arith) few-gates (wired e f) t few-outs)
-          (unfold unlessFound in only made)
+          (unfold unlessFound in ap (andThen (unlessFound refusal.OutputRule (firstFailing (outMade n b) (length (b .outs))))) (only (majorityCheck (planFile n t p b))))
 
-  -- where the outs keep their rules too, for its contents alone
-  pub file-check : (partiesOk n ≡ true → modulusOk n p ≡ true → Sound n p b) → planCheck (planFile n t p b) ≡ firstOf (contentChecks n t p (length (b .gates)) (length (b .outs)))
+  -- where the outs keep their rules too, for its contents and for want of a majority alone
+  pub file-check : (partiesOk n ≡ true → modulusOk n p ≡ true → Sound n p b)
+      → planCheck (planFile n t p b) ≡ andThen (firstOf (contentChecks n t p (length (b .gates)) (length (b .outs)))) (majorityCheck (planFile n t p b))
   file-check sound =
       file-check-outs (λ e f. sound-wired n p b (sound e f))
       ∙ by (partiesOk n) (modulusOk n p) refl refl
@@ -335,23 +340,27 @@ module _ (n t p : ℕ) (b : Bodies) (few-gates : length (b .gates) ≤ 1024) (fe
       rest : Checked
       rest = unlessFound refusal.OutputRule (firstFailing (outMade n b) (length (b .outs)))
 
+      major : Checked
+      major = majorityCheck (planFile n t p b)
+
       whole : List Checked
       whole = contentChecks n t p (length (b .gates)) (length (b .outs))
 
-      only : (c : Checked) → andThen c Passed ≡ c
-      only Passed = unfold andThen in refl
-      only (Refused r) = unfold andThen in refl
-
-      by : (x z : Bool) → partiesOk n ≡ x → modulusOk n p ≡ z → andThen (firstOf whole) rest ≡ firstOf whole
+      by : (x z : Bool) → partiesOk n ≡ x → modulusOk n p ≡ z → andThen (firstOf whole) (andThen rest major) ≡ andThen (firstOf whole) major
       by true true e f =
           let none : firstFailing (outMade n b) (length (b .outs)) ≡ Nothing = passes-nothing (outMade n b) (length (b .outs)) (λ o l. unfold outMade in sound e f .outs o l) in
-          rw none (unfold unlessFound in only (firstOf whole))
+          rw none (unfold unlessFound in unfold andThen in refl)
       by false z e f = unfold contentChecks in unfold firstOf in unfold need in unfold andThen in rw e
       by true false e f = unfold contentChecks in unfold firstOf in unfold need in unfold andThen in rw (e, f) (late (thresholdOk n t))
         where
-          late : (y : Bool) → andThen (andThen (need refusal.Threshold y) (Refused refusal.Modulus)) rest ≡ andThen (need refusal.Threshold y) (Refused refusal.Modulus)
+          late : (y : Bool) → andThen (andThen (need refusal.Threshold y) (Refused refusal.Modulus)) (andThen rest major) ≡ andThen (andThen (need refusal.Threshold y) (Refused refusal.Modulus)) major
           late true = unfold need in unfold andThen in refl
           late false = unfold need in unfold andThen in refl
+
+-- ---- the majority
+pub file-majority : (n t p : ℕ) (b : Bodies) → 2 * t < n → Passed ≡ majorityCheck (planFile n t p b)
+file-majority n t p b l =
+    majority-there (planFile n t p b) _ refl (sym (majority-all (planFile n t p b) n t (sym (n-back n t p b)) (sym (t-back n t p b)) l))
 
 -- ---- the bytes
 flat-below : {A : Type 0} (F : A → List ℕ) (m : ℕ) (l : List A) (d : A) → ((i : ℕ) → i < length l → allBelow m (F (getD l i d)) ≡ true) → allBelow m (flatMap F l) ≡ true

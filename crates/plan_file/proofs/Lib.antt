@@ -1,3 +1,4 @@
 pub mod Files
 pub mod Writing
 pub mod Rows
+pub mod Rooms

@@ -1,4 +1,4 @@
-// A plan file read and checked: refusals 1 to 8 of document 01.
+// A plan file read and checked: refusals 1 to 8 of document 01, and 25 of document 02.
 use field::Field;
 use field::Made;
 use numbers::Found;
@@ -17,7 +17,8 @@ ghost use lib.ListN.{length, take, drop};
 ghost use Rattle.numbers.specs.Bytes.{wordAt};
 ghost use Rattle.numbers.specs.Tables.{firstFailing};
 ghost use Rattle.plan.specs.Refusals.{firstOf};
-ghost use Rattle.plan.specs.File.{magic, sameBytes, between, partiesOk, thresholdOk, fieldAbove, gateOk, outOk, gateCountAt, outCountAt, gateKept, outKept, layoutOk, planChecks, planCheck, headerOf, readingOf, outcomeOf};
+ghost use Rattle.plan.specs.Plans.{multiplying};
+ghost use Rattle.plan.specs.File.{magic, sameBytes, between, partiesOk, thresholdOk, fieldAbove, gateOk, outOk, gateCountAt, outCountAt, gateKept, outKept, majorityKept, layoutOk, majorityCheck, planChecks, planCheck, headerOf, readingOf, outcomeOf};
 ghost use Rattle.plan.specs.Planned.{ReadAs};
 
 pub fn is_between(low: usize, high: usize, x: usize) -> bool
@@ -98,6 +99,51 @@ fn first_bad_out(plan: &[u8]) -> Found
     Found::Nothing
 }
 
+// ---- refusal 25
+
+fn multiplies(gate: Gate) -> bool
+    ensures { λ r. ⌜ r ≡ multiplying gate ⌝ }
+{
+    match gate {
+        Gate::Input(_) => false,
+        Gate::Add(_, _) => false,
+        Gate::Scale(_, _) => false,
+        Gate::Offset(_, _) => false,
+        Gate::Multiply(_, _) => true,
+        Gate::Random => false,
+        Gate::Spend(_, _) => true,
+    }
+}
+
+// The first gate that multiplies where 2t is not below n.
+fn first_lacking(plan: &[u8]) -> Found
+    ensures { λ r. ⌜ r ≡ firstFailing (majorityKept (now (plan .entry))) (gateCountAt (now (plan .entry))) ⌝ }
+{
+    let n = plan::byte(plan, 5);
+    let t = plan::byte(plan, 6);
+    if 2 * t < n {
+        return Found::Nothing;
+    }
+    let gates = plan::word(plan, 12);
+    let mut g: usize = 0;
+    while g < gates {
+        if multiplies(plan::gate_at(plan, g)) {
+            return Found::At(g);
+        }
+        g += 1;
+    }
+    Found::Nothing
+}
+
+pub fn check_majority(plan: &[u8]) -> Checked
+    ensures { λ r. ⌜ r ≡ majorityCheck (now (plan .entry)) ⌝ }
+{
+    if let Found::At(_) = first_lacking(plan) {
+        return Checked::Refused(Refusal::Majority);
+    }
+    Checked::Passed
+}
+
 // ---- refusals 3 to 5, by n, t and p
 
 pub fn parties_ok(n: usize) -> bool
@@ -109,10 +155,7 @@ pub fn parties_ok(n: usize) -> bool
 pub fn threshold_ok(n: usize, t: usize) -> bool
     ensures { λ r. ⌜ r ≡ thresholdOk n t ⌝ }
 {
-    if n <= t {
-        return false;
-    }
-    t < n - t
+    t < n
 }
 
 // The field of a prime above n.
@@ -198,7 +241,7 @@ fn check_contents(plan: &[u8]) -> Checked
     Checked::Passed
 }
 
-// Refusals 6 to 8.
+// Refusals 6 to 8 and 25.
 fn check_body(plan: &[u8]) -> Checked
     ensures { λ r. ⌜ r ≡ firstOf (drop 5 (planChecks (now (plan .entry)))) ⌝ }
 {
@@ -211,7 +254,7 @@ fn check_body(plan: &[u8]) -> Checked
     if let Found::At(o) = first_bad_out(plan) {
         return Checked::Refused(Refusal::OutputRule(o));
     }
-    Checked::Passed
+    check_majority(plan)
 }
 
 fn reading_of(c: Checked, h: Header) -> Reading
@@ -223,7 +266,7 @@ fn reading_of(c: Checked, h: Header) -> Reading
     }
 }
 
-// Refusals 5 to 8, and the contents.
+// Refusals 5 to 8 and 25, and the contents.
 fn read_on(plan: &[u8]) -> Reading
     ensures { λ r. ⌜ r ≡ readingOf (firstOf (drop 4 (planChecks (now (plan .entry))))) (headerOf (now (plan .entry))) ⌝ }
 {
@@ -242,7 +285,7 @@ fn read_on(plan: &[u8]) -> Reading
     reading_of(check_body(plan), h)
 }
 
-// Reads a plan: its contents, or the first refusal of 1 to 8 that falls on it.
+// Reads a plan: its contents, or the first refusal of 1 to 8 and 25 that falls on it.
 pub fn read(plan: &[u8]) -> Reading
     ensures { λ r. ⌜ ReadAs (now (plan .entry)) r ⌝ }
 {
@@ -262,7 +305,7 @@ pub fn outcome(r: Reading) -> Checked
     }
 }
 
-// Checks a plan: the first refusal of 1 to 8 that falls on it.
+// Checks a plan: the first refusal of 1 to 8 and 25 that falls on it.
 pub fn check(plan: &[u8]) -> Checked
     ensures { λ r. ⌜ r ≡ planCheck (now (plan .entry)) ⌝ }
 {

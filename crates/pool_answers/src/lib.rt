@@ -55,7 +55,7 @@ pub fn seat_count(plan: &[u8], h: Header, i: usize, call: usize, what: u16) -> u
 // The numbers of one of a run's lists.
 pub fn run_count(plan: &[u8], h: Header, set: u16, what: u16) -> usize
     requires { ⌜ Planned (now plan) h ⌝ }
-    ensures { λ r. ⌜ record { eq : r ≡ runCount (planOf (now (plan .entry))) set what; le : r ≤ 409600 } ⌝ }
+    ensures { λ r. ⌜ record { eq : r ≡ runCount (planOf (now (plan .entry))) set what; le : r ≤ 524288 } ⌝ }
 {
     match what {
         0 => plan_counts::input_count(plan, h),

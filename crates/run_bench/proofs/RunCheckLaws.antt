@@ -83,9 +83,9 @@ module _ (bs : List ℕ) (h : Header) (pl : Planned bs h) where
   pub outs-fits : (o : ℕ) → o ≤ 64 → Fits w64 (h .n * o)
   outs-fits o l = record { fits = omega (arith, few-outs o l) }
 
-  module _ (m o k x c i : ℕ) (lm : k + m ≤ 1024) (lo : o ≤ 64) where
+  module _ (m o k x c i : ℕ) (em : m ≡ kindCount (planOf bs) 5) (lm : k + m ≤ 1024) (lo : o ≤ 64) where
     pieces : k + m * (h .t + h .t + 1) ≤ 15360
-    pieces = by-dealers-le bs h pl k m lm
+    pieces = by-dealers-le bs h pl k m em lm
 
     pub all-mail-fits : Fits w64 (k + m * (h .t + h .t + 1) + h .n * o)
     all-mail-fits = record { fits = omega (arith, pieces, few-outs o lo) }
@@ -93,20 +93,20 @@ module _ (bs : List ℕ) (h : Header) (pl : Planned bs h) where
     pub rest-fits : Fits w64 (k + m * (h .t + h .t + 1) + h .n * o + o)
     rest-fits = record { fits = omega (arith, pieces, few-outs o lo) }
 
-    pub drawn-fits : c ≤ 7168 → Fits w64 (c + (k + m * (h .t + h .t + 1) + h .n * o + o))
+    pub drawn-fits : c ≤ 14336 → Fits w64 (c + (k + m * (h .t + h .t + 1) + h .n * o + o))
     drawn-fits lc = record { fits = omega (arith, pieces, few-outs o lo) }
 
-    pub view-fits : c ≤ 7168 → x ≤ 1024 → Fits w64 (x + (c + (k + m * (h .t + h .t + 1) + h .n * o + o)))
+    pub view-fits : c ≤ 14336 → x ≤ 1024 → Fits w64 (x + (c + (k + m * (h .t + h .t + 1) + h .n * o + o)))
     view-fits lc lx = record { fits = omega (arith, pieces, few-outs o lo) }
 
-    pub view-few : c ≤ 7168 → x ≤ 1024 → x + (c + (k + m * (h .t + h .t + 1) + h .n * o + o)) ≤ 25600
+    pub view-few : c ≤ 14336 → x ≤ 1024 → x + (c + (k + m * (h .t + h .t + 1) + h .n * o + o)) ≤ 32768
     view-few lc lx = omega (arith, pieces, few-outs o lo)
 
     pub view-is :
-        c ≡ ownCoinCount (planOf bs) i → m ≡ kindCount (planOf bs) 5 → o ≡ ownOutCount (planOf bs) i → k ≡ kindCount (planOf bs) 1 → x ≡ countWhere (isInputOf i) (planOf bs .gates)
+        c ≡ ownCoinCount (planOf bs) i → o ≡ ownOutCount (planOf bs) i → k ≡ kindCount (planOf bs) 1 → x ≡ countWhere (isInputOf i) (planOf bs .gates)
         → x + (c + (k + m * (h .t + h .t + 1) + h .n * o + o)) ≡ viewCountOf (planOf bs) i
     unfolding viewCountOf
-    view-is ec em eo ek ex =
+    view-is ec eo ek ex =
         let brought : h .n * o ≡ partyCount (planOf bs) * ownOutCount (planOf bs) i = ap₂ (λ (a b : ℕ). a * b) (sym (plan-n pl)) eo in
         let dealt : m * (h .t + h .t + 1) ≡ dealerCount (planOf bs) * kindCount (planOf bs) 5 = mul-comm m (h .t + h .t + 1) ∙ ap₂ (λ (a b : ℕ). a * b) (sym (plan-dealers pl)) em in
         omega (arith, own-is bs h pl i x ex, mail-total (planOf bs) (plain bs (pl .passes)) i)
@@ -127,7 +127,7 @@ pub ruleset sizing-one = (needs, not-true, not-false, size-not, size-member)
 pub record Sizing (plan : Plan) (set k i : ℕ) : Type 0 where
   pub low : 1 ≤ i
   pub high : i ≤ 17
-  pub few : k + 25600 ≤ 25600 * i
+  pub few : k + 32768 ≤ 32768 * i
   pub is : k + viewCount plan (membersFrom set i (17 - i)) ≡ viewCount plan (members set)
 
 pub size-none : (plan : Plan) (set : ℕ) → Sizing plan set 0 1
@@ -146,7 +146,7 @@ module _ (plan : Plan) (set k i : ℕ) (s : Sizing plan set k i) where
       let q : 17 - i ≡ suc (17 - (i + 1)) = omega arith in
       ap (membersFrom set i) q ∙ ap (λ (j : ℕ). cond (inSet set i) (i ∷ membersFrom set j (17 - (i + 1))) (membersFrom set j (17 - (i + 1)))) (sym (add-one i))
 
-  pub size-next : (d : ℕ) → i ≤ 16 → d ≡ cond (inSet set i) (viewCountOf plan i) 0 → d ≤ 25600 → Sizing plan set (k + d) (i + 1)
+  pub size-next : (d : ℕ) → i ≤ 16 → d ≡ cond (inSet set i) (viewCountOf plan i) 0 → d ≤ 32768 → Sizing plan set (k + d) (i + 1)
   size-next d l e m = record {
     low = omega arith;
     high = omega arith;
@@ -161,7 +161,7 @@ module _ (plan : Plan) (set k i : ℕ) (s : Sizing plan set k i) where
       let e : k + viewCount plan (membersFrom set i 0) ≡ viewCount plan (members set) = ap (λ (j : ℕ). k + viewCount plan (membersFrom set i j)) (sym q) ∙ s .is in
       omega (arith, e)
 
-  pub size-most : k ≤ 409600
+  pub size-most : k ≤ 524288
   size-most = omega (arith, s .few, s .high)
 
 pub ruleset sizing-all = (needs, size-none, size-next, size-done, size-most)

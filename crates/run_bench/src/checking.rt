@@ -16,7 +16,7 @@ ghost use Rattle.run_bench.specs.BenchCalls.{runChecks};
 // The numbers of party i's view.
 pub fn view_count_of(plan: &[u8], h: Header, i: usize) -> usize
     requires { ⌜ Planned (now plan) h ⌝ }
-    ensures { λ r. ⌜ record { eq : r ≡ viewCountOf (planOf (now (plan .entry))) i; le : r ≤ 25600 } ⌝ }
+    ensures { λ r. ⌜ record { eq : r ≡ viewCountOf (planOf (now (plan .entry))) i; le : r ≤ 32768 } ⌝ }
 {
     let tally = plan_counts::tally_of(plan, h, i);
     let pieces = tally.multiplies * (h.t + h.t + 1);
@@ -28,7 +28,7 @@ pub fn view_count_of(plan: &[u8], h: Header, i: usize) -> usize
 // The same, where it is a member.
 pub fn member_view_count(plan: &[u8], h: Header, set: u16, i: usize) -> usize
     requires { ⌜ Planned (now plan) h ⌝ }
-    ensures { λ r. ⌜ record { eq : r ≡ cond (inSet set i) (viewCountOf (planOf (now (plan .entry))) i) 0; le : r ≤ 25600 } ⌝ }
+    ensures { λ r. ⌜ record { eq : r ≡ cond (inSet set i) (viewCountOf (planOf (now (plan .entry))) i) 0; le : r ≤ 32768 } ⌝ }
 {
     if !plan_coalition::is_member(set, i) {
         return 0;
@@ -39,7 +39,7 @@ pub fn member_view_count(plan: &[u8], h: Header, set: u16, i: usize) -> usize
 // The numbers of a coalition's view.
 pub fn view_count(plan: &[u8], h: Header, set: u16) -> usize
     requires { ⌜ Planned (now plan) h ⌝ }
-    ensures { λ r. ⌜ record { eq : r ≡ viewCount (planOf (now (plan .entry))) (members set); le : r ≤ 409600 } ⌝ }
+    ensures { λ r. ⌜ record { eq : r ≡ viewCount (planOf (now (plan .entry))) (members set); le : r ≤ 524288 } ⌝ }
 {
     let mut k: usize = 0;
     let mut i: usize = 1;

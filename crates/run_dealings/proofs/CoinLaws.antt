@@ -61,14 +61,14 @@ module _ (bs : List ℕ) (h : Header) (k : Planned bs h) where
 
 -- ---- how many they are
 module _ (bs : List ℕ) (h : Header) (k : Planned bs h) where
-  pub coins-few : h .t * (h .t + h .t + 1) ≤ 105
-  coins-few = mul-le-mul {n₂ = 7} {m₂ = 15} (omega (arith, k .majority, k .n-high)) (omega (arith, k .majority, k .n-high))
+  pub coins-few : h .t * (h .t + h .t + 1) ≤ 406
+  coins-few = mul-le-mul {n₂ = 14} {m₂ = 29} (omega (arith, k .threshold, k .n-high)) (omega (arith, k .threshold, k .n-high))
 
   pub coins-fit : Fits w64 (h .t * (h .t + h .t + 1))
   coins-fit = record { fits = omega (arith, coins-few) }
 
-  pub draws-few : h .t * h .n ≤ 105
-  draws-few = mul-le-mul {n₂ = 7} {m₂ = 15} (omega (arith, k .majority, k .n-high)) (k .n-high)
+  pub draws-few : h .t * h .n ≤ 406
+  draws-few = omega (arith, mul-le-mul {n₁ = h .t} {m₁ = h .n} {n₂ = 14} {m₂ = 15} (omega (arith, k .threshold, k .n-high)) (k .n-high))
 
   pub draws-fit : Fits w64 (h .t * h .n)
   draws-fit = record { fits = omega (arith, draws-few) }

@@ -12,7 +12,7 @@ use native.Mathlib.Omega.{arith}
 use borrow.Author.Needs.{needs}
 use borrow.Author.Tests.{ltb-true, ltb-false}
 use lib.Dec.{ltb}
-use lib.ListN.{length, take, drop, set, getD, replicate, length-append}
+use lib.ListN.{length, take, drop, set, getD, replicate, length-append, length-take, take-append-drop}
 use lib.Seq.{take-at, drop-at, take-take, length-take-le}
 use mir.Syntax.{w64}
 use mir.Val.{Fits}
@@ -33,24 +33,39 @@ use Rattle.sharing_laws.proofs.Elements.{padded-below}
 use Rattle.sharing_laws.proofs.Alls.{map-tab}
 use Rattle.sharing.proofs.Coding.{plain-dot}
 use Rattle.sharing_openings.proofs.Rows.{row-at}
-use Rattle.run_dealings.specs.Rows.{terms, powers, powerRows, productsOf, sharedBy, mixedAt, Powered, Weighted, Coined}
+use Rattle.run_dealings.specs.Rows.{terms, powers, powerRows, productsOf, sharedBy, mixedAt, Powered, Dealers, Weighted, Coined}
 use Rattle.run_dealings.specs.Columns.{columnSum, pieceBy, piecesBy, shareAt}
 use Rattle.run_dealings.proofs.RowLaws.{part-front, made}
 use Rattle.run_dealings.proofs.PowerLaws.{eval-powers, rows-flat}
-use Rattle.run_dealings.proofs.PolynomialLaws.{length-shared, shared-short, below-cons, length-padded, polynomialAt, terms-few, terms-many}
+use Rattle.run_dealings.proofs.PolynomialLaws.{length-shared, shared-short, below-cons, length-padded, polynomialAt, terms-few, terms-many, terms-most}
 use Rattle.run_dealings.proofs.ColumnLaws.{Rowing, rowing, row-none, row-next, row-is, row-long}
 
 -- ---- the count of coefficients
-module _ (t k : ℕ) (few : t < 8) (e : k ≡ terms t) where
-  terms-by : (b : Bool) → ltb t 4 ≡ b → (k ≤ 8) × (t < k)
-  terms-by true l = let q : k ≡ 4 = e ∙ sym (terms-few t (ltb-true t 4 l)) in (omega arith, omega (arith, ltb-true t 4 l))
-  terms-by false l = let q : k ≡ 8 = e ∙ sym (terms-many t (ltb-false t 4 l)) in (omega arith, omega arith)
+module _ (t k : ℕ) (e : k ≡ terms t) where
+  record Counted : Type 0 where
+    most : k ≤ 16
+    small : t < 8 → k ≤ 8
+    above : t < 16 → t < k
 
-  pub terms-small : k ≤ 8
-  terms-small = terms-by (ltb t 4) refl .0
+  terms-by : (b c : Bool) → ltb t 4 ≡ b → ltb t 8 ≡ c → Counted
+  terms-by true c l m =
+      let q : k ≡ 4 = e ∙ sym (terms-few t (ltb-true t 4 l)) in
+      record { most = omega arith; small = λ s. omega arith; above = λ s. omega (arith, ltb-true t 4 l) }
+  terms-by false true l m =
+      let q : k ≡ 8 = e ∙ sym (terms-many t (ltb-false t 4 l) (ltb-true t 8 m)) in
+      record { most = omega arith; small = λ s. omega arith; above = λ s. omega (arith, ltb-true t 8 m) }
+  terms-by false false l m =
+      let q : k ≡ 16 = e ∙ sym (terms-most t (ltb-false t 4 l) (ltb-false t 8 m)) in
+      record { most = omega arith; small = λ s. omega (arith, ltb-false t 8 m); above = λ s. omega arith }
 
-  pub terms-above : t < k
-  terms-above = terms-by (ltb t 4) refl .1
+  pub terms-within : k ≤ 16
+  terms-within = terms-by (ltb t 4) (ltb t 8) refl refl .most
+
+  pub terms-small : t < 8 → k ≤ 8
+  terms-small = terms-by (ltb t 4) (ltb t 8) refl refl .small
+
+  pub terms-above : t < 16 → t < k
+  terms-above = terms-by (ltb t 4) (ltb t 8) refl refl .above
 
 -- ---- a dealing's row: j pieces stand
 pub record Piecing (p : ℕ) (f points d : List ℕ) (at j : ℕ) : Type 0 where
@@ -83,9 +98,9 @@ pub ruleset dealing = (rowing, above-one, piece-none, row-short, piece-next, pie
 pub front-is : (d ys : List ℕ) (k : ℕ) → k ≤ length d → length ys ≡ length (take k d) → take k (ys ++ drop k d) ≡ ys
 front-is d ys k l e = take-at ys (drop k d) k (e ∙ length-take-le k d l)
 
-module _ (t k : ℕ) (few : t < 8) (e : k ≡ terms t) (d : List ℕ) (long : length d ≡ 8) where
+module _ (t k : ℕ) (few : t < 16) (e : k ≡ terms t) (d : List ℕ) (long : length d ≡ 16) where
   within : k ≤ length d
-  within = omega (arith, terms-small t k few e)
+  within = omega (arith, terms-within t k e)
 
   front-long : length (take k d) ≡ k
   front-long = length-take-le k d within
@@ -94,7 +109,7 @@ module _ (t k : ℕ) (few : t < 8) (e : k ≡ terms t) (d : List ℕ) (long : le
   front-counted = sym front-long
 
   pub front-wide : t < length (take k d)
-  front-wide = rw front-long (terms-above t k few e)
+  front-wide = rw front-long (terms-above t k e few)
 
   module _ (ys : List ℕ) (kept : length ys ≡ length (take k d)) where
     ys-is : take k (ys ++ drop k d) ≡ ys
@@ -110,7 +125,7 @@ module _ (t k : ℕ) (few : t < 8) (e : k ≡ terms t) (d : List ℕ) (long : le
     dealt-counted = sym ys-long
 
     pub dealt-small : length (take k (ys ++ drop k d)) ≤ 16
-    dealt-small = omega (arith, ys-long, terms-small t k few e)
+    dealt-small = omega (arith, ys-long, terms-within t k e)
 
     pub dealt-powered : (p : ℕ) (points rows : List ℕ) → Powered p (terms t) points rows → Powered p (length (take k (ys ++ drop k d))) points rows
     dealt-powered p points rows b = rw (ys-long, e) b
@@ -128,7 +143,7 @@ module _ (t k : ℕ) (few : t < 8) (e : k ≡ terms t) (d : List ℕ) (long : le
 pub one-dealing : (p t at : ℕ) (coins : List ℕ) → Coined p t 1 at (numbers coins) → at + t ≤ length coins / 2
 one-dealing p t at coins c = omega (arith, c .room, numbers-length coins)
 
-pub ruleset inputs = (needs, terms-small, one-dealing, front-counted, front-wide, whole-long, dealt-counted, dealt-small, dealt-powered, dealt-below, input-dealt)
+pub ruleset inputs = (needs, terms-within, one-dealing, front-counted, front-wide, whole-long, dealt-counted, dealt-small, dealt-powered, dealt-below, input-dealt)
 
 -- ---- a multiply's row
 -- the two counts of coefficients, where the grid is worked
@@ -210,7 +225,7 @@ module _ (ws points : List ℕ) (lw : length ws ≤ length points) (lp : length 
 -- k coefficients for each of the dealers
 module _ (t k : ℕ) (few : t < 8) (e : k ≡ terms t) (ws points : List ℕ) (lw : length ws ≤ length points) (lp : length points ≤ 15) where
   used-few : k * length ws ≤ 120
-  used-few = mul-le-mul {n₁ = k} {m₁ = length ws} {n₂ = 8} {m₂ = 15} (terms-small t k few e) (omega arith)
+  used-few = mul-le-mul {n₁ = k} {m₁ = length ws} {n₂ = 8} {m₂ = 15} (terms-small t k e few) (omega arith)
 
   pub used-fits : Fits w64 (k * length ws)
   used-fits = record { fits = omega (arith, used-few) }
@@ -257,23 +272,26 @@ module _ (t k : ℕ) (few : t < 8) (e : k ≡ terms t) (ws points : List ℕ) (l
         row-mixed i row r =
             r
             ∙ ap₂ (λ (j : ℕ) (fs : List ℕ). map (shareAt p j ws fs) points) (sym e) (ys-front ∙ is)
-            ∙ ap (λ (h : ℕ → ℕ). map h points) (fun-ext (λ z. shares-mixed p t k ws (take (length ws) vs) (drop at (numbers coins)) (terms-above t k few e) (values-long ws points lw lp vs many) z))
+            ∙ ap (λ (h : ℕ → ℕ). map h points) (fun-ext (λ z. shares-mixed p t k ws (take (length ws) vs) (drop at (numbers coins)) (terms-above t k e (omega arith)) (values-long ws points lw lp vs many) z))
             ∙ ap (λ (ss : List ℕ). map (mixedAt p ws (sharedBy t ss (drop at (numbers coins)))) points) products
 
 pub few-weights : (ws points : List ℕ) → length ws ≤ length points → length points ≤ 15 → length ws ≤ 15
 few-weights ws points lw lp = omega arith
 
-pub ruleset multiplying = (needs, above-one, terms-above, used-fits, used-within, used-counted, values-counted, values-room, values-coins, dealt-within, dealt-again, dealt-room, dealt-elements, row-mixed, few-weights)
+pub few-coins : (t : ℕ) → t < 8 → t < 16
+few-coins t l = omega arith
+
+pub ruleset multiplying = (needs, above-one, few-coins, terms-above, used-fits, used-within, used-counted, values-counted, values-room, values-coins, dealt-within, dealt-again, dealt-room, dealt-elements, row-mixed, few-weights)
 
 -- ---- what is worked out once for a plan
-module _ (t k : ℕ) (e : k ≡ terms t) (points : List ℕ) (majority : 2 * t < length points) (many : length points ≤ 15) where
-  powers-few : k * length points ≤ 120
-  powers-few = mul-le-mul {n₁ = k} {m₁ = length points} {n₂ = 8} {m₂ = 15} (terms-small t k (omega arith) e) many
+module _ (t k : ℕ) (e : k ≡ terms t) (points : List ℕ) (many : length points ≤ 15) where
+  powers-few : k * length points ≤ 240
+  powers-few = mul-le-mul {n₁ = k} {m₁ = length points} {n₂ = 16} {m₂ = 15} (terms-within t k e) many
 
   pub powers-fit : Fits w64 (k * length points)
   powers-fit = record { fits = omega (arith, powers-few) }
 
-  module _ (rows : List ℕ) (room : 120 ≤ length rows) where
+  module _ (rows : List ℕ) (room : 240 ≤ length rows) where
     pub powers-within : k * length points ≤ length rows
     powers-within = omega (arith, powers-few)
 
@@ -291,32 +309,55 @@ module _ (t k : ℕ) (e : k ≡ terms t) (points : List ℕ) (majority : 2 * t <
     pub powers-kept : (ys : List ℕ) → length ys ≡ length (take (k * length points) rows) → drop (terms t * length points) (ys ++ drop (k * length points) rows) ≡ drop (terms t * length points) rows
     powers-kept ys kept = rw (← e) (drop-at ys (drop (k * length points) rows) (k * length points) (kept ∙ powers-long))
 
-module _ (t : ℕ) (points : List ℕ) (majority : 2 * t < length points) where
-  pub dealers-count : t + t + 1 ≡ length (take (t + t + 1) points)
-  dealers-count = sym (length-take-le (t + t + 1) points (omega arith))
+-- the dealers
+pub dealers-all : (t : ℕ) (points : List ℕ) → length points < t + t + 1 → Dealers t points (length points)
+dealers-all t points l = record { eq = omega (arith, length-take (t + t + 1) points) }
 
-  pub dealers-below : (p : ℕ) → allBelow p points ≡ true → allBelow p (take (t + t + 1) points) ≡ true
-  dealers-below p h = allBelow-take p (t + t + 1) points h
+pub dealers-some : (t : ℕ) (points : List ℕ) → t + t + 1 ≤ length points → Dealers t points (t + t + 1)
+dealers-some t points l = record { eq = sym (length-take-le (t + t + 1) points l) }
+
+pub ruleset counting-dealers = (needs, dealers-all, dealers-some)
+
+module _ (t m : ℕ) (points : List ℕ) (h : Dealers t points m) where
+  e : m ≡ length (take (t + t + 1) points)
+  e = h .eq
+
+  dealers-are : take m points ≡ take (t + t + 1) points
+  dealers-are =
+      ap (take m) (sym (take-append-drop (t + t + 1) points)) ∙ take-at (take (t + t + 1) points) (drop (t + t + 1) points) m (sym e)
+
+  pub dealers-count : m ≡ length (take m points)
+  dealers-count = e ∙ ap length (sym dealers-are)
+
+  pub dealers-below : (p : ℕ) → allBelow p points ≡ true → allBelow p (take m points) ≡ true
+  dealers-below p b = allBelow-take p m points b
+
+  pub dealers-in : m ≤ length points
+  dealers-in = omega (arith, e, length-take (t + t + 1) points)
 
   module _ (many : length points ≤ 15) (ws : List ℕ) (wide : 15 ≤ length ws) where
-    pub weights-count : t + t + 1 ≡ length (take (t + t + 1) ws)
-    weights-count = sym (length-take-le (t + t + 1) ws (omega arith))
+    pub weights-in : m ≤ length ws
+    weights-in = omega (arith, dealers-in)
 
-    pub weights-long : length (take (t + t + 1) ws) ≡ length (take (t + t + 1) points)
+    pub weights-count : m ≡ length (take m ws)
+    weights-count = sym (length-take-le m ws weights-in)
+
+    pub weights-long : length (take m ws) ≡ length (take m points)
     weights-long = sym weights-count ∙ dealers-count
 
-    pub weights-kept : (zs : List ℕ) → length zs ≡ length (take (t + t + 1) ws) → drop (t + t + 1) (zs ++ drop (t + t + 1) ws) ≡ drop (t + t + 1) ws
-    weights-kept zs kept = drop-at zs (drop (t + t + 1) ws) (t + t + 1) (kept ∙ sym weights-count)
+    pub weights-kept : (zs : List ℕ) → length zs ≡ length (take m ws)
+        → drop (length (take (t + t + 1) points)) (zs ++ drop m ws) ≡ drop (length (take (t + t + 1) points)) ws
+    weights-kept zs kept = rw (← e) (drop-at zs (drop m ws) m (kept ∙ sym weights-count))
 
-    pub weighted : (p : ℕ) (zs : List ℕ) → length zs ≡ length (take (t + t + 1) ws) → zs ≡ weights p 0 (take (t + t + 1) points) → Weighted p t points (zs ++ drop (t + t + 1) ws)
-    weighted p zs kept e =
-        let b : length zs ≡ t + t + 1 = kept ∙ sym weights-count in
+    pub weighted : (p : ℕ) (zs : List ℕ) → length zs ≡ length (take m ws) → zs ≡ weights p 0 (take m points) → Weighted p t points (zs ++ drop m ws)
+    weighted p zs kept is =
+        let b : length zs ≡ m = kept ∙ sym weights-count in
         record {
-          wide = rw (length-append zs (drop (t + t + 1) ws)) (omega arith);
-          weighs = take-at zs (drop (t + t + 1) ws) (t + t + 1) b ∙ e;
+          wide = rw (length-append zs (drop m ws)) (omega arith);
+          weighs = rw (← e) (take-at zs (drop m ws) m b) ∙ is ∙ ap (weights p 0) dealers-are;
         }
 
 pub ready-above : (p : ℕ) → Ready p → 0 < p
 ready-above p r = pos (r .prime)
 
-pub ruleset preparing = (needs, ready-above, powers-fit, powers-within, powers-long, powers-count, powered, powers-kept, dealers-count, dealers-below, weights-count, weights-long, weighted, weights-kept)
+pub ruleset preparing = (needs, ready-above, powers-fit, powers-within, powers-long, powers-count, powered, powers-kept, dealers-count, dealers-below, dealers-in, weights-in, weights-count, weights-long, weighted, weights-kept)

@@ -156,8 +156,12 @@ pub terms-few : (t : ℕ) → t < 4 → 4 ≡ terms t
 unfolding terms
 terms-few t l = rw (lt-ltb t 4 l)
 
-pub terms-many : (t : ℕ) → 4 ≤ t → 8 ≡ terms t
+pub terms-many : (t : ℕ) → 4 ≤ t → t < 8 → 8 ≡ terms t
 unfolding terms
-terms-many t l = rw (le-ltb t 4 l)
+terms-many t l m = rw (le-ltb t 4 l, lt-ltb t 8 m)
 
-pub ruleset counting-terms = (needs, terms-few, terms-many)
+pub terms-most : (t : ℕ) → 4 ≤ t → 8 ≤ t → 16 ≡ terms t
+unfolding terms
+terms-most t l m = rw (le-ltb t 4 l, le-ltb t 8 m)
+
+pub ruleset counting-terms = (needs, terms-few, terms-many, terms-most)

@@ -46,15 +46,14 @@ sharedBy t vs cs = tab (λ d. getD vs d 0 ∷ take t (drop (t * d) cs)) (length 
 unfoldable pub mixedAt : ℕ → List ℕ → List (List ℕ) → ℕ → ℕ
 mixedAt p ws fs x = dot p ws (map (λ f. eval p f x) fs)
 
--- how many coefficients a dealing of t coins is worked with, for t below 8
+-- how many coefficients a dealing of t coins is worked with, for t below 16
 unfoldable pub terms : ℕ → ℕ
-terms t = cond (ltb t 4) 4 8
+terms t = cond (ltb t 4) 4 (cond (ltb t 8) 8 16)
 
 -- the bounds of a plan's contents
 pub record Sized (h : Header) : Type 0 where
   pub ready : Ready (h .field .p)
   pub many : h .n ≤ 15
-  pub majority : 2 * h .t < h .n
   pub small : h .n < h .field .p
 
 -- the power rows of the points stand in front, k powers each
@@ -62,18 +61,22 @@ pub record Powered (p k : ℕ) (points rows : List ℕ) : Type 0 where
   pub room : k * length points ≤ length rows
   pub front : take (k * length points) rows ≡ powerRows p k points
 
--- the weights at 0 of the first 2t + 1 points stand in front
+-- how many dealers there are: 2t + 1, or all parties where these are fewer and no gate multiplies
+pub record Dealers (t : ℕ) (points : List ℕ) (m : ℕ) : Type 0 where
+  pub eq : m ≡ length (take (t + t + 1) points)
+
+-- the weights at 0 of the first 2t + 1 points stand in front, or of all where there are fewer
 pub record Weighted (p t : ℕ) (points ws : List ℕ) : Type 0 where
-  pub wide : t + t + 1 ≤ length ws
-  pub weighs : take (t + t + 1) ws ≡ weights p 0 (take (t + t + 1) points)
+  pub wide : length (take (t + t + 1) points) ≤ length ws
+  pub weighs : take (length (take (t + t + 1) points)) ws ≡ weights p 0 (take (t + t + 1) points)
 
 -- what is worked out once for a plan: the powers of all parties' points, and the weights at 0 of the dealers'
 pub record Prepared (bs : List ℕ) (h : Header) (points rows ws : List ℕ) : Type 0 where
   pub are : points ≡ planOf bs .points
   pub room : terms (h .t) * length points ≤ length rows
   pub powers : take (terms (h .t) * length points) rows ≡ powerRows (h .field .p) (terms (h .t)) points
-  pub wide : h .t + h .t + 1 ≤ length ws
-  pub weighs : take (h .t + h .t + 1) ws ≡ weights (h .field .p) 0 (take (h .t + h .t + 1) points)
+  pub wide : length (take (h .t + h .t + 1) points) ≤ length ws
+  pub weighs : take (length (take (h .t + h .t + 1) points)) ws ≡ weights (h .field .p) 0 (take (h .t + h .t + 1) points)
 
 -- t coins for each of m dealings stand from place `at` on, and are below p
 pub record Coined (p t m at : ℕ) (cs : List ℕ) : Type 0 where

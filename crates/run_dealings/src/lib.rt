@@ -13,7 +13,7 @@ ghost use Rattle.sharing_laws.specs.Poly.{eval, padded};
 ghost use Rattle.plan.specs.Plans.{coinOwnersAt};
 ghost use Rattle.plan.specs.File.{gateAt, planOf};
 ghost use Rattle.plan.specs.Planned.{Planned};
-ghost use Rattle.run_dealings.specs.Rows.{terms, powers, powerRows, productsOf, sharedBy, mixedAt, Powered, Weighted, Coined, Rowed};
+ghost use Rattle.run_dealings.specs.Rows.{terms, powers, powerRows, productsOf, sharedBy, mixedAt, Powered, Dealers, Weighted, Coined, Rowed};
 ghost use Rattle.run_dealings.specs.Columns.{piecesBy, columnAt, columnSum, shareAt, withColumn, withColumns};
 
 // ---- what is worked out once for a plan
@@ -50,31 +50,46 @@ fn power_rows(f: Field, k: usize, points: &[u64], rows: &mut [u64])
     }
 }
 
-// How many coefficients a dealing of t coins is worked with; those above the coins are 0. There are two counts, both constants where
-// the columns are worked, so that the loop over the coefficients is unrolled.
+// How many coefficients a dealing of t coins is worked with; those above the coins are 0. With multiply gates t is below 8, and both its counts
+// are constants where the columns are worked, so that the loop over the coefficients is unrolled.
 fn terms(t: usize) -> usize
     ensures { λ r. ⌜ r ≡ terms t ⌝ }
 {
     if t < 4 {
         return 4;
     }
-    8
+    if t < 8 {
+        return 8;
+    }
+    16
+}
+
+// How many dealers there are: 2t + 1, or all parties where these are fewer.
+fn dealers(t: usize, points: &[u64]) -> usize
+    requires { ⌜ t < 16 ⌝ }
+    ensures { λ r. ⌜ Dealers t (now (points .entry)) r ⌝ }
+{
+    let m = t + t + 1;
+    if points.len() < m {
+        return points.len();
+    }
+    m
 }
 
 // The power rows of the points, and the weights at 0 of the dealers' points, for all dealings of a plan.
 pub fn prepare(f: Field, t: usize, points: &[u64], rows: &mut [u64], weights: &mut [u64])
     requires { ⌜ Ready (f .p) ⌝ }
-    requires { ⌜ (2 * t < length (now points)) × (length (now points) ≤ 15) ⌝ }
+    requires { ⌜ (t < length (now points)) × (length (now points) ≤ 15) ⌝ }
     requires { ⌜ allBelow (f .p) (now points) ≡ true ⌝ }
-    requires { ⌜ 120 ≤ length (now rows) ⌝ }
+    requires { ⌜ 240 ≤ length (now rows) ⌝ }
     requires { ⌜ 15 ≤ length (now weights) ⌝ }
     ensures { λ _. ⌜ Powered (f .p) (terms t) (now (points .entry)) (now (rows .exit)) ⌝ }
     ensures { λ _. ⌜ Weighted (f .p) t (now (points .entry)) (now (weights .exit)) ⌝ }
     ensures { λ _. ⌜ drop (terms t * length (now (points .entry))) (now (rows .exit)) ≡ drop (terms t * length (now (points .entry))) (now (rows .entry)) ⌝ }
-    ensures { λ _. ⌜ drop (t + t + 1) (now (weights .exit)) ≡ drop (t + t + 1) (now (weights .entry)) ⌝ }
+    ensures { λ _. ⌜ drop (length (take (t + t + 1) (now (points .entry)))) (now (weights .exit)) ≡ drop (length (take (t + t + 1) (now (points .entry)))) (now (weights .entry)) ⌝ }
 {
     let k = terms(t);
-    let m = t + t + 1;
+    let m = dealers(t, points);
     let e = k * points.len();
     power_rows(f, k, points, &mut rows[..e]);
     sharing::weights(f, 0, &points[..m], &mut weights[..m]);
@@ -227,7 +242,7 @@ fn shares(
     polynomials: &[u64],
 ) -> [u64; 15]
     requires { ⌜ Ready (f .p) ⌝ }
-    requires { ⌜ length (now points) ≤ 15 ⌝ }
+    requires { ⌜ (t < 8) × (length (now points) ≤ 15) ⌝ }
     requires { ⌜ Powered (f .p) (terms t) (now points) (now rows) ⌝ }
     requires { ⌜ (length (now weights) ≤ 15) × (allBelow (f .p) (now weights) ≡ true) ⌝ }
     requires { ⌜ (terms t * length (now weights) ≤ length (now polynomials)) × (allBelow (f .p) (now polynomials) ≡ true) ⌝ }
@@ -308,14 +323,14 @@ pub fn input_row(
     at: usize,
 ) -> [u64; 15]
     requires { ⌜ Ready (f .p) ⌝ }
-    requires { ⌜ (t < 8) × (length (now points) ≤ 15) ⌝ }
+    requires { ⌜ (t < 16) × (length (now points) ≤ 15) ⌝ }
     requires { ⌜ Powered (f .p) (terms t) (now points) (now rows) ⌝ }
     requires { ⌜ x < f .p ⌝ }
     requires { ⌜ Coined (f .p) t 1 at (numbers (now coins)) ⌝ }
     ensures { λ r. ⌜ take (length (now (points .entry))) r ≡ map (eval (f .p) (x ∷ take t (drop at (numbers (now (coins .entry)))))) (now (points .entry)) ⌝ }
 {
     let k = terms(t);
-    let mut dealt = [0u64; 8];
+    let mut dealt = [0u64; 16];
     polynomial(x, coins, at, t, &mut dealt[..k]);
     dealing(f, points, rows, &dealt[..k])
 }
@@ -323,7 +338,7 @@ pub fn input_row(
 // The coins that gate g takes from the list of all.
 pub fn coins_taken(plan: &[u8], h: Header, g: usize) -> usize
     requires { ⌜ Planned (now plan) h ⌝ }
-    ensures { λ r. ⌜ record { eq : r ≡ length (coinOwnersAt (planOf (now (plan .entry))) (gateAt (now (plan .entry)) g)); most : r ≤ 105 } ⌝ }
+    ensures { λ r. ⌜ record { eq : r ≡ length (coinOwnersAt (planOf (now (plan .entry))) (gateAt (now (plan .entry)) g)); most : r ≤ 406 } ⌝ }
 {
     let t = h.t;
     match plan::gate_at(plan, g) {

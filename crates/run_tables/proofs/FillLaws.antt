@@ -121,7 +121,7 @@ pub record Filling (bs : List ℕ) (h : Header) (xs cs d₀ d : List ℕ) (i c g
   pub inputs : i ≡ length (flatMap (inputOwnersAt (planOf bs)) (take g (planOf bs .gates)))
   pub coins : c ≡ length (flatMap (coinOwnersAt (planOf bs)) (take g (planOf bs .gates)))
   pub few-inputs : i ≤ 15 * g
-  pub few-coins : c ≤ 105 * g
+  pub few-coins : c ≤ 406 * g
   pub front : take (h .n * g) d ≡ rowsOf (planOf bs .points) (beforeGate (planOf bs) xs cs [] g .env)
   pub rest : drop (h .n * g) d ≡ drop (h .n * g) d₀
 
@@ -172,7 +172,7 @@ module _ (bs : List ℕ) (h : Header) (k : Planned bs h) (inputs coins : List �
       gate-room = omega (arith, f .long)
 
       pub fill-next : (a b : ℕ) (e : List ℕ) → Stepped plan (h .n) (gateAt bs g) g (drop i xs) (drop c cs) d e → length e ≡ length d
-          → a ≡ inputsTaken plan (gateAt bs g) → a ≤ 15 → b ≡ length (coinOwnersAt plan (gateAt bs g)) → b ≤ 105
+          → a ≡ inputsTaken plan (gateAt bs g) → a ≤ 15 → b ≡ length (coinOwnersAt plan (gateAt bs g)) → b ≤ 406
           → Filling bs h xs cs d₀ e (i + a) (c + b) (g + 1)
       unfolding inputsTaken
       fill-next a b e s kept ea la eb lb = record {

@@ -27,11 +27,11 @@ use Rattle.plan.specs.declared.Gate.the-variants.{Input, Add, Scale, Offset, Mu
 use Rattle.plan.specs.declared.Rule.{Rule}
 use Rattle.plan.specs.declared.Rule.the-variants.{Reduction}
 use Rattle.plan.specs.declared.Header.{Header}
-use Rattle.plan.specs.Plans.{Plan, dealerCount, dealerPoints, coinOwnersAt}
+use Rattle.plan.specs.Plans.{Plan, dealerCount, dealerPoints, kindOf, isKind, multiplying, coinOwnersAt}
 use Rattle.plan.specs.File.{planOf, gateAt, gateOk}
 use Rattle.plan.specs.Planned.{Planned}
 use Rattle.plan.proofs.Planned.{plan-t, plan-p, plan-n, plan-gates, plan-gate}
-use Rattle.plan.proofs.Valid.{valid, plain, planned-ready}
+use Rattle.plan.proofs.Valid.{valid, plain, planned-ready, gate-majority}
 use Rattle.seat_messages.proofs.PointLaws.{plan-points-long}
 use Rattle.run_protocol.specs.Shares.{Before, wireAt, productOf, multiplyDealt, multiplyShare, gateShare}
 use Rattle.run_protocol.proofs.Dealt.{pieces-reduction}
@@ -140,19 +140,7 @@ module _ (bs : List ℕ) (h : Header) (points rows ws : List ℕ) (prepared : Pr
   pub powered : Powered (h .field .p) (terms (h .t)) points rows
   powered = record { room = prepared .room; front = prepared .powers }
 
-  pub weights-stand : h .t + h .t + 1 ≤ length ws
-  weights-stand = prepared .wide
-
-  weights-long : length (take (h .t + h .t + 1) ws) ≡ h .t + h .t + 1
-  weights-long = length-take-le (h .t + h .t + 1) ws (prepared .wide)
-
-  pub weights-counted : h .t + h .t + 1 ≡ length (take (h .t + h .t + 1) ws)
-  weights-counted = sym weights-long
-
   module _ (k : Planned bs h) where
-    pub weights-elements : allBelow (h .field .p) (take (h .t + h .t + 1) ws) ≡ true
-    weights-elements = rw (prepared .weighs) (weights-below (planned-ready bs h k .prime) 0 (take (h .t + h .t + 1) points))
-
     parties : length points ≡ h .n
     parties = ap length (prepared .are) ∙ plan-points-long bs h k
 
@@ -160,11 +148,21 @@ module _ (bs : List ℕ) (h : Header) (points rows ws : List ℕ) (prepared : Pr
     points-few = omega (arith, parties, k .n-high)
 
     -- the dealers are parties
-    pub dealers-within : length (take (h .t + h .t + 1) ws) ≤ length points
-    dealers-within = omega (arith, weights-long, parties, k .majority)
+    module _ (two : 2 * h .t < h .n) where
+      dealers-are : length (take (h .t + h .t + 1) points) ≡ h .t + h .t + 1
+      dealers-are = length-take-le (h .t + h .t + 1) points (omega (arith, parties))
 
-pub coins-few : (bs : List ℕ) (h : Header) → Planned bs h → h .t < 8
-coins-few bs h k = omega (arith, k .majority, k .n-high)
+      weights-in : h .t + h .t + 1 ≤ length ws
+      weights-in = omega (arith, prepared .wide, dealers-are)
+
+      weighs : take (h .t + h .t + 1) ws ≡ weights (h .field .p) 0 (take (h .t + h .t + 1) points)
+      weighs = rw dealers-are at (prepared .weighs)
+
+      weights-long : length (take (h .t + h .t + 1) ws) ≡ h .t + h .t + 1
+      weights-long = length-take-le (h .t + h .t + 1) ws weights-in
+
+pub coins-few : (bs : List ℕ) (h : Header) → Planned bs h → h .t < 16
+coins-few bs h k = omega (arith, k .threshold, k .n-high)
 
 -- ---- gate g of a plan that passes, as it was read
 module _ (bs : List ℕ) (h : Header) (k : Planned bs h) (g : ℕ) (l : g < h .gates) where
@@ -210,7 +208,26 @@ module _ (bs : List ℕ) (h : Header) (k : Planned bs h) (g : ℕ) (l : g < h .g
       pub offset-constant : read ≡ Offset a b → b < h .field .p
       offset-constant is = ltb-true b (h .field .p) (offsets is .1)
 
+      two : read ≡ Multiply a b → 2 * h .t < h .n
+      unfolding multiplying isKind kindOf
+      two is = gate-majority bs h k g read l e (ap multiplying is)
+
+      pub multiply-few : read ≡ Multiply a b → h .t < 8
+      multiply-few is = omega (arith, two is, k .n-high)
+
       module _ (points rows ws : List ℕ) (prepared : Prepared bs h points rows ws) where
+        pub weights-stand : read ≡ Multiply a b → h .t + h .t + 1 ≤ length ws
+        weights-stand is = weights-in bs h points rows ws prepared k (two is)
+
+        pub weights-counted : read ≡ Multiply a b → h .t + h .t + 1 ≡ length (take (h .t + h .t + 1) ws)
+        weights-counted is = sym (weights-long bs h points rows ws prepared k (two is))
+
+        pub weights-elements : read ≡ Multiply a b → allBelow (h .field .p) (take (h .t + h .t + 1) ws) ≡ true
+        weights-elements is = rw (weighs bs h points rows ws prepared k (two is)) (weights-below (planned-ready bs h k .prime) 0 (take (h .t + h .t + 1) points))
+
+        pub dealers-within : read ≡ Multiply a b → length (take (h .t + h .t + 1) ws) ≤ length points
+        dealers-within is = omega (arith, weights-long bs h points rows ws prepared k (two is), parties bs h points rows ws prepared k, two is)
+
         pub multiply-left-stands : read ≡ Multiply a b → Rowed (h .field .p) (length points) a table
         multiply-left-stands is = rw (parties bs h points rows ws prepared k) (standing-row (h .field .p) (h .n) g a table s (ltb-true a g (multiplies is .0)))
 
@@ -226,7 +243,7 @@ module _ (bs : List ℕ) (h : Header) (k : Planned bs h) (g : ℕ) (l : g < h .g
       input-coins i is = coined 1 (mul-one (h .t) ∙ coins-input bs h k g read e i is)
 
       pub multiply-coins : (a b : ℕ) (points rows ws : List ℕ) → read ≡ Multiply a b → Prepared bs h points rows ws → Coined (h .field .p) (h .t) (length (take (h .t + h .t + 1) ws)) at cs
-      multiply-coins a b points rows ws is prepared = rw (weights-long bs h points rows ws prepared) (coined (h .t + h .t + 1) (coins-multiply bs h k g read e a b is))
+      multiply-coins a b points rows ws is prepared = rw (weights-long bs h points rows ws prepared k (two a b is)) (coined (h .t + h .t + 1) (coins-multiply bs h k g read e a b is))
 
     -- rows
     module _ (xs cs row : List ℕ) where
@@ -272,9 +289,9 @@ module _ (bs : List ℕ) (h : Header) (k : Planned bs h) (g : ℕ) (l : g < h .g
             (λ before holds.
             multiply-share (planOf bs) (h .n) g (plan-points-long bs h k) (k .n-low) xs cs table (s .room) before holds row a b (take (h .t + h .t + 1) ws) (plain bs (k .passes) .rule)
             (ltb-true a g (multiplies a b is .0)) (ltb-true b g (multiplies a b is .1))
-            (rw (plan-t k) (omega (arith, k .majority)))
-            (rw (plan-p k, plan-t k, ← prepared .are) (prepared .weighs))
-            (rw (plan-p k, plan-t k, ← prepared .are, ← parties bs h points rows ws prepared k) (rw (weights-long bs h points rows ws prepared) at made)))
+            (rw (plan-t k) (omega (arith, two a b is)))
+            (rw (plan-p k, plan-t k, ← prepared .are) (weighs bs h points rows ws prepared k (two a b is)))
+            (rw (plan-p k, plan-t k, ← prepared .are, ← parties bs h points rows ws prepared k) (rw (weights-long bs h points rows ws prepared k (two a b is)) at made)))
 
     -- an input is the next of the list
     pub worked-input : (xs cs row points rows ws : List ℕ) (i x from : ℕ) → Prepared bs h points rows ws → read ≡ Input i → x ≡ getD xs from 0
@@ -286,4 +303,4 @@ module _ (bs : List ℕ) (h : Header) (k : Planned bs h) (g : ℕ) (l : g < h .g
         input-share (planOf bs) (h .n) g (plan-points-long bs h k) (k .n-low) (drop from xs) cs table (s .room) before holds row i
         (rw (plan-p k, plan-t k, ← prepared .are, ← parties bs h points rows ws prepared k, ← first) made))
 
-pub ruleset working = (needs, planned-ready, wire-below, powered, weights-stand, weights-counted, weights-elements, dealers-within, points-few, coins-few, add-left-stands, add-right-stands, scale-stands, scale-constant, offset-stands, offset-constant, multiply-left-stands, multiply-right-stands, input-coins, multiply-coins, worked-add, worked-scale, worked-offset, worked-random, worked-spend, worked-input, worked-multiply)
+pub ruleset working = (needs, planned-ready, wire-below, powered, weights-stand, weights-counted, weights-elements, dealers-within, points-few, coins-few, multiply-few, add-left-stands, add-right-stands, scale-stands, scale-constant, offset-stands, offset-constant, multiply-left-stands, multiply-right-stands, input-coins, multiply-coins, worked-add, worked-scale, worked-offset, worked-random, worked-spend, worked-input, worked-multiply)

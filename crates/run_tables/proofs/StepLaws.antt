@@ -21,7 +21,7 @@ use Rattle.run_dealings.specs.Rows.{Sized, terms, Powered, Weighted, Prepared}
 
 -- ---- what a plan's contents give
 pub planned-sized : (bs : List ℕ) (h : Header) → Planned bs h → Sized h
-planned-sized bs h k = record { ready = planned-ready bs h k; many = k .n-high; majority = k .majority; small = k .p-low }
+planned-sized bs h k = record { ready = planned-ready bs h k; many = k .n-high; small = k .p-low }
 
 -- the parties' points are the first of an array
 module _ (bs : List ℕ) (h : Header) (k : Planned bs h) (ps : List ℕ) (e : take (h .n) ps ≡ planOf bs .points) where
@@ -34,8 +34,8 @@ module _ (bs : List ℕ) (h : Header) (k : Planned bs h) (ps : List ℕ) (e : ta
   pub points-most : length (take (h .n) ps) ≤ 15
   points-most = omega (arith, points-long, k .n-high)
 
-  pub points-majority : 2 * h .t < length (take (h .n) ps)
-  points-majority = omega (arith, points-long, k .majority)
+  pub points-over : h .t < length (take (h .n) ps)
+  points-over = omega (arith, points-long, k .threshold)
 
   pub points-elements : allBelow (h .field .p) (take (h .n) ps) ≡ true
   points-elements = rw e (plan-points-below bs h k)
@@ -43,7 +43,7 @@ module _ (bs : List ℕ) (h : Header) (k : Planned bs h) (ps : List ℕ) (e : ta
   pub prepared : (rows ws : List ℕ) → Powered (h .field .p) (terms (h .t)) (take (h .n) ps) rows → Weighted (h .field .p) (h .t) (take (h .n) ps) ws → Prepared bs h (take (h .n) ps) rows ws
   prepared rows ws b w = record { are = e; room = b .room; powers = b .front; wide = w .wide; weighs = w .weighs }
 
-pub ruleset placing = (needs, planned-ready, prepared, points-counted, points-most, points-majority, points-elements)
+pub ruleset placing = (needs, planned-ready, prepared, points-counted, points-most, points-over, points-elements)
 
 -- ---- the loop that writes a row: j entries stand
 pub record Pasting (d₀ row d : List ℕ) (at n j : ℕ) : Type 0 where

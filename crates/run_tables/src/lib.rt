@@ -236,7 +236,7 @@ pub fn fill(plan: &[u8], h: Header, inputs: &[u8], coins: &[u8], table: &mut [u6
 {
     let n = h.n;
     let points = seat_messages::points_of(plan, h);
-    let mut rows = [0u64; 120];
+    let mut rows = [0u64; 240];
     let mut weights = [0u64; 15];
     run_dealings::prepare(h.field, h.t, &points[..n], &mut rows, &mut weights);
     steps(plan, h, &points[..n], &rows, &weights, inputs, coins, table);

@@ -33,7 +33,7 @@ use Rattle.plan.specs.declared.Rule.the-variants.{Reduction}
 use Rattle.plan.specs.declared.Step.{Step}
 use Rattle.plan.specs.declared.Step.the-variants.{DealInputs, DealProduct, SendOuts}
 use Rattle.plan.specs.declared.Header.{Header}
-use Rattle.plan.specs.Plans.{Plan, partyCount, parties, pointOf, dealerCount, dealerPoints, kindOf, isInputOf, inputWires, outWires, coinOwnersAt, coinCount, ownInputs, ownCoins, multiplySteps, stepsAt, stepsFrom, steps}
+use Rattle.plan.specs.Plans.{Plan, partyCount, parties, pointOf, dealerCount, dealerPoints, kindOf, isKind, multiplying, isInputOf, inputWires, outWires, coinOwnersAt, coinCount, ownInputs, ownCoins, multiplySteps, stepsAt, stepsFrom, steps}
 use Rattle.plan.specs.File.{gateOk, planOf}
 use Rattle.plan.specs.Planned.{Planned}
 use Rattle.plan.proofs.Planned.{plan-t, plan-p, plan-n, plan-dealers, plan-gates, plan-gate}
@@ -124,11 +124,11 @@ module _ {bs : List ℕ} {h : Header} (pl : Planned bs h) (xs cs table : List �
   place : ℕ → ℕ
   place g = length (flatMap (coinOwnersAt plan) (take g (plan .gates)))
 
-  dealers-few : dealerCount plan ≤ partyCount plan
-  unfolding dealerCount
-  dealers-few = omega (arith, plain bs (pl .passes) .majority)
-
   module _ (g a b : ℕ) (l : g < length (plan .gates)) (e : getD (plan .gates) g (Input 0) ≡ Multiply a b) where
+    dealers-few : dealerCount plan ≤ partyCount plan
+    unfolding dealerCount multiplying isKind kindOf
+    dealers-few = omega (arith, v .majority g l (ap multiplying e))
+
     before : Before
     before = beforeGate plan xs cs [] g
 

@@ -50,12 +50,12 @@ module _ (plan : Plan) (h : Header) (table cs : List ℕ) (i at : ℕ) (old : Li
   mail-done a b next row da db new e u v w = wrote-then 15360 16320 _ _ at a next old da new u (wrote-then 15360 960 _ _ a b next da db new (rw e at v) w)
 
   pub view-done :
-      (xs : List ℕ) (a b c next : ℕ) (da db dc new : List ℕ) → Wrote 1024 (ownInputs plan i xs) at old da a → Wrote 7168 (ownCoins plan i cs) a da db b
+      (xs : List ℕ) (a b c next : ℕ) (da db dc new : List ℕ) → Wrote 1024 (ownInputs plan i xs) at old da a → Wrote 14336 (ownCoins plan i cs) a da db b
       → Wrote 31680 (mailIn plan h table cs i) b db dc c → Wrote 64 (map (openedIn plan h table) (outWires plan i)) c dc new next
-      → Wrote 39936 (viewIn plan h table xs cs i) at old new next
+      → Wrote 47104 (viewIn plan h table xs cs i) at old new next
   unfolding viewIn
   view-done xs a b c next da db dc new s u v w =
-      wrote-then 1024 38912 _ _ at a next old da new s (wrote-then 7168 31744 _ _ a b next da db new u (wrote-then 31680 64 _ _ b c next db dc new v w))
+      wrote-then 1024 46080 _ _ at a next old da new s (wrote-then 14336 31744 _ _ a b next da db new u (wrote-then 31680 64 _ _ b c next db dc new v w))
 
 pub ruleset joining = (needs, few-powers, power-row, row-count, mail-done, view-done)
 
@@ -64,17 +64,17 @@ pub member-most : (n t set i : ℕ) (b : Bool) → setFits n t set ≡ true → 
 member-most n t set i b ok e y l m = member-party n t set ok i (in-member set i l m (sym e ∙ y))
 
 module _ (vs : List ℕ) (set i at : ℕ) (old : List ℕ) (b : Bool) (e : b ≡ inSet set i) where
-  pub member-not : b ≡ false → Wrote 39936 (cond (inSet set i) vs []) at old old at
-  member-not y = rw (← e, y) (wrote-none 39936 at old)
+  pub member-not : b ≡ false → Wrote 47104 (cond (inSet set i) vs []) at old old at
+  member-not y = rw (← e, y) (wrote-none 47104 at old)
 
-  pub member-view : (new : List ℕ) (next : ℕ) → b ≡ true → Wrote 39936 vs at old new next → Wrote 39936 (cond (inSet set i) vs []) at old new next
+  pub member-view : (new : List ℕ) (next : ℕ) → b ≡ true → Wrote 47104 vs at old new next → Wrote 47104 (cond (inSet set i) vs []) at old new next
   member-view new next y w = rw (← e, y) w
 
 pub ruleset membering = (needs, not-true, not-false, member-most, member-not, member-view)
 
 -- ---- all members
 pub record Viewed (vs : ℕ → List ℕ) (set : ℕ) (old new : List ℕ) (at i : ℕ) : Type 0 where
-  pub left : Left (flatMap vs (members set)) 0 old new at (flatMap vs (membersFrom set i (17 - i))) (39936 * (i - 1))
+  pub left : Left (flatMap vs (members set)) 0 old new at (flatMap vs (membersFrom set i (17 - i))) (47104 * (i - 1))
   pub low : 1 ≤ i
   pub high : i ≤ 17
 
@@ -91,13 +91,13 @@ module _ (vs : ℕ → List ℕ) (set : ℕ) (old new : List ℕ) (at i : ℕ) (
   pub views-near : i ≤ 16 → at ≤ 800000
   views-near l = omega (arith, s .left .few)
 
-  pub views-next : (new′ : List ℕ) (at′ : ℕ) → i ≤ 16 → Wrote 39936 (cond (inSet set i) (vs i) []) at new new′ at′ → length new′ ≡ length new → Viewed vs set old new′ at′ (i + 1)
+  pub views-next : (new′ : List ℕ) (at′ : ℕ) → i ≤ 16 → Wrote 47104 (cond (inSet set i) (vs i) []) at new new′ at′ → length new′ ≡ length new → Viewed vs set old new′ at′ (i + 1)
   unfolding membersFrom
   views-next new′ at′ l w n =
       let e : 17 - i ≡ suc (17 - (i + 1)) = omega arith in
-      let q : 39936 * (i - 1) + 39936 ≤ 39936 * (i + 1 - 1) = omega (arith, s .low) in
+      let q : 47104 * (i - 1) + 47104 ≤ 47104 * (i + 1 - 1) = omega (arith, s .low) in
       record {
-        left = left-then _ 0 old new at _ (39936 * (i - 1)) (s .left) 39936 (cond (inSet set i) (vs i) []) _ new′ at′ (39936 * (i + 1 - 1)) (rw (e, ← add-one i) (views-step vs (inSet set i) i (membersFrom set (i + 1) (17 - (i + 1))))) w n q;
+        left = left-then _ 0 old new at _ (47104 * (i - 1)) (s .left) 47104 (cond (inSet set i) (vs i) []) _ new′ at′ (47104 * (i + 1 - 1)) (rw (e, ← add-one i) (views-step vs (inSet set i) i (membersFrom set (i + 1) (17 - (i + 1))))) w n q;
         low = omega arith;
         high = omega arith;
       }
@@ -106,7 +106,7 @@ module _ (vs : ℕ → List ℕ) (set : ℕ) (old new : List ℕ) (at i : ℕ) (
   unfolding membersFrom flatMap
   views-end l =
       let e : 17 - i ≡ 0 = omega (arith, s .high) in
-      left-end _ 0 old new at _ (39936 * (i - 1)) (s .left) (39936 * (i - 1)) (rw e) (omega arith) .bytes
+      left-end _ 0 old new at _ (47104 * (i - 1)) (s .left) (47104 * (i - 1)) (rw e) (omega arith) .bytes
 
 -- ---- the run's coins and table
 module _ {bs : List ℕ} {h : Header} (pl : Planned bs h) (inputs coins table : List ℕ) (given : Given (planOf bs) inputs coins)
@@ -124,7 +124,7 @@ module _ {bs : List ℕ} {h : Header} (pl : Planned bs h) (inputs coins table : 
               ready = record { prime = rw (← plan-p pl) (valid bs (pl .passes) .prime); small = pl .p-high };
               some = pl .n-low;
               few = pl .n-high;
-              threshold = pl .majority;
+              threshold = pl .threshold;
               gates = pl .gates-high;
               flat =
                   record {

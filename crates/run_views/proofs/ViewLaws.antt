@@ -36,11 +36,11 @@ use Rattle.plan.specs.declared.Gate.{Gate}
 use Rattle.plan.specs.declared.Gate.the-variants.{Input, Add, Scale, Offset, Multiply, Random, Spend}
 use Rattle.plan.specs.declared.Output.{Output}
 use Rattle.plan.specs.declared.Header.{Header}
-use Rattle.plan.specs.Plans.{Plan, partyCount, dealerCount, parties, pointOf, kindOf, isKind, operandsOf, isInputOf, wiresFrom, inputWires, outWiresOf, outWires, inputOwnersAt, inputOwners, dealingsAt, coinOwnersAt, coinOwners, coinCount, ownOf, ownInputs, ownCoins}
+use Rattle.plan.specs.Plans.{Plan, partyCount, dealerCount, parties, pointOf, kindOf, isKind, multiplying, operandsOf, isInputOf, wiresFrom, inputWires, outWiresOf, outWires, inputOwnersAt, inputOwners, dealingsAt, coinOwnersAt, coinOwners, coinCount, ownOf, ownInputs, ownCoins}
 use Rattle.plan.specs.File.{between, gateOf, gateAt, outAt, outOk, planOf}
 use Rattle.plan.specs.Planned.{Planned}
 use Rattle.plan.proofs.Planned.{plan-t, plan-n, plan-dealers, plan-gates, plan-outs, plan-gate, plan-out}
-use Rattle.plan.proofs.Valid.{valid, plain, planned-ready}
+use Rattle.plan.proofs.Valid.{valid, plain, planned-ready, gate-majority}
 use Rattle.seat_messages.proofs.PointLaws.{plan-points-long, plan-points-below, points-at}
 use Rattle.run_protocol.specs.Ideal.{inputsTaken}
 use Rattle.run_protocol.proofs.Owners.{own-append, own-same, own-other, blocks, length-blocks, own-block}
@@ -414,10 +414,10 @@ coins-tab t from cs l =
     (λ k m. getD-take t (drop from cs) k 0 m ∙ getD-drop from cs k 0))
 
 pub coins-done :
-    (t from : ℕ) (coins : List ℕ) (at : ℕ) (old new : List ℕ) (next j : ℕ) → Tabbing (λ k. getD (numbers coins) (from + k) 0) t at old new next j → t ≤ j → t ≤ 7
-    → from + t ≤ length coins / 2 → Wrote 7 (take t (drop from (numbers coins))) at old new next
+    (t from : ℕ) (coins : List ℕ) (at : ℕ) (old new : List ℕ) (next j : ℕ) → Tabbing (λ k. getD (numbers coins) (from + k) 0) t at old new next j → t ≤ j → t ≤ 14
+    → from + t ≤ length coins / 2 → Wrote 14 (take t (drop from (numbers coins))) at old new next
 coins-done t from coins at old new next j s l few room =
-    rw (← coins-tab t from (numbers coins) (omega (arith, numbers-length coins))) (tab-done _ t at old new next j s 7 l few)
+    rw (← coins-tab t from (numbers coins) (omega (arith, numbers-length coins))) (tab-done _ t at old new next j s 14 l few)
 
 module _ (t from j : ℕ) (coins : List ℕ) (room : from + t ≤ length coins / 2) (l : j < t) where
   pub coin-within : from + j < length coins / 2
@@ -478,7 +478,7 @@ module _ (p t from s : ℕ) (ws coins : List ℕ) (room : from + t ≤ length co
           unfolding own
           same-term = rw (f, e, ← next-coefficient j m)
 
-          pub dealt-fits : t ≤ 7 → sum + z < 2 ^ 64
+          pub dealt-fits : t ≤ 14 → sum + z < 2 ^ 64
           unfolding own
           dealt-fits few = next-fits ws (s ∷ take t (drop from (numbers coins))) p r bw (coefficients-below r b l) sum (j + 1) v z same-term (omega arith)
 
@@ -486,7 +486,7 @@ module _ (p t from s : ℕ) (ws coins : List ℕ) (room : from + t ≤ length co
           unfolding own
           dealt-more = sum-next ws (s ∷ take t (drop from (numbers coins))) p r bw (coefficients-below r b l) sum (j + 1) v z same-term (omega (arith, coefficients-long)) (omega arith)
 
-      pub dealt-reducible : (m : ℕ) → m ≡ reciprocal p → t ≤ 7 → Reducible p m sum
+      pub dealt-reducible : (m : ℕ) → m ≡ reciprocal p → t ≤ 14 → Reducible p m sum
       unfolding own
       dealt-reducible m e few = sum-reducible ws (s ∷ take t (drop from (numbers coins))) p r bw (coefficients-below r b l) sum (j + 1) v m e (omega arith)
 
@@ -517,13 +517,13 @@ module _ (p x y z : ℕ) (e : z ≡ x * y) where
   unfolding mul
   product-of a b r f g is = rw (e, f, g) at is
 
-pub ruleset multiplying = (needs, share-under, running-field, product-reducible, product-of)
+pub ruleset shares-multiplied = (needs, share-under, running-field, product-reducible, product-of)
 
 -- ---- where the coins of gate g begin
 -- the coins before gate g are drawn: those of gate g begin at `from`
 pub record Drawn (bs : List ℕ) (from g : ℕ) : Type 0 where
   pub place : from ≡ length (flatMap (coinOwnersAt (planOf bs)) (take g (planOf bs .gates)))
-  pub near : from ≤ 105 * g
+  pub near : from ≤ 406 * g
   pub within : g ≤ 1024
 
 draw-none : (bs : List ℕ) → Drawn bs 0 0
@@ -531,7 +531,7 @@ unfolding flatMap
 draw-none bs = record { place = refl; near = omega arith; within = omega arith }
 
 module _ (bs : List ℕ) (h : Header) (from g : ℕ) (w : Drawn bs from g) (pl : Planned bs h) (l : g < h .gates) where
-  draw-next : (d : ℕ) → d ≡ length (coinOwnersAt (planOf bs) (gateAt bs g)) → d ≤ 105 → Drawn bs (from + d) (g + 1)
+  draw-next : (d : ℕ) → d ≡ length (coinOwnersAt (planOf bs) (gateAt bs g)) → d ≤ 406 → Drawn bs (from + d) (g + 1)
   draw-next d ed m = record {
     place = taken-next (coinOwnersAt (planOf bs)) bs h from g d pl (w .place) l ed;
     near = omega (arith, w .near);
@@ -551,12 +551,12 @@ module _ (bs : List ℕ) (h : Header) (from g : ℕ) (w : Drawn bs from g) (pl :
 
 -- ---- a party's coins at a gate
 module _ (t i m : ℕ) (from at : ℕ) (coins old : List ℕ) where
-  pub block-own : (new : List ℕ) (next : ℕ) → i ≤ m → Wrote 7 (take t (drop (from + t * (i - 1)) (numbers coins))) at old new next
-      → Wrote 7 (cond (leb i m) (take t (drop (from + t * (i - 1)) (numbers coins))) []) at old new next
+  pub block-own : (new : List ℕ) (next : ℕ) → i ≤ m → Wrote 14 (take t (drop (from + t * (i - 1)) (numbers coins))) at old new next
+      → Wrote 14 (cond (leb i m) (take t (drop (from + t * (i - 1)) (numbers coins))) []) at old new next
   block-own new next l w = rw (le-leb i m l) w
 
-  pub block-not : m < i → Wrote 7 (cond (leb i m) (take t (drop (from + t * (i - 1)) (numbers coins))) []) at old old at
-  block-not l = rw (lt-leb i m l) (wrote-none 7 at old)
+  pub block-not : m < i → Wrote 14 (cond (leb i m) (take t (drop (from + t * (i - 1)) (numbers coins))) []) at old old at
+  block-not l = rw (lt-leb i m l) (wrote-none 14 at old)
 
   module _ (low : 1 ≤ i) (l : i ≤ m) (room : from + t * m ≤ length coins / 2) where
     block-near : t * (i - 1) + t ≤ t * m
@@ -572,11 +572,11 @@ module _ (t i m : ℕ) (from at : ℕ) (coins old : List ℕ) where
     block-place-fits f = record { fits = omega (arith, block-near) }
 
 module _ (t i s from at : ℕ) (coins old : List ℕ) where
-  pub dealing-own : (new : List ℕ) (next : ℕ) → i ≡ s → Wrote 7 (take t (drop from (numbers coins))) at old new next → Wrote 7 (cond (eqb i s) (take t (drop from (numbers coins))) []) at old new next
+  pub dealing-own : (new : List ℕ) (next : ℕ) → i ≡ s → Wrote 14 (take t (drop from (numbers coins))) at old new next → Wrote 14 (cond (eqb i s) (take t (drop from (numbers coins))) []) at old new next
   dealing-own new next e w = rw (eq-eqb i s e) w
 
-  pub dealing-not : (i ≡ s → ⊥) → Wrote 7 (cond (eqb i s) (take t (drop from (numbers coins))) []) at old old at
-  dealing-not n = rw (ne-eqb i s n) (wrote-none 7 at old)
+  pub dealing-not : (i ≡ s → ⊥) → Wrote 14 (cond (eqb i s) (take t (drop from (numbers coins))) []) at old old at
+  dealing-not n = rw (ne-eqb i s n) (wrote-none 14 at old)
 
 pub ruleset blocking = (needs, block-own, block-not, block-room, block-fits, block-place-fits, dealing-own, dealing-not)
 
@@ -605,8 +605,8 @@ module _ (t i from : ℕ) (cs : List ℕ) where
 
 module _ (bs : List ℕ) (h : Header) (pl : Planned bs h) (i g from at : ℕ) (coins old : List ℕ) (gate : Gate) (is : gate ≡ gateAt bs g)
     (room : from + length (coinOwnersAt (planOf bs) (gateAt bs g)) ≤ length coins / 2) where
-  pub coins-few : h .t ≤ 7
-  coins-few = omega (arith, pl .majority, pl .n-high)
+  pub coins-few : h .t ≤ 14
+  coins-few = omega (arith, pl .threshold, pl .n-high)
 
   room-as : (m : ℕ) → m ≡ length (coinOwnersAt (planOf bs) (gateAt bs g)) → from + m ≤ length coins / 2
   room-as m e = omega arith
@@ -615,17 +615,17 @@ module _ (bs : List ℕ) (h : Header) (pl : Planned bs h) (i g from at : ℕ) (c
     pub input-room : from + h .t ≤ length coins / 2
     input-room = room-as (h .t) (coins-input bs h pl g gate is s e)
 
-    pub own-input : (new : List ℕ) (next : ℕ) → Wrote 7 (cond (eqb i s) (take (h .t) (drop from (numbers coins))) []) at old new next
-        → Wrote 7 (ownOf i (coinOwnersAt (planOf bs) (gateAt bs g)) (drop from (numbers coins))) at old new next
+    pub own-input : (new : List ℕ) (next : ℕ) → Wrote 14 (cond (eqb i s) (take (h .t) (drop from (numbers coins))) []) at old new next
+        → Wrote 14 (ownOf i (coinOwnersAt (planOf bs) (gateAt bs g)) (drop from (numbers coins))) at old new next
     own-input new next w =
         rw (← is, e, input-owners (planOf bs) s, plan-t pl, ← own-by-dealing (h .t) i from (numbers coins) s (omega (arith, input-room, numbers-length coins)) (eqb i s) refl) w
 
   -- at a gate where each of the parties 1 to m deals
   by-blocks : (m k : ℕ) → 1 ≤ i → from + h .t * m ≤ length coins / 2 → m ≡ k → (x : Gate) → gate ≡ x → coinOwnersAt (planOf bs) x ≡ blocks (planOf bs .t) 0 k → (new : List ℕ) (next : ℕ)
-      → Wrote 7 (cond (leb i m) (take (h .t) (drop (from + h .t * (i - 1)) (numbers coins))) []) at old new next
-      → Wrote 7 (ownOf i (coinOwnersAt (planOf bs) (gateAt bs g)) (drop from (numbers coins))) at old new next
+      → Wrote 14 (cond (leb i m) (take (h .t) (drop (from + h .t * (i - 1)) (numbers coins))) []) at old new next
+      → Wrote 14 (ownOf i (coinOwnersAt (planOf bs) (gateAt bs g)) (drop from (numbers coins))) at old new next
   by-blocks m k low here same x e owners new next w =
-      wrote-as 7 _ _ at next old new
+      wrote-as 14 _ _ at next old new
       (own-by-block (h .t) i from (numbers coins) m low (omega (arith, numbers-length coins)) (leb i m) refl
       ∙ ap₂ (λ (t n : ℕ). ownOf i (blocks t 0 n) (drop from (numbers coins))) (sym (plan-t pl)) same
       ∙ sym (ap (λ (o : List ℕ). ownOf i o (drop from (numbers coins))) owners)
@@ -635,8 +635,8 @@ module _ (bs : List ℕ) (h : Header) (pl : Planned bs h) (i g from at : ℕ) (c
     pub multiply-room : from + h .t * (h .t + h .t + 1) ≤ length coins / 2
     multiply-room = room-as (h .t * (h .t + h .t + 1)) (coins-multiply bs h pl g gate is a b e)
 
-    pub own-multiply : (new : List ℕ) (next : ℕ) → 1 ≤ i → Wrote 7 (cond (leb i (h .t + h .t + 1)) (take (h .t) (drop (from + h .t * (i - 1)) (numbers coins))) []) at old new next
-        → Wrote 7 (ownOf i (coinOwnersAt (planOf bs) (gateAt bs g)) (drop from (numbers coins))) at old new next
+    pub own-multiply : (new : List ℕ) (next : ℕ) → 1 ≤ i → Wrote 14 (cond (leb i (h .t + h .t + 1)) (take (h .t) (drop (from + h .t * (i - 1)) (numbers coins))) []) at old new next
+        → Wrote 14 (ownOf i (coinOwnersAt (planOf bs) (gateAt bs g)) (drop from (numbers coins))) at old new next
     own-multiply new next low w =
         by-blocks (h .t + h .t + 1) (dealerCount (planOf bs)) low multiply-room (sym (plan-dealers pl)) (Multiply a b) e (reduction-owners (planOf bs) a b (plain bs (pl .passes) .rule)) new next w
 
@@ -644,27 +644,27 @@ module _ (bs : List ℕ) (h : Header) (pl : Planned bs h) (i g from at : ℕ) (c
     pub random-room : from + h .t * h .n ≤ length coins / 2
     random-room = room-as (h .t * h .n) (coins-random bs h pl g gate is e)
 
-    pub own-random : (new : List ℕ) (next : ℕ) → 1 ≤ i → Wrote 7 (cond (leb i (h .n)) (take (h .t) (drop (from + h .t * (i - 1)) (numbers coins))) []) at old new next
-        → Wrote 7 (ownOf i (coinOwnersAt (planOf bs) (gateAt bs g)) (drop from (numbers coins))) at old new next
+    pub own-random : (new : List ℕ) (next : ℕ) → 1 ≤ i → Wrote 14 (cond (leb i (h .n)) (take (h .t) (drop (from + h .t * (i - 1)) (numbers coins))) []) at old new next
+        → Wrote 14 (ownOf i (coinOwnersAt (planOf bs) (gateAt bs g)) (drop from (numbers coins))) at old new next
     own-random new next low w = by-blocks (h .n) (partyCount (planOf bs)) low random-room (sym (plan-n pl)) Random e (random-owners (planOf bs)) new next w
 
-  none-own : (x : Gate) → gate ≡ x → coinOwnersAt (planOf bs) x ≡ [] → Wrote 7 (ownOf i (coinOwnersAt (planOf bs) (gateAt bs g)) (drop from (numbers coins))) at old old at
+  none-own : (x : Gate) → gate ≡ x → coinOwnersAt (planOf bs) x ≡ [] → Wrote 14 (ownOf i (coinOwnersAt (planOf bs) (gateAt bs g)) (drop from (numbers coins))) at old old at
   unfolding ownOf
-  none-own x e none = rw (← is, e, none) (wrote-none 7 at old)
+  none-own x e none = rw (← is, e, none) (wrote-none 14 at old)
 
-  pub own-add : (a b : ℕ) → gate ≡ Add a b → Wrote 7 (ownOf i (coinOwnersAt (planOf bs) (gateAt bs g)) (drop from (numbers coins))) at old old at
+  pub own-add : (a b : ℕ) → gate ≡ Add a b → Wrote 14 (ownOf i (coinOwnersAt (planOf bs) (gateAt bs g)) (drop from (numbers coins))) at old old at
   unfolding coinOwnersAt dealingsAt flatMap
   own-add a b e = none-own (Add a b) e refl
 
-  pub own-scale : (a c : ℕ) → gate ≡ Scale a c → Wrote 7 (ownOf i (coinOwnersAt (planOf bs) (gateAt bs g)) (drop from (numbers coins))) at old old at
+  pub own-scale : (a c : ℕ) → gate ≡ Scale a c → Wrote 14 (ownOf i (coinOwnersAt (planOf bs) (gateAt bs g)) (drop from (numbers coins))) at old old at
   unfolding coinOwnersAt dealingsAt flatMap
   own-scale a c e = none-own (Scale a c) e refl
 
-  pub own-offset : (a c : ℕ) → gate ≡ Offset a c → Wrote 7 (ownOf i (coinOwnersAt (planOf bs) (gateAt bs g)) (drop from (numbers coins))) at old old at
+  pub own-offset : (a c : ℕ) → gate ≡ Offset a c → Wrote 14 (ownOf i (coinOwnersAt (planOf bs) (gateAt bs g)) (drop from (numbers coins))) at old old at
   unfolding coinOwnersAt dealingsAt flatMap
   own-offset a c e = none-own (Offset a c) e refl
 
-  pub own-spend : (a b : ℕ) → gate ≡ Spend a b → Wrote 7 (ownOf i (coinOwnersAt (planOf bs) (gateAt bs g)) (drop from (numbers coins))) at old old at
+  pub own-spend : (a b : ℕ) → gate ≡ Spend a b → Wrote 14 (ownOf i (coinOwnersAt (planOf bs) (gateAt bs g)) (drop from (numbers coins))) at old old at
   unfolding coinOwnersAt dealingsAt flatMap
   own-spend a b e = none-own (Spend a b) e refl
 
@@ -672,7 +672,7 @@ pub ruleset drawing = (needs, coins-few, input-room, multiply-room, random-room,
 
 -- ---- a party's own coins
 pub record Owning (bs cs : List ℕ) (i at : ℕ) (old new : List ℕ) (next from g : ℕ) : Type 0 where
-  pub left : Left (ownCoins (planOf bs) i cs) at old new next (ownOf i (flatMap (coinOwnersAt (planOf bs)) (drop g (planOf bs .gates))) (drop from cs)) (7 * g)
+  pub left : Left (ownCoins (planOf bs) i cs) at old new next (ownOf i (flatMap (coinOwnersAt (planOf bs)) (drop g (planOf bs .gates))) (drop from cs)) (14 * g)
   pub drawn : Drawn bs from g
 
 pub coins-none : (bs cs : List ℕ) (i at : ℕ) (old : List ℕ) → Owning bs cs i at old old at 0 0
@@ -681,20 +681,20 @@ coins-none bs cs i at old = record { left = left-none _ at old _ refl; drawn = d
 
 module _ (bs : List ℕ) (h : Header) (cs : List ℕ) (i at : ℕ) (old new : List ℕ) (next from g : ℕ) (s : Owning bs cs i at old new next from g) (pl : Planned bs h) where
   pub coins-drawn :
-      (d : ℕ) (new′ : List ℕ) (next′ : ℕ) → g < h .gates → d ≡ length (coinOwnersAt (planOf bs) (gateAt bs g)) → d ≤ 105
-      → Wrote 7 (ownOf i (coinOwnersAt (planOf bs) (gateAt bs g)) (drop from cs)) next new new′ next′ → length new′ ≡ length new → Owning bs cs i at old new′ next′ (from + d) (g + 1)
+      (d : ℕ) (new′ : List ℕ) (next′ : ℕ) → g < h .gates → d ≡ length (coinOwnersAt (planOf bs) (gateAt bs g)) → d ≤ 406
+      → Wrote 14 (ownOf i (coinOwnersAt (planOf bs) (gateAt bs g)) (drop from cs)) next new new′ next′ → length new′ ≡ length new → Owning bs cs i at old new′ next′ (from + d) (g + 1)
   unfolding flatMap
   coins-drawn d new′ next′ l ed m w n =
       record {
         left =
-            left-then _ at old new next _ (7 * g) (s .left) 7 _ _ new′ next′ (7 * (g + 1))
+            left-then _ at old new next _ (14 * g) (s .left) 14 _ _ new′ next′ (14 * (g + 1))
             (rw (gates-from pl g (gateAt bs g) l refl) (own-step i d from (coinOwnersAt (planOf bs) (gateAt bs g)) (flatMap (coinOwnersAt (planOf bs)) (drop (g + 1) (planOf bs .gates))) cs ed)) w n (omega arith);
         drawn = draw-next bs h from g (s .drawn) pl l d ed m;
       }
 
-  pub coins-end : h .gates ≤ g → Wrote 7168 (ownCoins (planOf bs) i cs) at old new next
+  pub coins-end : h .gates ≤ g → Wrote 14336 (ownCoins (planOf bs) i cs) at old new next
   unfolding ownOf flatMap
-  coins-end l = left-end _ at old new next _ (7 * g) (s .left) 7168 (rw (gates-end pl g l)) (omega (arith, s .drawn .within))
+  coins-end l = left-end _ at old new next _ (14 * g) (s .left) 14336 (rw (gates-end pl g l)) (omega (arith, s .drawn .within))
 
 pub coins-room :
     (bs : List ℕ) (h : Header) (coins : List ℕ) (i at : ℕ) (old new : List ℕ) (next from g : ℕ) → Owning bs (numbers coins) i at old new next from g → Planned bs h → g < h .gates
@@ -733,8 +733,8 @@ module _
         here = rw (add-one) (omega (arith, s .here, mul-suc (h .t) d));
       }
 
-  pub pieces-end : h .t + h .t + 1 ≤ d → Wrote 15 (tab (pieceIn h table a b cs from ws) (h .t + h .t + 1)) at old new next
-  pieces-end l = tab-done (pieceIn h table a b cs from ws) (h .t + h .t + 1) at old new next d (s .tabbed) 15 l (omega (arith, r .threshold, r .few))
+  pub pieces-end : 2 * h .t < h .n → h .t + h .t + 1 ≤ d → Wrote 15 (tab (pieceIn h table a b cs from ws) (h .t + h .t + 1)) at old new next
+  pieces-end two l = tab-done (pieceIn h table a b cs from ws) (h .t + h .t + 1) at old new next d (s .tabbed) 15 l (omega (arith, r .few))
 
   module _ (coins : List ℕ) (room : from + h .t * (h .t + h .t + 1) ≤ length coins / 2) (l : d < h .t + h .t + 1) where
     pub piece-room : place + h .t ≤ length coins / 2
@@ -777,7 +777,12 @@ module _ (bs : List ℕ) (h : Header) (table cs : List ℕ) (from : ℕ) (ws : L
   unfolding piecesIn
   multiply-pieces a b new next e w = rw (← is, e) w
 
-pub ruleset gate-pieces = (needs, no-input-pieces, no-add-pieces, no-scale-pieces, no-offset-pieces, no-random-pieces, no-spend-pieces, multiply-pieces, multiply-room)
+-- a gate that multiplies has its majority
+pub pieces-majority : (bs : List ℕ) (h : Header) (g : ℕ) (gate : Gate) (a b : ℕ) → Planned bs h → g < h .gates → gate ≡ gateAt bs g → gate ≡ Multiply a b → 2 * h .t < h .n
+unfolding multiplying isKind kindOf
+pieces-majority bs h g gate a b pl l is e = gate-majority bs h pl g gate l is (ap multiplying e)
+
+pub ruleset gate-pieces = (needs, pieces-majority, no-input-pieces, no-add-pieces, no-scale-pieces, no-offset-pieces, no-random-pieces, no-spend-pieces, multiply-pieces, multiply-room)
 
 -- ---- the mail of all gates' steps
 pub record Stepping (bs : List ℕ) (h : Header) (table cs ws : List ℕ) (at : ℕ) (old new : List ℕ) (next from g : ℕ) : Type 0 where
@@ -790,7 +795,7 @@ steps-none bs h table cs ws at old = record { left = left-none _ at old _ refl; 
 module _
     (bs : List ℕ) (h : Header) (table cs ws : List ℕ) (at : ℕ) (old new : List ℕ) (next from g : ℕ) (s : Stepping bs h table cs ws at old new next from g) (pl : Planned bs h) where
   pub steps-next :
-      (d : ℕ) (new′ : List ℕ) (next′ : ℕ) → g < h .gates → d ≡ length (coinOwnersAt (planOf bs) (gateAt bs g)) → d ≤ 105
+      (d : ℕ) (new′ : List ℕ) (next′ : ℕ) → g < h .gates → d ≡ length (coinOwnersAt (planOf bs) (gateAt bs g)) → d ≤ 406
       → Wrote 15 (piecesIn h table cs from ws (gateAt bs g)) next new new′ next′ → length new′ ≡ length new → Stepping bs h table cs ws at old new′ next′ (from + d) (g + 1)
   unfolding stepsIn
   steps-next d new′ next′ l ed m w n =
@@ -814,7 +819,7 @@ steps-room bs h table coins ws at old new next from g s pl l full = draw-room bs
 pub ruleset stepping = (needs, steps-none, steps-next, steps-end, steps-room)
 
 -- ---- the powers of a point
-module _ (t : ℕ) (few : t ≤ 7) (row : List ℕ) (l : length row ≡ 8) where
+module _ (t : ℕ) (few : t ≤ 14) (row : List ℕ) (l : length row ≡ 16) where
   pub row-count : t + 1 ≡ length (take (t + 1) row)
   row-count = sym (length-take-le (t + 1) row (omega arith))
 
@@ -845,7 +850,7 @@ module _ (bs : List ℕ) (h : Header) (pl : Planned bs h) (i : ℕ) (from1 : 1 �
     pub powers-of : (k : ℕ) (r : List ℕ) → take k r ≡ powers (h .field .p) (getD all (i - 1) 0) k → take k r ≡ powers (h .field .p) (pointOf (planOf bs) i) k
     powers-of k r q = q ∙ ap (λ (x : ℕ). powers (h .field .p) x k) point-at
 
-pub few-powers : (bs : List ℕ) (h : Header) → Planned bs h → h .t ≤ 7
-few-powers bs h pl = omega (arith, pl .majority, pl .n-high)
+pub few-powers : (bs : List ℕ) (h : Header) → Planned bs h → h .t ≤ 14
+few-powers bs h pl = omega (arith, pl .threshold, pl .n-high)
 
 pub ruleset powering = (needs, planned-ready, few-powers, row-count, power-front, point-below, powers-of)

@@ -67,7 +67,7 @@ pub record Running (h : Header) (table : List ℕ) : Type 0 where
   pub ready : Ready (h .field .p)
   pub some : 1 ≤ h .n
   pub few : h .n ≤ 15
-  pub threshold : 2 * h .t < h .n
+  pub threshold : h .t < h .n
   pub gates : h .gates ≤ 1024
   pub flat : Flat (h .field .p) (h .n) (h .gates) table
 

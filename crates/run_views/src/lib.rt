@@ -321,10 +321,10 @@ fn write_results(
 
 // The t coins from number `from` on.
 fn put_coins(t: usize, coins: &[u8], from: usize, at: usize, out: &mut [u8]) -> usize
-    requires { ⌜ t ≤ 7 ⌝ }
+    requires { ⌜ t ≤ 14 ⌝ }
     requires { ⌜ from + t ≤ length (now coins) / width ⌝ }
     requires { ⌜ at ≤ 1500000 ⌝ }
-    ensures { λ r. ⌜ Wrote 7 (take t (drop from (numbers (now (coins .entry))))) at (now (out .entry)) (now (out .exit)) r ⌝ }
+    ensures { λ r. ⌜ Wrote 14 (take t (drop from (numbers (now (coins .entry))))) at (now (out .entry)) (now (out .exit)) r ⌝ }
 {
     let mut next = at;
     let mut j: usize = 0;
@@ -345,11 +345,11 @@ fn put_block(
     at: usize,
     out: &mut [u8],
 ) -> usize
-    requires { ⌜ t ≤ 7 ⌝ }
+    requires { ⌜ t ≤ 14 ⌝ }
     requires { ⌜ 1 ≤ i ⌝ }
     requires { ⌜ from + t * m ≤ length (now coins) / width ⌝ }
     requires { ⌜ at ≤ 1500000 ⌝ }
-    ensures { λ r. ⌜ Wrote 7 (cond (leb i m) (take t (drop (from + t * (i - 1)) (numbers (now (coins .entry))))) []) at (now (out .entry)) (now (out .exit)) r ⌝ }
+    ensures { λ r. ⌜ Wrote 14 (cond (leb i m) (take t (drop (from + t * (i - 1)) (numbers (now (coins .entry))))) []) at (now (out .entry)) (now (out .exit)) r ⌝ }
 {
     if i <= m {
         return put_coins(t, coins, from + t * (i - 1), at, out);
@@ -367,10 +367,10 @@ fn put_dealing(
     at: usize,
     out: &mut [u8],
 ) -> usize
-    requires { ⌜ t ≤ 7 ⌝ }
+    requires { ⌜ t ≤ 14 ⌝ }
     requires { ⌜ from + t ≤ length (now coins) / width ⌝ }
     requires { ⌜ at ≤ 1500000 ⌝ }
-    ensures { λ r. ⌜ Wrote 7 (cond (eqb i s) (take t (drop from (numbers (now (coins .entry))))) []) at (now (out .entry)) (now (out .exit)) r ⌝ }
+    ensures { λ r. ⌜ Wrote 14 (cond (eqb i s) (take t (drop from (numbers (now (coins .entry))))) []) at (now (out .entry)) (now (out .exit)) r ⌝ }
 {
     if i == s {
         return put_coins(t, coins, from, at, out);
@@ -393,7 +393,7 @@ fn put_own(
     requires { ⌜ 1 ≤ i ⌝ }
     requires { ⌜ from + length (coinOwnersAt (planOf (now plan)) (gateAt (now plan) g)) ≤ length (now coins) / width ⌝ }
     requires { ⌜ at ≤ 1500000 ⌝ }
-    ensures { λ r. ⌜ Wrote 7 (ownOf i (coinOwnersAt (planOf (now (plan .entry))) (gateAt (now (plan .entry)) g)) (drop from (numbers (now (coins .entry))))) at (now (out .entry)) (now (out .exit)) r ⌝ }
+    ensures { λ r. ⌜ Wrote 14 (ownOf i (coinOwnersAt (planOf (now (plan .entry))) (gateAt (now (plan .entry)) g)) (drop from (numbers (now (coins .entry))))) at (now (out .entry)) (now (out .exit)) r ⌝ }
 {
     let t = h.t;
     match plan::gate_at(plan, g) {
@@ -413,7 +413,7 @@ fn write_coins(plan: &[u8], h: Header, i: usize, coins: &[u8], at: usize, out: &
     requires { ⌜ 1 ≤ i ⌝ }
     requires { ⌜ length (numbers (now coins)) ≡ coinCount (planOf (now plan)) ⌝ }
     requires { ⌜ at ≤ 1000000 ⌝ }
-    ensures { λ r. ⌜ Wrote 7168 (ownCoins (planOf (now (plan .entry))) i (numbers (now (coins .entry)))) at (now (out .entry)) (now (out .exit)) r ⌝ }
+    ensures { λ r. ⌜ Wrote 14336 (ownCoins (planOf (now (plan .entry))) i (numbers (now (coins .entry)))) at (now (out .entry)) (now (out .exit)) r ⌝ }
 {
     let mut next = at;
     let mut from: usize = 0;
@@ -432,7 +432,7 @@ fn write_coins(plan: &[u8], h: Header, i: usize, coins: &[u8], at: usize, out: &
 fn dealt(f: Field, m: u64, t: usize, powers: &[u64], s: u64, coins: &[u8], from: usize) -> u64
     requires { ⌜ Ready (f .p) ⌝ }
     requires { ⌜ m ≡ reciprocal (f .p) ⌝ }
-    requires { ⌜ t ≤ 7 ⌝ }
+    requires { ⌜ t ≤ 14 ⌝ }
     requires { ⌜ length (now powers) ≡ t + 1 ⌝ }
     requires { ⌜ allBelow (f .p) (now powers) ≡ true ⌝ }
     requires { ⌜ s < f .p ⌝ }
@@ -505,6 +505,7 @@ fn put_pieces(
     at: usize,
     out: &mut [u8],
 ) -> usize
+    requires { ⌜ 2 * h .t < h .n ⌝ }
     requires { ⌜ Running h (now table) ⌝ }
     requires { ⌜ PowerRow h (now powers) ⌝ }
     requires { ⌜ allBelow (h .field .p) (numbers (now coins)) ≡ true ⌝ }
@@ -540,6 +541,7 @@ fn put_steps(
     out: &mut [u8],
 ) -> usize
     requires { ⌜ Planned (now plan) h ⌝ }
+    requires { ⌜ g < h .gates ⌝ }
     requires { ⌜ Running h (now table) ⌝ }
     requires { ⌜ PowerRow h (now powers) ⌝ }
     requires { ⌜ allBelow (h .field .p) (numbers (now coins)) ≡ true ⌝ }
@@ -588,13 +590,13 @@ fn write_steps(
 // ---- views
 
 // The powers of party i's point, t + 1 of them.
-fn power_row(plan: &[u8], h: Header, i: usize) -> [u64; 8]
+fn power_row(plan: &[u8], h: Header, i: usize) -> [u64; 16]
     requires { ⌜ Planned (now plan) h ⌝ }
     requires { ⌜ (1 ≤ i) × (i ≤ h .n) ⌝ }
     ensures { λ r. ⌜ take (h .t + 1) r ≡ powers (h .field .p) (pointOf (planOf (now (plan .entry))) i) (h .t + 1) ⌝ }
 {
     let points = seat_messages::points_of(plan, h);
-    let mut row = [0u64; 8];
+    let mut row = [0u64; 16];
     let k = h.t + 1;
     run_dealings::powers(h.field, points[i - 1], &mut row[..k]);
     row
@@ -640,7 +642,7 @@ fn write_view(
     requires { ⌜ 1 ≤ i ⌝ }
     requires { ⌜ i ≤ h .n ⌝ }
     requires { ⌜ at ≤ 800000 ⌝ }
-    ensures { λ r. ⌜ Wrote 39936 (viewIn (planOf (now (plan .entry))) h (now (table .entry)) (numbers (now (inputs .entry))) (numbers (now (coins .entry))) i) at (now (out .entry)) (now (out .exit)) r ⌝ }
+    ensures { λ r. ⌜ Wrote 47104 (viewIn (planOf (now (plan .entry))) h (now (table .entry)) (numbers (now (inputs .entry))) (numbers (now (coins .entry))) i) at (now (out .entry)) (now (out .exit)) r ⌝ }
 {
     let a = write_inputs(plan, h, i, inputs, at, out);
     let b = write_coins(plan, h, i, coins, a, out);
@@ -666,7 +668,7 @@ fn write_member(
     requires { ⌜ 1 ≤ i ⌝ }
     requires { ⌜ i ≤ 16 ⌝ }
     requires { ⌜ at ≤ 800000 ⌝ }
-    ensures { λ r. ⌜ Wrote 39936 (cond (inSet set i) (viewIn (planOf (now (plan .entry))) h (now (table .entry)) (numbers (now (inputs .entry))) (numbers (now (coins .entry))) i) []) at (now (out .entry)) (now (out .exit)) r ⌝ }
+    ensures { λ r. ⌜ Wrote 47104 (cond (inSet set i) (viewIn (planOf (now (plan .entry))) h (now (table .entry)) (numbers (now (inputs .entry))) (numbers (now (coins .entry))) i) []) at (now (out .entry)) (now (out .exit)) r ⌝ }
 {
     if !plan_coalition::is_member(set, i) {
         return at;

@@ -97,7 +97,7 @@ module _ (bs : List ℕ) (h : Header) (k : Planned bs h) (own : ℕ) where
     points-long = ap length is ∙ plan-points-long bs h k
 
     pub points-over : h .t < length points
-    points-over = omega (arith, points-long, k .majority)
+    points-over = omega (arith, points-long, k .threshold)
 
     pub points-few : length points ≤ 65536
     points-few = omega (arith, points-long, k .n-high)
@@ -129,13 +129,13 @@ pub ruleset each = (needs, trying)
 
 -- the room of the opening rows
 module _ (bs : List ℕ) (h : Header) (k : Planned bs h) where
-  used-small : (h .t + 1) * h .n ≤ 120
-  used-small = mul-le-mul {n₁ = h .t + 1} {m₁ = h .n} {n₂ = 8} {m₂ = 15} (omega (arith, k .majority, k .n-high)) (k .n-high)
+  used-small : (h .t + 1) * h .n ≤ 225
+  used-small = mul-le-mul {n₁ = h .t + 1} {m₁ = h .n} {n₂ = 15} {m₂ = 15} (omega (arith, k .threshold, k .n-high)) (k .n-high)
 
   pub used-fits : Fits w64 ((h .t + 1) * h .n)
   used-fits = record { fits = omega (arith, used-small) }
 
-  module _ (room : List ℕ) (size : length room ≡ 120) where
+  module _ (room : List ℕ) (size : length room ≡ 225) where
     pub used-within : (h .t + 1) * h .n ≤ length room
     used-within = omega (arith, used-small)
 
@@ -146,7 +146,7 @@ module _ (bs : List ℕ) (h : Header) (k : Planned bs h) where
     pub opened-below : allBelow (h .field .p) points ≡ true
     opened-below = rw is (plan-points-below bs h k)
 
-    pub used-rows : (room : List ℕ) → length room ≡ 120 → length (take ((h .t + 1) * h .n) room) ≡ (h .t + 1) * length points
+    pub used-rows : (room : List ℕ) → length room ≡ 225 → length (take ((h .t + 1) * h .n) room) ≡ (h .t + 1) * length points
     used-rows room size = rw (points-long bs h k 0 points is) (sym (used-count room size))
 
     module _ (room ys : List ℕ) (e : ys ≡ openingRows (h .field .p) (h .t) points) where

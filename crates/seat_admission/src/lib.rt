@@ -150,7 +150,7 @@ fn check_each_in(
     requires { ⌜ Planned (now plan) h ⌝ }
     requires { ⌜ own ≤ 64 ⌝ }
     requires { ⌜ now points ≡ planOf (now plan) .points ⌝ }
-    requires { ⌜ length (now room) ≡ 120 ⌝ }
+    requires { ⌜ length (now room) ≡ 225 ⌝ }
     requires { ⌜ allBelow (h .field .p) (numbers (now mail)) ≡ true ⌝ }
     ensures { λ r. ⌜ r ≡ firstOf (tab (outCheck (planOf (now (plan .entry))) own (numbers (now (mail .entry)))) own) ⌝ }
 {
@@ -168,7 +168,7 @@ fn check_each_of(plan: &[u8], h: Header, own: usize, mail: &[u8]) -> Checked
 {
     let n = h.n;
     let points = seat_messages::points_of(plan, h);
-    let mut room: [u64; 120] = [0; 120];
+    let mut room: [u64; 225] = [0; 225];
     check_each_in(plan, h, &points[..n], &mut room, own, mail)
 }
 

@@ -40,13 +40,13 @@ use Rattle.plan.specs.declared.Gate.the-variants.{Input, Add, Scale, Offset, Mu
 use Rattle.plan.specs.declared.Step.{Step}
 use Rattle.plan.specs.declared.Step.the-variants.{DealInputs, DealProduct, DealZero, DealMasked, SendTruncated, DealDraws, OpenSpent, SendOuts}
 use Rattle.plan.specs.declared.Header.{Header}
-use Rattle.plan.specs.Plans.{Plan, parties, dealerPoints, kindOf, isInputOf, wiresFrom, inputWires}
+use Rattle.plan.specs.Plans.{Plan, parties, dealerPoints, kindOf, isKind, multiplying, isInputOf, wiresFrom, inputWires}
 use Rattle.plan.specs.File.{gateAt, planOf}
 use Rattle.plan.specs.Planned.{Planned}
 use Rattle.plan.proofs.Wires.{length-inputWires}
-use Rattle.plan.proofs.Planned.{plan-p, plan-n, plan-dealers, plan-gates, plan-gate}
-use Rattle.plan.proofs.Valid.{planned-ready, gate-kept, scale-constant, offset-constant}
-use Rattle.plan_counts.specs.Counts.{Stepped}
+use Rattle.plan.proofs.Planned.{plan-t, plan-p, plan-n, plan-dealers, plan-gates, plan-gate}
+use Rattle.plan.proofs.Valid.{valid, planned-ready, gate-kept, scale-constant, offset-constant}
+use Rattle.plan_counts.specs.Counts.{IsGate, Stepped}
 use Rattle.plan_counts.proofs.Steps.{stepped-product}
 use Rattle.seat_learning.specs.Lent.{Holds, reducedFrom}
 use Rattle.seat_messages.specs.Messages.{workGate, workFrom, setAll, wiresByParty, learnt, resumeAt, learnFrom}
@@ -291,9 +291,9 @@ dot-read p l (w ∷ ws) vs zero h = absurd (omega arith)
 dot-read p l (w ∷ ws) [] (suc m) h = rw (dot-read p l ws [] m (omega arith), dot-nil p ws) (add-zeros p w l)
 dot-read p l (w ∷ ws) (v ∷ vs) (suc m) h = rw (dot-read p l ws vs m (omega arith))
 
-module _ (bs : List ℕ) (h : Header) (k : Planned bs h) where
+module _ (bs : List ℕ) (h : Header) (k : Planned bs h) (two : 2 * h .t < h .n) where
   dealers-few : h .t + h .t + 1 ≤ h .n
-  dealers-few = omega (arith, k .majority)
+  dealers-few = omega arith
 
   dealers-fifteen : h .t + h .t + 1 ≤ 15
   dealers-fifteen = omega (arith, dealers-few, k .n-high)
@@ -337,10 +337,18 @@ module _ (bs : List ℕ) (h : Header) (k : Planned bs h) where
     pub reduced-is : (r : ℕ) → Is (h .field .p) (opened (h .field .p) (h .t + h .t) (take (h .t + h .t + 1) points) (take (h .t + h .t + 1) pieces)) r → Is (h .field .p) (reducedFrom (planOf bs) (numbers mail)) r
     reduced-is r i = record { eq = i .eq ∙ same-opening; lt = i .lt }
 
+module _ (bs : List ℕ) (h : Header) (k : Planned bs h) where
   pub product-set : (g v : ℕ) (mail s d : List ℕ) → Is (h .field .p) (reducedFrom (planOf bs) (numbers mail)) v → allBelow (h .field .p) (numbers s) ≡ true → d ≡ stored s g v
       → Holds (h .field .p) (set (numbers s) g (reducedFrom (planOf bs) (numbers mail))) d
   product-set g v mail s d i b q =
       written-holds (h .field .p) s d (set (numbers s) g (reducedFrom (planOf bs) (numbers mail))) g v (k .p-high) b (i .lt) q (rw (i .eq))
+
+  -- a product's step has its majority
+  pub product-majority : (step : Step) (g a b : ℕ) → Stepped (planOf bs) step → step ≡ DealProduct g a b → 2 * h .t < h .n
+  unfolding multiplying isKind kindOf
+  product-majority step g a b i e =
+      let at : IsGate (planOf bs) g (Multiply a b) = stepped-product (planOf bs) step g a b i e in
+      omega (arith, valid bs (k .passes) .majority g (at .within) (ap multiplying (at .is)), plan-t k, plan-n k)
 
 pub ruleset reducing = (needs, dealers-within, dealers-long, dealers-count, pieces-openable, reduced-is, product-set)
 
@@ -382,7 +390,7 @@ module _ (plan : Plan) (p : ℕ) (step : Step) (i : Stepped plan step) (mail s :
   unfolding learnt
   learnt-outs e = record { eq = rw e; below = b }
 
-pub ruleset learning-mail = (needs, learnt-inputs, learnt-product, learnt-zero, learnt-masked, learnt-truncated, learnt-draws, learnt-spent, learnt-outs)
+pub ruleset learning-mail = (needs, product-majority, learnt-inputs, learnt-product, learnt-zero, learnt-masked, learnt-truncated, learnt-draws, learnt-spent, learnt-outs)
 
 -- ---- where the work goes on
 module _ (plan : Plan) (step : Step) where

@@ -5,7 +5,7 @@ use plan::Step;
 ghost use mathlib.Core.Path.{_≡_};
 ghost use mathlib.Core.Bool.{true, cond};
 ghost use mathlib.Core.List.{[]};
-ghost use Prim.Native.Nat.{_<_, _≤_, _+_};
+ghost use Prim.Native.Nat.{_<_, _≤_, _+_, _*_};
 ghost use lib.ListN.{length, drop, getD, set};
 ghost use Rattle.numbers.specs.Bytes.{numbers, allBelow};
 ghost use Rattle.numbers.specs.Tables.{tab};
@@ -151,6 +151,7 @@ fn first_numbers(s: &[u8]) -> [u64; 15]
 // A multiply's share from its dealers' pieces: the opening at 0 from the first 2t + 1 points.
 fn reduced(plan: &[u8], h: Header, mail: &[u8]) -> u64
     requires { ⌜ Planned (now plan) h ⌝ }
+    requires { ⌜ 2 * h .t < h .n ⌝ }
     requires { ⌜ allBelow (h .field .p) (numbers (now mail)) ≡ true ⌝ }
     ensures { λ r. ⌜ Is (h .field .p) (reducedFrom (planOf (now (plan .entry))) (numbers (now (mail .entry)))) r ⌝ }
 {
@@ -163,6 +164,7 @@ fn reduced(plan: &[u8], h: Header, mail: &[u8]) -> u64
 // Learns wire g from the pieces of its product.
 fn learn_product(plan: &[u8], h: Header, g: usize, mail: &[u8], shares: &mut [u8])
     requires { ⌜ Planned (now plan) h ⌝ }
+    requires { ⌜ 2 * h .t < h .n ⌝ }
     requires { ⌜ allBelow (h .field .p) (numbers (now mail)) ≡ true ⌝ }
     requires { ⌜ allBelow (h .field .p) (numbers (now shares)) ≡ true ⌝ }
     ensures { λ _. ⌜ Holds (h .field .p) (set (numbers (now (shares .entry))) g (reducedFrom (planOf (now (plan .entry))) (numbers (now (mail .entry))))) (now (shares .exit)) ⌝ }

@@ -128,7 +128,7 @@ pub ruleset opening-all = (needs, openings-ready, open-none, open-next, open-don
 -- ---- by the weights of the first t + 1 points
 module _ (bs : List ℕ) (h : Header) (w : Planned bs h) (pts : List ℕ) (e : take (h .n) pts ≡ planOf bs .points) where
   low : h .t + 1 ≤ h .n
-  low = omega (arith, w .majority)
+  low = omega (arith, w .threshold)
 
   pub firsts-in : h .t + 1 ≤ length pts
   firsts-in = points-within bs h w pts e (h .t + 1) low
@@ -168,7 +168,7 @@ module _ (bs : List ℕ) (h : Header) (w : Planned bs h) (pts : List ℕ) (e : t
     weights-open mail m = record {
       ready = planned-ready _ _ w;
       few = w .n-high;
-      short = omega (arith, weights-long, w .majority);
+      short = omega (arith, weights-long, w .threshold);
       weights-below = rw (front, is) (weights-below (planned-ready _ _ w .prime) 0 (take (h .t + 1) pts));
       mail-below = rw (← plan-p w) m;
     }

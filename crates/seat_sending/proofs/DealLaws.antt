@@ -25,15 +25,15 @@ use Rattle.seat_sending.specs.Sending.{Dealing, coinsFrom}
 -- the invariant: the dealt value and j coins stand
 pub record Begun (s : ℕ) (cs : List ℕ) (at t : ℕ) (d : List ℕ) (j : ℕ) : Type 0 where
   pub within : j ≤ t
-  pub long : length d ≡ 8
+  pub long : length d ≡ 16
   pub front : take (j + 1) d ≡ s ∷ coinsFrom j at cs
 
-pub begin-secret : (s : ℕ) (cs : List ℕ) (at t : ℕ) (d : List ℕ) → length d ≡ 8 → Begun s cs at t (set d 0 s) 0
+pub begin-secret : (s : ℕ) (cs : List ℕ) (at t : ℕ) (d : List ℕ) → length d ≡ 16 → Begun s cs at t (set d 0 s) 0
 unfolding coinsFrom tab
 begin-secret s cs at t d e = record { within = omega arith; long = length-set d 0 s ∙ e; front = take-suc-set d 0 s (omega arith) }
 
 module _ (s : ℕ) (cs : List ℕ) (at t : ℕ) (d : List ℕ) (j : ℕ) (h : Begun s cs at t d j) where
-  pub begin-coin : (v : ℕ) → t ≤ 7 → j < t → v ≡ getD cs (at + j) 0 → Begun s cs at t (set d (j + 1) v) (j + 1)
+  pub begin-coin : (v : ℕ) → t ≤ 14 → j < t → v ≡ getD cs (at + j) 0 → Begun s cs at t (set d (j + 1) v) (j + 1)
   unfolding coinsFrom
   begin-coin v few l e = record {
     within = omega arith;

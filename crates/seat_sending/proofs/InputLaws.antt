@@ -156,7 +156,7 @@ module _ (bs : List ℕ) (i : ℕ) (inputs coins : List ℕ) (x at : ℕ) where
         coins-at (planOf bs) i g (getD (planOf bs .gates) g (Input 0)) gate-is (input-coins (planOf bs) i (getD (planOf bs .gates) g (Input 0)) e) (numbers coins) many
         ∙ ap₂ (λ (t m : ℕ). coinsFrom t m (numbers coins)) (plan-t w) (sym (v .passed .is))
 
-    pub inputs-near : k ≤ 7168
+    pub inputs-near : k ≤ 14336
     inputs-near = coin-few bs i (length (planOf bs .gates)) h k g w (omega (arith, plan-gates w)) (v .passed)
 
     -- what a gate adds
@@ -182,7 +182,7 @@ module _ (bs : List ℕ) (i : ℕ) (inputs coins : List ℕ) (x at : ℕ) where
 
     pub inputs-next : (gate : Gate) (s b next : ℕ) (d′ : List ℕ) → gate ≡ gateAt bs g → s ≡ getD (numbers inputs) (place - at) 0
         → Sent (cond (isInputOf i gate) (eval (h .field .p) (s ∷ coinsFrom (h .t) k (numbers coins)) x ∷ []) []) place d d′ next
-        → b ≡ countWhere (eqb i) (coinOwnersAt (planOf bs) gate) → b ≤ 7
+        → b ≡ countWhere (eqb i) (coinOwnersAt (planOf bs) gate) → b ≤ 14
         → Inputting bs i inputs coins x at d₀ d′ next (k + b) (g + 1)
     inputs-next gate s b next d′ eg es to eb few = record {
       low = omega (arith, v .low, to .place);
@@ -194,7 +194,7 @@ module _ (bs : List ℕ) (i : ℕ) (inputs coins : List ℕ) (x at : ℕ) where
     pub inputs-dealing : (s : ℕ) → s ≡ getD (numbers inputs) (place - at) 0 → Dealing (h .field .p) (h .t) s (numbers coins) k
     inputs-dealing s es = record {
       ready = planned-ready _ _ w;
-      few = omega (arith, w .majority, w .n-high);
+      few = omega (arith, w .threshold, w .n-high);
       near = omega (arith, inputs-near);
       secret = rw es (entry-below (h .field .p) (numbers inputs) (place - at) (planned-ready _ _ w) (rw (← plan-p w) (own .inputs-below)));
       coins = rw (← plan-p w) (own .coined .below);

@@ -109,10 +109,10 @@ module _ (bs : List ℕ) (h : Header) (w : Planned bs h) (i g a b : ℕ) where
   pub product-shares : (shares : List ℕ) → allBelow (planOf bs .p) (numbers shares) ≡ true → allBelow (h .field .p) (numbers shares) ≡ true
   product-shares shares e = rw (← plan-p w) e
 
-  pub product-dealing : (k s v : ℕ) (coins : List ℕ) → k ≤ 7168 → Is (h .field .p) v s → Coined (planOf bs) i coins → Dealing (h .field .p) (h .t) s (numbers coins) k
+  pub product-dealing : (k s v : ℕ) (coins : List ℕ) → k ≤ 14336 → Is (h .field .p) v s → Coined (planOf bs) i coins → Dealing (h .field .p) (h .t) s (numbers coins) k
   product-dealing k s v coins l is c = record {
     ready = planned-ready _ _ w;
-    few = omega (arith, w .majority, w .n-high);
+    few = omega (arith, w .threshold, w .n-high);
     near = omega arith;
     secret = is .lt;
     coins = rw (← plan-p w) (c .below);

@@ -25,7 +25,7 @@ coinsFrom t at own = tab (λ j. getD own (at + j) 0) t
 -- what a dealing of s takes: its coins are t of the list cs from place `at` on
 pub record Dealing (p t s : ℕ) (cs : List ℕ) (at : ℕ) : Type 0 where
   pub ready : Ready p
-  pub few : t ≤ 7
+  pub few : t ≤ 14
   pub near : at ≤ 65536
   pub secret : s < p
   pub coins : allBelow p cs ≡ true

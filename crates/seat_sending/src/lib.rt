@@ -26,12 +26,12 @@ ghost use Rattle.seat_messages.specs.Messages.{callWith, sendAt};
 ghost use Rattle.seat_sending.specs.Sending.{Sent, Dealing, Coined, Own, Lent, Sendable, coinsFrom, inputShares, outShares};
 
 // The coefficients of a dealing: the dealt value, then t coins.
-fn polynomial(t: usize, secret: u64, coins: &[u8], at: usize) -> [u64; 8]
-    requires { ⌜ t ≤ 7 ⌝ }
+fn polynomial(t: usize, secret: u64, coins: &[u8], at: usize) -> [u64; 16]
+    requires { ⌜ t ≤ 14 ⌝ }
     requires { ⌜ at ≤ 65536 ⌝ }
     ensures { λ r. ⌜ take (t + 1) r ≡ secret ∷ coinsFrom t at (numbers (now (coins .entry))) ⌝ }
 {
-    let mut polynomial = [0u64; 8];
+    let mut polynomial = [0u64; 16];
     polynomial[0] = secret;
     let mut j: usize = 0;
     while j < t {

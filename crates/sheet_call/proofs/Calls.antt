@@ -1,16 +1,18 @@
 -- The sheet's checks, by what the code finds; and what it writes.
---     sheet-wired, file-checks     after 27 and 24 only 3 to 6 and 8 can fall
+--     sheet-wired, file-checks     after 27 and 24 only 3 to 6, 8 and 25 can fall
 --     measuring, compiling         what closes the needs of the functions
 -- Assumes nothing.
 use Prim.Native.Nat.{ℕ, zero, suc, _+_, _*_, _<_, _≤_}
 use mathlib.Core.Path.{_≡_, refl, sym, ap, ap₂, subst, _∙_}
 use mathlib.Core.Bool.{Bool, true, false, cond, not, _&&_}
-use mathlib.Core.List.{List, [], _∷_}
+use mathlib.Core.List.{List, [], _∷_, _++_}
 use native.Mathlib.Omega.{arith}
 use borrow.Author.Needs.{needs}
 use borrow.Author.Tests.{le-leb, lt-leb, lt-ltb, ltb-true, eq-eqb, ne-eqb, not-true, not-false}
 use lib.Dec.{T, eqb, leb, ltb}
-use lib.ListN.{length, getD}
+use lib.ListN.{length, getD, take, drop}
+use mir.Syntax.{w32}
+use mir.Val.{Fits}
 use Rattle.numbers.specs.declared.Found.the-variants.{At, Nothing}
 use Rattle.numbers.specs.Tables.{firstFrom, firstFailing}
 use Rattle.field.proofs.Primes.{prime-sound}
@@ -20,11 +22,12 @@ use Rattle.plan.specs.declared.Refusal.{Refusal}
 use Rattle.plan.specs.declared.Refusal.the-variants as refusal
 use Rattle.plan.specs.declared.Output.{Output}
 use Rattle.plan.specs.Refusals.{andThen, firstOf, need, unlessFound}
-use Rattle.plan.specs.File.{between, outOk, partiesOk, thresholdOk, modulusOk, planCheck}
-use Rattle.plan.proofs.Refusals.{firstOf-append, andThen-passed, andThen-refused, passed-both, passed-need}
+use Rattle.plan.specs.File.{between, outOk, partiesOk, thresholdOk, modulusOk, majorityCheck, planCheck}
+use Rattle.plan.proofs.Refusals.{firstOf-append, andThen-assoc, andThen-passed, andThen-refused, passed-both, passed-need}
 use Rattle.plan.proofs.Planned.{between-true, modulus-prime, modulus-small}
 use Rattle.plan_file.specs.Bodies.{Bodies, fileSize, planFile, contentChecks, outMade}
-use Rattle.plan_file.proofs.Files.{Wired, file-long, file-check-outs}
+use Rattle.plan_file.proofs.Files.{Wired, file-long, file-check-outs, file-majority}
+use Rattle.plan_file.proofs.Rooms.{room-long, room-majority, rooms}
 use Rattle.seat_messages.specs.Calls.{unlessRefused}
 use Rattle.sheet_text.specs.Trees.{namesOf, gateCount}
 use Rattle.sheet_text.specs.Making.{sheetTree, sheetOk, treeMade, bodiesWith, treeBodies}
@@ -37,7 +40,7 @@ use Rattle.sheet_write.proofs.Passing.{up-is, up-le, up-few, fresh}
 use Rattle.sheet_call.specs.declared.Sheet.{Sheet}
 use Rattle.sheet_call.specs.declared.Sheet.the-variants as measured
 use Rattle.sheet_call.specs.Compiling.{sheetBodies, sheetFile, textChecks, sheetChecks, sheetAnswer, sheetAfter, measuredOf, refusalOf}
-use Rattle.sheet_call.specs.Measures.{Ready, MeasuredAs, Sized, Measuring}
+use Rattle.sheet_call.specs.Measures.{Counted, Ready, MeasuredAs, Sized, Measuring}
 
 pub measured-passed : (c : Checked) (inputs gates : ℕ) → c ≡ Passed → measured.Counts inputs gates ≡ measuredOf c inputs gates
 unfolding measuredOf
@@ -114,31 +117,38 @@ module _ (n t p i : ℕ) (text : List ℕ) (ok : sheetOk n p text ≡ true) wher
       by false = unfold unlessFound in unfold need in refl
 
   module _ (few : length (sheetBodies n p i text .gates) ≤ 1024) where
-    file-checks : planCheck (sheetFile n t p i text) ≡ andThen (firstOf (contentChecks n t p (length (sheetBodies n p i text .gates)) 1)) (need (refusal.OutputRule 0) (between 1 n i))
+    file-checks : planCheck (sheetFile n t p i text)
+        ≡ andThen (firstOf (contentChecks n t p (length (sheetBodies n p i text .gates)) 1)) (andThen (need (refusal.OutputRule 0) (between 1 n i)) (majorityCheck (sheetFile n t p i text)))
     unfolding sheetFile
     file-checks =
         file-check-outs n t p (sheetBodies n p i text) few (omega (arith, outs-count)) (λ a m. sheet-wired (prime-above n p m))
         ∙ rw outs-count (late (modulusOk n p) refl)
       where
+        major : Checked
+        major = majorityCheck (planFile n t p (sheetBodies n p i text))
+
         found : Checked
-        found = unlessFound refusal.OutputRule (firstFailing (outMade n (sheetBodies n p i text)) 1)
+        found = andThen (unlessFound refusal.OutputRule (firstFailing (outMade n (sheetBodies n p i text)) 1)) major
+
+        told : Checked
+        told = andThen (need (refusal.OutputRule 0) (between 1 n i)) major
 
         late : (z : Bool) → modulusOk n p ≡ z
-            → andThen (firstOf (contentChecks n t p (length (sheetBodies n p i text .gates)) 1)) found
-            ≡ andThen (firstOf (contentChecks n t p (length (sheetBodies n p i text .gates)) 1)) (need (refusal.OutputRule 0) (between 1 n i))
+            → andThen (firstOf (contentChecks n t p (length (sheetBodies n p i text .gates)) 1)) found ≡ andThen (firstOf (contentChecks n t p (length (sheetBodies n p i text .gates)) 1)) told
         late true m =
             let two : 2 ≤ p = prime-above n p m in
             let w = made-wire n p (sheetTree n p text) (omega arith) (sheet-below n p text (omega arith)) names-some in
-            ap (andThen (firstOf (contentChecks n t p (length (sheetBodies n p i text .gates)) 1))) (rw outs-count at (outs-are w))
+            ap (λ (c : Checked). andThen (firstOf (contentChecks n t p (length (sheetBodies n p i text .gates)) 1)) (andThen c major)) (rw outs-count at (outs-are w))
         late false m = unfold contentChecks in unfold firstOf in rw m (by (partiesOk n) (thresholdOk n t) (andThen (need refusal.Layout (between 1 1024 (length (sheetBodies n p i text .gates)) && between 1 64 1)) Passed))
           where
             by : (x y : Bool) (c : Checked) → andThen (andThen (need refusal.Parties x) (andThen (need refusal.Threshold y) (andThen (need refusal.Modulus false) c))) found
-                ≡ andThen (andThen (need refusal.Parties x) (andThen (need refusal.Threshold y) (andThen (need refusal.Modulus false) c))) (need (refusal.OutputRule 0) (between 1 n i))
+                ≡ andThen (andThen (need refusal.Parties x) (andThen (need refusal.Threshold y) (andThen (need refusal.Modulus false) c))) told
             by true true c = unfold need in unfold andThen in refl
             by true false c = unfold need in unfold andThen in refl
             by false y c = unfold need in unfold andThen in refl
 
-    text-told : firstOf (textChecks n t p i text) ≡ andThen (firstOf (contentChecks n t p (length (sheetBodies n p i text .gates)) 1)) (need (refusal.OutputRule 0) (between 1 n i))
+    text-told : firstOf (textChecks n t p i text)
+        ≡ andThen (firstOf (contentChecks n t p (length (sheetBodies n p i text .gates)) 1)) (andThen (need (refusal.OutputRule 0) (between 1 n i)) (majorityCheck (sheetFile n t p i text)))
     unfolding textChecks firstOf andThen need
     text-told = rw (ok, le-leb (length (sheetBodies n p i text .gates)) 1024 few) (unfold planCheck in file-checks)
 
@@ -152,6 +162,82 @@ module _ (n t p gates outs : ℕ) (passed : firstOf (contentChecks n t p gates o
       let c = passed-both _ _ (b .1) in
       (passed-need refusal.Parties _ (a .0), passed-need refusal.Threshold _ (b .0), passed-need refusal.Modulus _ (c .0))
 
+-- ---- 25
+module _ (text : List ℕ) (n t p i inputs gates : ℕ) (w : Compilable text n t p i inputs gates (tableOf 1025 (namesOf (sheetTree n p text)))) where
+  pub majority-fits : Fits w32 (2 * t)
+  majority-fits = record { fits = omega (arith, w .threshold) }
+
+  pub majority-passed : 2 * t < n → Passed ≡ majorityCheck (sheetFile n t p i text)
+  unfolding sheetFile
+  majority-passed l = file-majority n t p (sheetBodies n p i text) l
+
+  pub majority-gates : gates ≤ 1024
+  majority-gates = w .few
+
+  module _ (r : Survey) (names : List ℕ) (h : Surveyed n p text r names) where
+    -- no such answer
+    pub majority-wrong : r ≡ survey.Wrong → Passed ≡ majorityCheck (sheetFile n t p i text)
+    unfolding SurveyIs
+    majority-wrong e = let k : true ≡ false = sym (w .ok) ∙ (rw e at (h .is)) in absurd (let z : _≡_ {A = ℕ} 0 1 = cc in omega arith)
+
+    pub majority-again : (a b : ℕ) → r ≡ survey.Counts a b → Compilable text n t p i inputs gates names
+    unfolding SurveyIs
+    majority-again a b e = rw (table (rw e at (h .is))) w
+      where
+        table : record { ok : sheetOk n p text ≡ true; inputs-are : a ≡ upTo (length (namesOf (sheetTree n p text))); gates-are : b ≡ a + upTo (gateCount (sheetTree n p text)); table : names ≡ tableOf 1025 (namesOf (sheetTree n p text)) }
+            → names ≡ tableOf 1025 (namesOf (sheetTree n p text))
+        table k = k .table
+
+  module _ (size : ℕ) (es : size ≡ fileSize gates 1) (room : List ℕ) (long : length room ≡ 6354) (few : size ≤ 6354) where
+    pub majority-room : length (take size room) ≡ fileSize gates 1
+    majority-room = room-long size room long few ∙ es
+
+    pub majority-is : (ys : List ℕ) (c : Checked) → length ys ≡ length (take size room) → ys ≡ planFile n t p (treeBodies p i (sheetTree n p text))
+        → c ≡ majorityCheck (take size (ys ++ drop size room)) → c ≡ majorityCheck (sheetFile n t p i text)
+    unfolding sheetFile sheetBodies
+    majority-is ys c kept is e = room-majority size room long few ys kept c (planFile n t p (treeBodies p i (sheetTree n p text))) is e
+
+pub ruleset majorities = (needs, fresh, majority-fits, majority-passed, majority-gates, majority-wrong, majority-again, majority-room, majority-is, rooms)
+
+-- ---- 3 to 6, 8 and 25
+module _ (n t p i inputs gates : ℕ) (text : List ℕ) (w : Counted text n p inputs gates) where
+  plan-compilable : (names : List ℕ) → names ≡ tableOf 1025 (namesOf (sheetTree n p text))
+      → andThen (firstOf (contentChecks n t p gates 1)) (need (refusal.OutputRule 0) (between 1 n i)) ≡ Passed → Compilable text n t p i inputs gates names
+  plan-compilable names table q =
+      let both = passed-both (firstOf (contentChecks n t p gates 1)) (need (refusal.OutputRule 0) (between 1 n i)) q in
+      let parts = contents-parts n t p gates 1 (both .0) in
+      let parties : n ≤ 15 = between-true 1 15 n (parts .0) .1 in
+      let seat : i ≤ n = between-true 1 n i (passed-need (refusal.OutputRule 0) (between 1 n i) (both .1)) .1 in
+      record {
+        ok = w .ok;
+        inputs-are = w .inputs-are;
+        gates-are = w .gates-are;
+        few = w .few;
+        table = table;
+        parties = omega arith;
+        threshold = omega (arith, ltb-true t n (parts .1));
+        prime = prime-above n p (parts .2);
+        small = modulus-small n p (parts .2);
+        result = omega arith;
+      }
+
+  module _ (c d : Checked) (ec : c ≡ firstOf (contentChecks n t p gates 1)) (ed : d ≡ andThen c (need (refusal.OutputRule 0) (between 1 n i))) where
+    first : d ≡ andThen (firstOf (contentChecks n t p gates 1)) (need (refusal.OutputRule 0) (between 1 n i))
+    first = ed ∙ ap (λ (x : Checked). andThen x (need (refusal.OutputRule 0) (between 1 n i))) ec
+
+    pub plan-made : d ≡ Passed → Compilable text n t p i inputs gates (tableOf 1025 (namesOf (sheetTree n p text)))
+    plan-made q = plan-compilable (tableOf 1025 (namesOf (sheetTree n p text))) refl (sym first ∙ q)
+
+    pub plan-refused : (r : Refusal) → d ≡ Refused r
+        → d ≡ andThen (andThen (firstOf (contentChecks n t p gates 1)) (need (refusal.OutputRule 0) (between 1 n i))) (majorityCheck (sheetFile n t p i text))
+    plan-refused r q = q ∙ sym (andThen-refused _ _ r (sym first ∙ q))
+
+    pub plan-further : (e : Checked) → d ≡ Passed → e ≡ majorityCheck (sheetFile n t p i text)
+        → e ≡ andThen (andThen (firstOf (contentChecks n t p gates 1)) (need (refusal.OutputRule 0) (between 1 n i))) (majorityCheck (sheetFile n t p i text))
+    plan-further e q is = is ∙ sym (andThen-passed _ _ (sym first ∙ q))
+
+pub ruleset checking-plan = (needs, plan-made, plan-refused, plan-further)
+
 told-of : (c : Checked) (inputs gates : ℕ) → refusalOf (measuredOf c inputs gates) ≡ c
 unfolding measuredOf refusalOf
 told-of Passed inputs gates = refl
@@ -164,17 +250,17 @@ module _ (n t p i : ℕ) (text : List ℕ) (r : Survey) (names : List ℕ) (h : 
   measure-wrong e = let k : sheetOk n p text ≡ false = rw e at (h .is) in record { told = rw k; ready = tt; long = h .long }
 
   module _ (inputs gates : ℕ) (e : r ≡ survey.Counts inputs gates) where
-    record Counted : Type 0 where
+    record Told : Type 0 where
       ok : sheetOk n p text ≡ true
       inputs-are : inputs ≡ upTo (length (namesOf (sheetTree n p text)))
       gates-are : gates ≡ inputs + upTo (gateCount (sheetTree n p text))
       table : names ≡ tableOf 1025 (namesOf (sheetTree n p text))
 
-    counted : Counted
+    counted : Told
     unfolding SurveyIs
     counted = let k = counts (rw e at (h .is)) in k
       where
-        counts : record { ok : sheetOk n p text ≡ true; inputs-are : inputs ≡ upTo (length (namesOf (sheetTree n p text))); gates-are : gates ≡ inputs + upTo (gateCount (sheetTree n p text)); table : names ≡ tableOf 1025 (namesOf (sheetTree n p text)) } → Counted
+        counts : record { ok : sheetOk n p text ≡ true; inputs-are : inputs ≡ upTo (length (namesOf (sheetTree n p text))); gates-are : gates ≡ inputs + upTo (gateCount (sheetTree n p text)); table : names ≡ tableOf 1025 (namesOf (sheetTree n p text)) } → Told
         counts k = record { ok = k .ok; inputs-are = k .inputs-are; gates-are = k .gates-are; table = k .table }
 
     all : length (sheetBodies n p i text .gates) ≡ length (namesOf (sheetTree n p text)) + gateCount (sheetTree n p text)
@@ -195,28 +281,24 @@ module _ (n t p i : ℕ) (text : List ℕ) (r : Survey) (names : List ℕ) (h : 
           let g : upTo (gateCount (sheetTree n p text)) ≡ gateCount (sheetTree n p text) = up-is (gateCount (sheetTree n p text)) (omega (arith, counted .gates-are)) in
           omega (arith, all, counted .gates-are, names-are, g)
 
-      module _ (c d : Checked) (ec : c ≡ firstOf (contentChecks n t p gates 1)) (ed : d ≡ andThen c (need (refusal.OutputRule 0) (between 1 n i))) where
+      pub measure-counted : Counted text n p inputs gates
+      measure-counted = record {
+        ok = counted .ok;
+        inputs-are = names-are;
+        gates-are = sym gates-are ∙ (unfold sheetBodies in unfold treeBodies in unfold bodiesWith in refl);
+        few = few;
+      }
+
+      module _ (d : Checked) (ed : d ≡ andThen (andThen (firstOf (contentChecks n t p gates 1)) (need (refusal.OutputRule 0) (between 1 n i))) (majorityCheck (sheetFile n t p i text))) where
         told : d ≡ firstOf (textChecks n t p i text)
-        told = ed ∙ rw ec (sym (text-told n t p i text (counted .ok) (omega (arith, gates-are)) ∙ rw gates-are))
+        told =
+            ed ∙ andThen-assoc (firstOf (contentChecks n t p gates 1)) (need (refusal.OutputRule 0) (between 1 n i)) (majorityCheck (sheetFile n t p i text))
+            ∙ sym (text-told n t p i text (counted .ok) (omega (arith, gates-are)) ∙ rw gates-are)
 
         compilable : d ≡ Passed → Compilable text n t p i inputs gates names
         compilable q =
-            let both = passed-both c (need (refusal.OutputRule 0) (between 1 n i)) (sym ed ∙ q) in
-            let parts = contents-parts n t p gates 1 (sym ec ∙ both .0) in
-            let parties : n ≤ 15 = between-true 1 15 n (parts .0) .1 in
-            let seat : i ≤ n = between-true 1 n i (passed-need (refusal.OutputRule 0) (between 1 n i) (both .1)) .1 in
-            record {
-              ok = counted .ok;
-              inputs-are = names-are;
-              gates-are = sym gates-are ∙ (unfold sheetBodies in unfold treeBodies in unfold bodiesWith in refl);
-              few = few;
-              table = counted .table;
-              parties = omega arith;
-              threshold = omega (arith, ltb-true (2 * t) n (parts .1));
-              prime = prime-above n p (parts .2);
-              small = modulus-small n p (parts .2);
-              result = omega arith;
-            }
+            plan-compilable n t p i inputs gates text measure-counted names (counted .table)
+            (passed-both (andThen (firstOf (contentChecks n t p gates 1)) (need (refusal.OutputRule 0) (between 1 n i))) (majorityCheck (sheetFile n t p i text)) (sym ed ∙ q) .0)
 
         pub measure-counts : (m : Sheet) → m ≡ measuredOf d inputs gates → MeasuredAs text n t p i m names
         measure-counts m em = record { told = rw em (told-of d inputs gates ∙ told); ready = rw em (by d refl); long = h .long }
@@ -225,7 +307,7 @@ module _ (n t p i : ℕ) (text : List ℕ) (r : Survey) (names : List ℕ) (h : 
             by Passed q = unfold measuredOf in unfold Ready in compilable q
             by (Refused y) q = unfold measuredOf in unfold Ready in tt
 
-pub ruleset measuring = (needs, not-true, not-false, measured-passed, measured-refused, refusal-counts, refusal-refused, result-refused, result-no, result-yes, measure-wrong, measure-large, measure-counts)
+pub ruleset measuring = (needs, not-true, not-false, measured-passed, measured-refused, refusal-counts, refusal-refused, result-refused, result-no, result-yes, measure-wrong, measure-large, measure-counted, measure-counts)
 
 -- ---- the call
 file-size : (text : List ℕ) (n t p i inputs gates : ℕ) (names : List ℕ) → Compilable text n t p i inputs gates names → length (sheetFile n t p i text) ≡ fileSize gates 1

@@ -5,12 +5,15 @@ use sheet_write::Survey;
 ghost use mathlib.Core.Path.{_≡_};
 ghost use mathlib.Core.List.{[]};
 ghost use lib.ListN.{length};
-ghost use Rattle.plan.specs.Refusals.{andThen, need};
-ghost use Rattle.plan.specs.File.{between};
+ghost use Rattle.plan.specs.Refusals.{andThen, firstOf, need};
+ghost use Rattle.plan.specs.File.{between, majorityCheck};
+ghost use Rattle.plan_file.specs.Bodies.{contentChecks};
 ghost use Rattle.plan.specs.declared.Refusal.the-variants.{OutputRule};
-ghost use Rattle.sheet_write.specs.Passes.{tableOf};
-ghost use Rattle.sheet_call.specs.Compiling.{measuredOf, refusalOf, sheetAnswer, sheetAfter};
-ghost use Rattle.sheet_call.specs.Measures.{MeasuredAs, Measuring};
+ghost use Rattle.sheet_text.specs.Trees.{namesOf};
+ghost use Rattle.sheet_text.specs.Making.{sheetTree};
+ghost use Rattle.sheet_write.specs.Passes.{tableOf, Compilable};
+ghost use Rattle.sheet_call.specs.Compiling.{sheetFile, measuredOf, refusalOf, sheetAnswer, sheetAfter};
+ghost use Rattle.sheet_call.specs.Measures.{Counted, MeasuredAs, Measuring};
 
 // How many inputs and gates the plan has, or the refusal.
 pub enum Sheet {
@@ -29,6 +32,62 @@ fn result_checked(c: Checked, n: u32, seat: u32) -> Checked
         return Checked::Refused(Refusal::OutputRule(0));
     }
     Checked::Passed
+}
+
+// Refusal 25 of the file that would be written, which is written in a room of its own where 2t is not below n.
+fn check_majority(
+    text: &[u8],
+    n: u32,
+    t: u32,
+    p: u32,
+    seat: u32,
+    inputs: usize,
+    gates: usize,
+) -> Checked
+    requires { ⌜ Compilable (now text) n t p seat inputs gates (tableOf 1025 (namesOf (sheetTree n p (now text)))) ⌝ }
+    ensures { λ r. ⌜ r ≡ majorityCheck (sheetFile n t p seat (now (text .entry))) ⌝ }
+{
+    if 2 * t < n {
+        return Checked::Passed;
+    }
+    let mut names = [0usize; 1025];
+    let Survey::Counts(_, _) = sheet_write::survey_sheet(text, n, p, &mut names) else {
+        return Checked::Passed;
+    };
+    let size = plan_file::file_size(gates, 1);
+    let mut room = [0u8; 6354];
+    sheet_write::write_sheet(
+        text,
+        n,
+        t,
+        p,
+        seat,
+        inputs,
+        gates,
+        &mut names,
+        &mut room[..size],
+    );
+    plan_reading::check_majority(&room[..size])
+}
+
+// Refusals 3 to 6, 8 and 25 of the plan.
+fn check_plan(
+    text: &[u8],
+    n: u32,
+    t: u32,
+    p: u32,
+    seat: u32,
+    inputs: usize,
+    gates: usize,
+) -> Checked
+    requires { ⌜ Counted (now text) n p inputs gates ⌝ }
+    ensures { λ r. ⌜ r ≡ andThen (andThen (firstOf (contentChecks n t p gates 1)) (need (OutputRule 0) (between 1 n seat))) (majorityCheck (sheetFile n t p seat (now (text .entry)))) ⌝ }
+{
+    let c = result_checked(plan_file::check(n, t, p, gates, 1), n, seat);
+    let Checked::Passed = c else {
+        return c;
+    };
+    check_majority(text, n, t, p, seat, inputs, gates)
 }
 
 fn measured_of(c: Checked, inputs: usize, gates: usize) -> Sheet
@@ -51,11 +110,8 @@ fn measure_in(text: &[u8], n: u32, t: u32, p: u32, seat: u32, names: &mut [usize
     if 1024 < gates {
         return Sheet::Refused(Refusal::TooLarge);
     }
-    measured_of(
-        result_checked(plan_file::check(n, t, p, gates, 1), n, seat),
-        inputs,
-        gates,
-    )
+    let c = check_plan(text, n, t, p, seat, inputs, gates);
+    measured_of(c, inputs, gates)
 }
 
 // The same with a table of its own.

@@ -163,7 +163,7 @@ impl Circuit {
 /// The refusals of a plan's n, t and p, 3 to 5, where these are given beside a text.
 pub fn plan_sizes(n: u32, t: u32, p: u32) -> Result<(), Refusal> {
     require((1..=15).contains(&n), 3, 0)?;
-    require(2 * u64::from(t) < u64::from(n), 4, 0)?;
+    require(t < n, 4, 0)?;
     let prime = |p: u32| p >= 2 && (2..).take_while(|d| d * d <= p).all(|d| p % d != 0);
     require(p <= 65_535 && prime(p) && p > n, 5, 0)
 }

@@ -79,26 +79,29 @@ fn out(bytes: &[u8], gates: usize, n: u16) -> Option<Out> {
     ((1..=n).contains(&out.seat) && out.wire < gates).then_some(out)
 }
 
-/// The plan check, refusals 1 to 8; it hands every gate and out it has read to `take`.
+/// The plan check, refusals 1 to 8 and 25; it hands every gate and out it has read to `take`.
 fn check(bytes: &[u8], mut take: impl FnMut(Result<Gate, Out>)) -> Result<(u16, usize, Field), Refusal> {
     require(bytes.len() >= 18 && &bytes[..4] == b"POOL", 1, 0)?;
     require(bytes[4] == 1, 2, 0)?;
     let (n, t) = (u16::from(bytes[5]), usize::from(bytes[6]));
     require((1..=15).contains(&n), 3, 0)?;
-    require(2 * t < usize::from(n), 4, 0)?;
+    require(t < usize::from(n), 4, 0)?;
     let Some(field) = Field::new(number(bytes, 8)).filter(|field| field.p() > n) else { return refuse(5) };
     let [first_gate, gates, first_out, outs] = [10, 12, 14, 16].map(|i| usize::from(number(bytes, i)));
     let in_range = (1..=1024).contains(&gates) && (1..=64).contains(&outs);
     let in_place = bytes[7] == 0 && first_gate == 18 && first_out == 18 + 6 * gates;
     require(in_range && in_place && bytes.len() == first_out + 3 * outs, 6, 0)?;
+    let mut multiplies = false;
     for (g, six) in bytes[18..first_out].chunks_exact(6).enumerate() {
         let Some(gate) = gate(six, g, n, field.p()) else { return Err(Refusal { number: 7, place: g }) };
+        multiplies |= matches!(gate, Gate::Multiply(..));
         take(Ok(gate));
     }
     for (o, three) in bytes[first_out..].chunks_exact(3).enumerate() {
         let Some(out) = out(three, gates, n) else { return Err(Refusal { number: 8, place: o }) };
         take(Err(out));
     }
+    require(!multiplies || 2 * t < usize::from(n), 25, 0)?;
     Ok((n, t, field))
 }
 
@@ -108,7 +111,7 @@ pub fn plan_check(bytes: &[u8]) -> Result<(), Refusal> {
 }
 
 impl Plan {
-    /// The plan of a file, or its refusal, 1 to 8.
+    /// The plan of a file, or its refusal, 1 to 8 or 25.
     pub fn read(bytes: &[u8]) -> Result<Plan, Refusal> {
         let (mut gates, mut outs) = (Vec::with_capacity(bytes.len() / 6), Vec::new());
         let (n, t, field) = check(bytes, |item| match item {
@@ -126,9 +129,13 @@ impl Plan {
         Ok(Plan { n, t, field, gates, outs, inputs, multiplies })
     }
 
-    /// 2t+1, the number of seats that deal products.
+    /// The number of seats that deal products: 2t+1, or none where nothing is multiplied.
     pub fn dealers(&self) -> u16 {
-        2 * self.t as u16 + 1
+        if self.multiplies.is_empty() {
+            0
+        } else {
+            2 * self.t as u16 + 1
+        }
     }
 
     /// M+2, the number of a seat's last call.

@@ -68,9 +68,29 @@ pub fn size(random: &mut Random) -> (u16, usize, u16) {
     };
     let most = (usize::from(n) - 1) / 2;
     let t = if random.once_in(3) { random.below(most + 1) } else { most };
+    (n, t, prime(random, n))
+}
+
+/// A prime above n, often the smallest.
+fn prime(random: &mut Random, n: u16) -> u16 {
     let primes: Vec<u16> = PRIMES.iter().copied().filter(|&p| p > n).collect();
-    let p = if random.once_in(3) { primes[0] } else { random.pick(&primes) };
-    (n, t, p)
+    if random.once_in(3) {
+        primes[0]
+    } else {
+        random.pick(&primes)
+    }
+}
+
+/// The size of a plan whose threshold is at least half its seats.
+pub fn wide_size(random: &mut Random) -> (u16, usize, u16) {
+    let n = match random.below(6) {
+        0 | 1 => 15,
+        2 => 2,
+        _ => random.range(2, 15) as u16,
+    };
+    let most = usize::from(n) - 1;
+    let t = if random.once_in(2) { random.range(usize::from(n).div_ceil(2), most) } else { most };
+    (n, t, prime(random, n))
 }
 
 /// The random gates of a plan: inputs anywhere, at most `gates` of them and `multiplies` multiplies.
@@ -117,6 +137,17 @@ pub fn plan(random: &mut Random, most: usize) -> Vec<u8> {
     let (n, t, p) = size(random);
     let count = random.range(1, most);
     let multiplies = if random.once_in(6) { 0 } else { count };
+    with_gates(random, (n, t, p), count, multiplies)
+}
+
+/// A random plan file of at most `most` gates, none of them a multiply, for a threshold of at least half the seats.
+pub fn wide_plan(random: &mut Random, most: usize) -> Vec<u8> {
+    let size = wide_size(random);
+    let count = random.range(1, most);
+    with_gates(random, size, count, 0)
+}
+
+fn with_gates(random: &mut Random, (n, t, p): (u16, usize, u16), count: usize, multiplies: usize) -> Vec<u8> {
     let gates = gates(random, n, p, count, multiplies);
     let count = if random.once_in(12) { 64 } else { random.range(1, 6) };
     let outs = outs(random, n, gates.len(), count);

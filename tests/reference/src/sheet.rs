@@ -1,7 +1,7 @@
 //! Formula sheets compiled into plans (document 02, R-5) by two stacks: operators that wait, and wires.
 
 use crate::import::plan_sizes;
-use crate::plan::{plan_file, refuse, require, Gate, Out, Refusal};
+use crate::plan::{plan_check, plan_file, refuse, require, Gate, Out, Refusal};
 
 /// The depth that brackets may be nested to.
 pub const DEPTH: usize = 16;
@@ -204,7 +204,9 @@ pub fn sheet_file(text: &[u8], n: u32, t: u32, p: u32, seat: u32) -> Result<Vec<
     plan_sizes(n, t, p)?;
     require((1..=n).contains(&seat), 8, 0)?;
     let (gates, wire) = sheet.gates(p as u16);
-    Ok(plan_file(n as u8, t as u8, p as u16, &gates, &[Out { seat: seat as u16, wire }]))
+    let file = plan_file(n as u8, t as u8, p as u16, &gates, &[Out { seat: seat as u16, wire }]);
+    plan_check(&file)?;
+    Ok(file)
 }
 
 /// Compiles a sheet into a lent buffer.

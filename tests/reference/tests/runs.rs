@@ -24,8 +24,9 @@ fn matched(file: &[u8], set: u16, first: &[u16], second: &[u16], coins: &[u16]) 
 #[test]
 fn calls_equal_the_direct_bench_and_the_plans_arithmetic() {
     let mut random = Random(1);
-    for _ in 0..400 {
-        let file = random::plan(&mut random, 40);
+    for round in 0..600 {
+        let plan = if round < 400 { random::plan } else { random::wide_plan };
+        let file = plan(&mut random, 40);
         let plan = Plan::read(&file).unwrap();
         let p = plan.field.p();
         let figures = random.elements(plan.inputs.len(), p);
@@ -47,8 +48,9 @@ fn calls_equal_the_direct_bench_and_the_plans_arithmetic() {
 fn matched_runs_give_the_same_view() {
     let mut random = Random(2);
     let mut changed = 0;
-    while changed < 300 {
-        let file = random::plan(&mut random, 16);
+    while changed < 450 {
+        let plan = if changed < 300 { random::plan } else { random::wide_plan };
+        let file = plan(&mut random, 16);
         let plan = Plan::read(&file).unwrap();
         let p = plan.field.p();
         let set = random::set(&mut random, plan.n, plan.t);
@@ -82,14 +84,14 @@ fn settings(count: usize, p: u16) -> impl Iterator<Item = Vec<u16>> {
 }
 
 /// Over every setting, for every pair of lists that agree for the set: equal views, and each setting given once.
-fn matching_is_a_bijection(gates: &[Gate], outs: &[Out], set: u16, least: usize) {
-    let file = plan_file(3, 1, 5, gates, outs);
+fn matching_is_a_bijection((n, t): (u8, u8), gates: &[Gate], outs: &[Out], set: u16, least: usize) {
+    let file = plan_file(n, t, 5, gates, outs);
     let plan = Plan::read(&file).unwrap();
     let members = plan.members(set).unwrap();
     let agree = |first: &[u16], second: &[u16]| {
         let (granted, asked) = (ideal(&plan, first), ideal(&plan, second));
         plan.figure_seats().enumerate().all(|(i, seat)| !members.contains(&seat) || first[i] == second[i])
-            && plan.outs_of(members[0]).all(|out| granted[out.wire] == asked[out.wire])
+            && plan.outs.iter().all(|out| !members.contains(&out.seat) || granted[out.wire] == asked[out.wire])
     };
     let mut pairs = 0;
     for first in settings(plan.inputs.len(), 5).step_by(7) {
@@ -111,10 +113,14 @@ fn matching_is_a_bijection(gates: &[Gate], outs: &[Out], set: u16, least: usize)
 #[test]
 fn matching_is_a_bijection_on_tiny_plans() {
     let product = [Gate::Input(1), Gate::Input(2), Gate::Multiply(0, 1), Gate::Add(2, 0)];
-    matching_is_a_bijection(&product, &[Out { seat: 3, wire: 3 }], 0b100, 3);
-    matching_is_a_bijection(&product, &[Out { seat: 3, wire: 3 }], 0b001, 3);
+    matching_is_a_bijection((3, 1), &product, &[Out { seat: 3, wire: 3 }], 0b100, 3);
+    matching_is_a_bijection((3, 1), &product, &[Out { seat: 3, wire: 3 }], 0b001, 3);
     let square = [Gate::Input(2), Gate::Multiply(0, 0), Gate::Input(3), Gate::Add(1, 2)];
-    matching_is_a_bijection(&square, &[Out { seat: 1, wire: 3 }, Out { seat: 2, wire: 1 }], 0b001, 3);
+    matching_is_a_bijection((3, 1), &square, &[Out { seat: 1, wire: 3 }, Out { seat: 2, wire: 1 }], 0b001, 3);
     let sum = [Gate::Input(1), Gate::Input(2), Gate::Input(3), Gate::Add(0, 1), Gate::Add(3, 2), Gate::Scale(4, 3)];
-    matching_is_a_bijection(&sum, &[Out { seat: 2, wire: 5 }, Out { seat: 2, wire: 4 }], 0b010, 3);
+    matching_is_a_bijection((3, 1), &sum, &[Out { seat: 2, wire: 5 }, Out { seat: 2, wire: 4 }], 0b010, 3);
+    let pair = [Gate::Input(1), Gate::Input(2), Gate::Input(1), Gate::Add(0, 1), Gate::Add(3, 2)];
+    matching_is_a_bijection((2, 1), &pair, &[Out { seat: 2, wire: 4 }, Out { seat: 1, wire: 4 }], 0b10, 3);
+    let three = [Gate::Input(3), Gate::Input(1), Gate::Add(0, 1)];
+    matching_is_a_bijection((3, 2), &three, &[Out { seat: 3, wire: 2 }], 0b011, 3);
 }

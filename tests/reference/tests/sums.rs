@@ -81,8 +81,13 @@ fn p5_matching() {
 
 #[test]
 fn p6_threshold() {
-    assert_eq!(plan_check(&sized(2, 1, 11)), refused(4, 0));
+    assert_eq!(plan_check(&sized(2, 1, 11)), refused(8, 0));
+    assert_eq!(plan_check(&sized(2, 2, 11)), refused(4, 0));
+    assert_eq!(plan_check(&sized(3, 2, 11)), refused(25, 0));
+    assert_eq!(plan_check(&plan_file(2, 1, 11, &k_gates(), &[Out { seat: 2, wire: 3 }])), refused(25, 0));
     assert_eq!(plan_check(&sized(15, 7, 17)), Ok(()));
+    assert_eq!(plan_check(&sized(15, 8, 17)), refused(25, 0));
+    assert_eq!(plan_check(&sized(15, 15, 17)), refused(4, 0));
 }
 
 #[test]

@@ -20,8 +20,8 @@ returns-2 c = search measuring
 returns-3 : tie.Need-returns-3
 returns-3 c = search measuring
 
-check-requires : tie.Need-check-requires
-check-requires c κs = search measuring
+check-plan-requires : tie.Need-check-plan-requires
+check-plan-requires c κs = search measuring
 
 measured-of-requires : tie.Need-measured-of-requires
 measured-of-requires c κs = search measuring
@@ -39,6 +39,6 @@ measure-text-spec =
     returns
     returns-2
     returns-3
-    check-requires
+    check-plan-requires
     measured-of-requires
     returns-4)

@@ -27,7 +27,7 @@ enum-known-gate-2 : tie.Need-enum-known-gate-2
 enum-known-gate-2 c = search moving-gate
 
 match-multiply-requires : tie.Need-match-multiply-requires
-match-multiply-requires c κs = (search moving-gate, ((search moving-gate, search moving-gate), ((search moving-gate, search moving-gate), (search moving-gate, search moving-gate))))
+match-multiply-requires c κs = (search moving-gate, (search moving-gate, ((search moving-gate, search moving-gate), ((search moving-gate, search moving-gate), (search moving-gate, search moving-gate)))))
 
 enum-told-4 : tie.Need-enum-told-4
 enum-told-4 c = search moving-gate

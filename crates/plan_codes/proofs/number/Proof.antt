@@ -81,6 +81,9 @@ enum-told-25 c = search coding
 enum-told-26 : tie.Need-enum-told-26
 enum-told-26 c = search coding
 
+enum-told-27 : tie.Need-enum-told-27
+enum-told-27 c = search coding
+
 returns : tie.Need-returns
 unfolding numberOf
 returns c = search coding
@@ -185,6 +188,10 @@ returns-26 : tie.Need-returns-26
 unfolding numberOf
 returns-26 c = search coding
 
+returns-27 : tie.Need-returns-27
+unfolding numberOf
+returns-27 c = search coding
+
 pub number-spec : {M : Type 1} → statement M
 number-spec =
     tie.close
@@ -215,6 +222,7 @@ number-spec =
     enum-told-24
     enum-told-25
     enum-told-26
+    enum-told-27
     returns
     returns-2
     returns-3
@@ -240,4 +248,5 @@ number-spec =
     returns-23
     returns-24
     returns-25
-    returns-26)
+    returns-26
+    returns-27)

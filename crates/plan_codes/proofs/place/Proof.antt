@@ -45,17 +45,17 @@ enum-told-11 c = search coding
 enum-told-12 : tie.Need-enum-told-12
 enum-told-12 c = search coding
 
-enum-known-r-3 : tie.Need-enum-known-r-3
-enum-known-r-3 c = search coding
-
 enum-told-13 : tie.Need-enum-told-13
 enum-told-13 c = search coding
 
-enum-known-r-4 : tie.Need-enum-known-r-4
-enum-known-r-4 c = search coding
+enum-known-r-3 : tie.Need-enum-known-r-3
+enum-known-r-3 c = search coding
 
 enum-told-14 : tie.Need-enum-told-14
 enum-told-14 c = search coding
+
+enum-known-r-4 : tie.Need-enum-known-r-4
+enum-known-r-4 c = search coding
 
 enum-told-15 : tie.Need-enum-told-15
 enum-told-15 c = search coding
@@ -66,11 +66,14 @@ enum-told-16 c = search coding
 enum-told-17 : tie.Need-enum-told-17
 enum-told-17 c = search coding
 
+enum-told-18 : tie.Need-enum-told-18
+enum-told-18 c = search coding
+
 enum-known-r-5 : tie.Need-enum-known-r-5
 enum-known-r-5 c = search coding
 
-enum-told-18 : tie.Need-enum-told-18
-enum-told-18 c = search coding
+enum-told-19 : tie.Need-enum-told-19
+enum-told-19 c = search coding
 
 enum-known-r-6 : tie.Need-enum-known-r-6
 enum-known-r-6 c = search coding
@@ -185,6 +188,10 @@ returns-26 : tie.Need-returns-26
 unfolding placeOf
 returns-26 c = search coding
 
+returns-27 : tie.Need-returns-27
+unfolding placeOf
+returns-27 c = search coding
+
 pub place-spec : {M : Type 1} → statement M
 place-spec =
     tie.close
@@ -203,15 +210,16 @@ place-spec =
     enum-told-10
     enum-told-11
     enum-told-12
-    enum-known-r-3
     enum-told-13
-    enum-known-r-4
+    enum-known-r-3
     enum-told-14
+    enum-known-r-4
     enum-told-15
     enum-told-16
     enum-told-17
-    enum-known-r-5
     enum-told-18
+    enum-known-r-5
+    enum-told-19
     enum-known-r-6
     enum-known-r-7
     enum-known-r-8
@@ -240,4 +248,5 @@ place-spec =
     returns-23
     returns-24
     returns-25
-    returns-26)
+    returns-26
+    returns-27)

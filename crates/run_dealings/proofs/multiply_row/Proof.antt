@@ -33,7 +33,7 @@ slice-aggregate-shares : tie.Need-slice-aggregate-shares
 slice-aggregate-shares c = search multiplying
 
 shares-requires : tie.Need-shares-requires
-shares-requires c κs = (search multiplying, (search multiplying, (search multiplying, ((search multiplying, search multiplying), (search multiplying, search multiplying)))))
+shares-requires c κs = (search multiplying, ((search multiplying, search multiplying), (search multiplying, ((search multiplying, search multiplying), (search multiplying, search multiplying)))))
 
 returns : tie.Need-returns
 returns c = search multiplying

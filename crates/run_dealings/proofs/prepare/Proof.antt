@@ -5,11 +5,8 @@ use Rattle.run_dealings.proofs.prepare.Tie as tie
 terms-requires : tie.Need-terms-requires
 terms-requires c κs = search preparing
 
-add-m : tie.Need-add-m
-add-m c = search preparing
-
-add-m-2 : tie.Need-add-m-2
-add-m-2 c = search preparing
+dealers-requires : tie.Need-dealers-requires
+dealers-requires c κs = search preparing
 
 mul-e : tie.Need-mul-e
 mul-e c = search preparing
@@ -49,8 +46,7 @@ prepare-spec =
     tie.close
     (tie.spec
     terms-requires
-    add-m
-    add-m-2
+    dealers-requires
     mul-e
     slice-relend-prefix-power-rows
     slice-aggregate-power-rows

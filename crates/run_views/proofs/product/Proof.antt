@@ -1,21 +1,21 @@
-use Rattle.run_views.proofs.ViewLaws.{multiplying}
+use Rattle.run_views.proofs.ViewLaws.{shares-multiplied}
 use Rattle.run_views.proofs.product.Statement.{statement}
 use Rattle.run_views.proofs.product.Tie as tie
 
 share-in-requires : tie.Need-share-in-requires
-share-in-requires c κs = search multiplying
+share-in-requires c κs = search shares-multiplied
 
 share-in-requires-2 : tie.Need-share-in-requires-2
-share-in-requires-2 c κs = search multiplying
+share-in-requires-2 c κs = search shares-multiplied
 
 product-requires : tie.Need-product-requires
-product-requires c κs = search multiplying
+product-requires c κs = search shares-multiplied
 
 reduced-requires : tie.Need-reduced-requires
-reduced-requires c κs = search multiplying
+reduced-requires c κs = search shares-multiplied
 
 returns : tie.Need-returns
-returns c = search multiplying
+returns c = search shares-multiplied
 
 pub product-spec : {M : Type 1} → statement M
 product-spec =

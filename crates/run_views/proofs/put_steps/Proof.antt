@@ -21,7 +21,7 @@ enum-known-a : tie.Need-enum-known-a
 enum-known-a c = search gate-pieces
 
 put-pieces-requires : tie.Need-put-pieces-requires
-put-pieces-requires c κs = (search gate-pieces, (search gate-pieces, (search gate-pieces, (search gate-pieces, search gate-pieces))))
+put-pieces-requires c κs = (search gate-pieces, (search gate-pieces, (search gate-pieces, (search gate-pieces, (search gate-pieces, search gate-pieces)))))
 
 enum-told-5 : tie.Need-enum-told-5
 enum-told-5 c = search gate-pieces

@@ -14,7 +14,7 @@ loop-holds : tie.Need-loop-holds Inv-loop μ-loop
 loop-holds c = search stepping
 
 put-steps-requires : tie.Need-put-steps-requires Inv-loop μ-loop
-put-steps-requires c κs = (search stepping, (search stepping, (search stepping, (search stepping, (search stepping, search stepping)))))
+put-steps-requires c κs = (search stepping, (search stepping, (search stepping, (search stepping, (search stepping, (search stepping, search stepping))))))
 
 coins-taken-requires : tie.Need-coins-taken-requires Inv-loop μ-loop
 coins-taken-requires c κs = search stepping

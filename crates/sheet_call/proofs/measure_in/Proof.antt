@@ -23,11 +23,8 @@ same-length-2 c = search measuring
 returns-2 : tie.Need-returns-2
 returns-2 c = search measuring
 
-check-requires : tie.Need-check-requires
-check-requires c κs = search measuring
-
-result-checked-requires : tie.Need-result-checked-requires
-result-checked-requires c κs = search measuring
+check-plan-requires : tie.Need-check-plan-requires
+check-plan-requires c κs = search measuring
 
 measured-of-requires : tie.Need-measured-of-requires
 measured-of-requires c κs = search measuring
@@ -49,8 +46,7 @@ measure-in-spec =
     returns
     same-length-2
     returns-2
-    check-requires
-    result-checked-requires
+    check-plan-requires
     measured-of-requires
     same-length-3
     returns-3)

@@ -57,7 +57,7 @@ const SHEET: usize = 8;
 const CHARGE: usize = 10;
 
 /// How often a call must meet a refusal: kind of call, refusal, times.
-const MET: [(usize, usize, usize); 9] = [
+const MET: [(usize, usize, usize); 12] = [
     (IMPORT, 23, 500),
     (IMPORT, 24, 500),
     (SHEET, 27, 500),
@@ -67,7 +67,24 @@ const MET: [(usize, usize, usize); 9] = [
     (SHEET, 5, 50),
     (SHEET, 8, 50),
     (CHARGE, 31, 200),
+    (IMPORT, 25, 200),
+    (SHEET, 25, 200),
+    (CHARGE, 25, 50),
 ];
+
+/// How often all calls together must meet a refusal.
+const MET_BY_ALL: [(usize, usize); 2] = [(4, 200), (25, 200)];
+
+/// The refusals that cases are damaged for, in checking order.
+const ORDER: [u8; 21] = [1, 2, 3, 4, 5, 6, 7, 8, 9, 10, 11, 12, 13, 14, 15, 16, 17, 18, 19, 20, 21];
+
+/// The same with 25.
+const WIDE_ORDER: [u8; 22] = [1, 2, 3, 4, 5, 6, 7, 8, 25, 9, 10, 11, 12, 13, 14, 15, 16, 17, 18, 19, 20, 21];
+
+/// How many of them are a plan's.
+fn of_plans(order: &[u8]) -> usize {
+    order.iter().position(|&refusal| refusal == 9).expect("9 comes after a plan's refusals")
+}
 
 /// A lent buffer between two odd stretches of guard bytes.
 struct Lent(Vec<u8>);
@@ -258,21 +275,22 @@ impl Tally {
     }
 }
 
-/// A plan that passes, with a list of figures and a setting of coins.
+/// A plan that passes, with a list of figures and a setting of coins, and the refusals that its cases are damaged for.
 struct World {
     file: Vec<u8>,
     plan: Plan,
     figures: Vec<u16>,
     coins: Vec<u16>,
+    order: &'static [u8],
 }
 
 impl World {
-    fn new(random: &mut Random, file: Vec<u8>) -> World {
+    fn new(random: &mut Random, file: Vec<u8>, order: &'static [u8]) -> World {
         let plan = Plan::read(&file).expect("the generator makes plans that pass");
         let p = plan.field.p();
         let figures = random.elements(plan.inputs.len(), p);
         let coins = random.elements(plan.coins(), p);
-        World { file, plan, figures, coins }
+        World { file, plan, figures, coins, order }
     }
 
     fn bench(&self, random: &mut Random) -> Case {
@@ -382,8 +400,8 @@ fn put(list: &mut [u8], i: usize, x: u16) {
     list[i..i + 2].copy_from_slice(&x.to_le_bytes());
 }
 
-/// Damages a plan file so that it gets the refusal, 1 to 8, if no earlier one.
-fn damage_plan(random: &mut Random, file: &mut Vec<u8>, plan: &Plan, refusal: u8) {
+/// Damages a plan file so that it gets the refusal, 1 to 8 or 25, if no earlier one; false if that can't be done to it.
+fn damage_plan(random: &mut Random, file: &mut Vec<u8>, plan: &Plan, refusal: u8) -> bool {
     let (n, p, gates, outs) = (plan.n, plan.field.p(), plan.gates.len(), plan.outs.len());
     let end = 18 + 6 * gates;
     match refusal {
@@ -391,7 +409,7 @@ fn damage_plan(random: &mut Random, file: &mut Vec<u8>, plan: &Plan, refusal: u8
         1 => file[random.below(4)] ^= 1 << random.below(8),
         2 => file[4] = random.pick(&[0, 2, 3, 129, 255]),
         3 => file[5] = random.pick(&[0, 16, 17, 128, 255]),
-        4 => file[6] = random.pick(&[(n as u8).div_ceil(2), n as u8, 127, 128, 255]),
+        4 => file[6] = random.pick(&[n as u8 + 1, n as u8, 127, 128, 255]),
         5 => {
             let composite = loop {
                 let x = random.below(65536) as u16;
@@ -449,8 +467,27 @@ fn damage_plan(random: &mut Random, file: &mut Vec<u8>, plan: &Plan, refusal: u8
                 put(out, 1, random.pick(&[gates as u16, gates as u16 + 1, 1024, high, u16::MAX]));
             }
         }
-        _ => unreachable!("a plan is refused by 1 to 8"),
+        25 => return too_few_seats(random, file, plan),
+        _ => unreachable!("a plan is refused by 1 to 8 or 25"),
     }
+    true
+}
+
+/// A multiply gate where 2t isn't below n: an add becomes one unless there is one, and t grows unless it is large; false
+/// where there is neither gate, or one seat only.
+fn too_few_seats(random: &mut Random, file: &mut [u8], plan: &Plan) -> bool {
+    let seats = usize::from(plan.n);
+    if plan.multiplies.is_empty() {
+        let adds: Vec<usize> = (0..plan.gates.len()).filter(|&g| matches!(plan.gates[g], Gate::Add(..))).collect();
+        if adds.is_empty() {
+            return false;
+        }
+        file[18 + 6 * random.pick(&adds)] = 5;
+    }
+    if 2 * plan.t < seats && seats > 1 {
+        file[6] = random.range(seats.div_ceil(2), seats - 1) as u8;
+    }
+    seats > 1
 }
 
 /// A set that names a seat above n or has over t members.
@@ -467,9 +504,8 @@ fn wrong_set(random: &mut Random, plan: &Plan) -> u16 {
 
 /// Damages a case so that it gets the refusal, if no earlier one; false if that can't be done to this case.
 fn damage(random: &mut Random, case: &mut Case, world: &Plan, refusal: u8) -> bool {
-    if refusal <= 8 {
-        damage_plan(random, case.plan(), world, refusal);
-        return true;
+    if refusal <= 8 || refusal > 22 {
+        return damage_plan(random, case.plan(), world, refusal);
     }
     let (p, last) = (world.field.p(), world.last_call() as u16);
     match (case, refusal) {
@@ -517,7 +553,7 @@ fn damage(random: &mut Random, case: &mut Case, world: &Plan, refusal: u8) -> bo
         (Case::Bench { view, .. }, 19) => wrong_length(random, view),
         (Case::Match { matched, .. }, 19) => wrong_length(random, matched),
         (Case::Call { state, mail, .. }, 20) => {
-            if number(state, 0) != last || mail.is_empty() || world.n == 1 {
+            if number(state, 0) != last || mail.is_empty() || world.t + 1 == usize::from(world.n) {
                 return false;
             }
             let i = 2 * random.below(mail.len() / 2);
@@ -542,18 +578,18 @@ fn damage(random: &mut Random, case: &mut Case, world: &Plan, refusal: u8) -> bo
 }
 
 /// Compares the case damaged once and twice; the earlier damage wins.
-fn damaged(random: &mut Random, tally: &mut Tally, case: &Case, plan: &Plan, times: usize) {
+fn damaged(random: &mut Random, tally: &mut Tally, case: &Case, plan: &Plan, order: &[u8], times: usize) {
     for _ in 0..times {
-        let low = random.pick(&[1, 9]);
-        let first = random.range(low, 21) as u8;
-        let second = if random.once_in(2) { first } else { random.range(low, 21) as u8 };
+        let (low, high) = (random.pick(&[0, of_plans(order)]), order.len() - 1);
+        let first = random.range(low, high);
+        let second = if random.once_in(2) { first } else { random.range(low, high) };
         let mut damaged = case.clone();
         // The later refusal's damage first, so that the earlier one's stands.
         let mut wanted = vec![first.max(second), first.min(second)];
         wanted.dedup();
-        wanted.retain(|&refusal| damage(random, &mut damaged, plan, refusal));
+        wanted.retain(|&refusal| damage(random, &mut damaged, plan, order[refusal]));
         if let Some(&earliest) = wanted.last() {
-            tally.compare(&damaged, Some(earliest));
+            tally.compare(&damaged, Some(order[earliest]));
         }
     }
 }
@@ -562,12 +598,13 @@ fn damaged(random: &mut Random, tally: &mut Tally, case: &Case, plan: &Plan, tim
 fn plans(random: &mut Random, tally: &mut Tally, world: &World) {
     let case = Case::Check { plan: world.file.clone() };
     tally.compare(&case, Some(0));
-    for refusal in 1..=8 {
+    for &refusal in &world.order[..of_plans(world.order)] {
         let mut file = world.file.clone();
-        damage_plan(random, &mut file, &world.plan, refusal);
-        tally.compare(&Case::Check { plan: file }, Some(refusal));
+        if damage_plan(random, &mut file, &world.plan, refusal) {
+            tally.compare(&Case::Check { plan: file }, Some(refusal));
+        }
     }
-    damaged(random, tally, &case, &world.plan, 4);
+    damaged(random, tally, &case, &world.plan, world.order, 4);
     for _ in 0..6 {
         let mut plan = world.file.clone();
         for _ in 0..random.range(1, 3) {
@@ -629,7 +666,7 @@ fn calls(random: &mut Random, tally: &mut Tally, world: &World, often: usize) {
         }
         let case = world.call(random, step);
         tally.compare(&case, Some(0));
-        damaged(random, tally, &case, plan, 1);
+        damaged(random, tally, &case, plan, world.order, 1);
         if step.call == last {
             let mut off = case.clone();
             if damage(random, &mut off, plan, 20) {
@@ -669,13 +706,13 @@ fn runs(random: &mut Random, tally: &mut Tally, world: &World, often: usize) {
     for _ in 0..often {
         let case = world.bench(random);
         tally.compare(&case, Some(0));
-        damaged(random, tally, &case, plan, 3);
+        damaged(random, tally, &case, plan, world.order, 3);
         for agree in [true, false] {
             let case = world.matching(random, agree);
             tally.compare(&case, agree.then_some(0));
             if agree {
                 let plan = Plan::read(case.clone().plan()).expect("changed outs pass");
-                damaged(random, tally, &case, &plan, 3);
+                damaged(random, tally, &case, &plan, world.order, 3);
             } else {
                 let mut case = case;
                 if damage(random, &mut case, plan, 21) {
@@ -689,13 +726,13 @@ fn runs(random: &mut Random, tally: &mut Tally, world: &World, often: usize) {
             let call = if what == 3 || what == 4 { call + 3 * u16::from(random.once_in(8)) } else { call };
             let case = Case::SeatSize { plan: world.file.clone(), seat, call, what };
             tally.compare(&case, Some(0));
-            damaged(random, tally, &case, plan, 1);
+            damaged(random, tally, &case, plan, world.order, 1);
         }
         let set = random::set(random, plan.n, plan.t);
         for what in [0, 1, 2, 3] {
             let case = Case::RunSize { plan: world.file.clone(), set, what };
             tally.compare(&case, Some(0));
-            damaged(random, tally, &case, plan, 1);
+            damaged(random, tally, &case, plan, world.order, 1);
         }
     }
 }
@@ -768,12 +805,12 @@ fn product_text(path: &str, input: &[u8]) -> std::io::Result<Vec<u8>> {
 }
 
 /// Compares the product's bench program with the reference's; how many cases and how many differences.
-fn programs(random: &mut Random, path: &str) -> (usize, usize) {
+fn programs(random: &mut Random, path: &str, times: usize, plan: fn(&mut Random, usize) -> Vec<u8>) -> (usize, usize) {
     let mut inputs = vec![vec![], vec![0], vec![0; 2], vec![0; 4], vec![0; 32_768], vec![0; 32_769], vec![0; 32_770]];
-    for _ in 0..300 {
+    for _ in 0..times {
         let most = random.pick(&[30, 30, 200]);
-        let file = random::plan(random, most);
-        let world = World::new(random, file);
+        let file = plan(random, most);
+        let world = World::new(random, file, &ORDER);
         let set = random::set(random, world.plan.n, world.plan.t);
         let (length, set) = (bytes(&[world.file.len() as u16]), bytes(&[set]));
         let mut input = [&length[..], &world.file, &set, &bytes(&world.figures), &bytes(&world.coins)].concat();
@@ -855,7 +892,16 @@ fn text_sizes(random: &mut Random, values: usize) -> [u32; 3] {
             sizes[0] = 257;
         }
     }
+    not_wide(&mut sizes);
     sizes
+}
+
+/// A threshold of at least half the seats but below their number becomes one that is refused: `wide_texts` has such.
+fn not_wide(sizes: &mut [u32]) {
+    let (n, t) = (sizes[0], sizes[1]);
+    if n <= 15 && t < n && 2 * t >= n {
+        sizes[1] += n;
+    }
 }
 
 /// Circuits' texts: random ones, damaged ones, and those at the limits.
@@ -968,6 +1014,7 @@ fn sheets(random: &mut Random, tally: &mut Tally) {
         sheet(random, tally, bytes.clone(), sizes, if operands < 200 { Some(0) } else { None });
         if random.once_in(3) {
             sizes[random.below(4)] = any_size(random);
+            not_wide(&mut sizes);
             sheet(random, tally, bytes.clone(), sizes, None);
         }
         let mut broken = whole.clone();
@@ -1040,7 +1087,7 @@ fn sheet_limits(random: &mut Random, tally: &mut Tally) {
         ("a1 + 0", [1, 0, 0, 1], 27),
         ("a1", [1, 0, 0, 1], 5),
         ("a1", [1, 0, 65537, 1], 5),
-        ("a1", [3, 2, 11, 0], 4),
+        ("a1", [3, 3, 11, 0], 4),
         ("a1", [3, 1, 9, 0], 5),
         ("a3", [3, 1, 11, 0], 8),
         ("a3", [3, 1, 11, 3], 0),
@@ -1097,9 +1144,93 @@ fn charges(random: &mut Random, tally: &mut Tally, world: &World) {
         let expected = if *price > 1_000_000 { 31 } else { 19 };
         wrong_length(random, parts);
         tally.compare(&case, Some(expected));
-        let refusal = random.range(1, 8) as u8;
-        damage_plan(random, case.plan(), &world.plan, refusal);
-        tally.compare(&case, Some(refusal));
+        let refusal = world.order[random.below(of_plans(world.order))];
+        if damage_plan(random, case.plan(), &world.plan, refusal) {
+            tally.compare(&case, Some(refusal));
+        }
+    }
+}
+
+/// Plans at the ends of the wider class: t up to 14, no multiply gate.
+fn wide_extremes(random: &mut Random) -> Vec<Vec<u8>> {
+    let inputs = |n: u16, count: u16| -> Vec<Gate> { (0..count).map(|g| Gate::Input(n - g % n)).collect() };
+    let mut files = vec![
+        plan_file(2, 1, 3, &inputs(2, 1), &[Out { seat: 1, wire: 0 }]),
+        plan_file(15, 14, 17, &inputs(15, 1), &[Out { seat: 15, wire: 0 }]),
+        plan_file(15, 14, 65521, &inputs(15, 1024), &[Out { seat: 1, wire: 1023 }; 64]),
+        plan_file(15, 14, 65521, &inputs(15, 30), &[Out { seat: 8, wire: 29 }]),
+    ];
+    for (n, p) in [(2, 3), (2, 65521), (4, 5), (15, 17), (15, 65521), (14, 32771)] {
+        let seats = usize::from(n);
+        for t in [seats.div_ceil(2), seats - 1] {
+            let sum = |g: usize| Gate::Add(if g == 0 { 0 } else { seats + g - 1 }, g + 1);
+            let gates = [inputs(n, n), (0..seats - 1).map(sum).collect()].concat();
+            let outs: Vec<Out> = (1..=n).map(|seat| Out { seat, wire: gates.len() - 1 }).collect();
+            files.push(plan_file(n as u8, t as u8, p, &gates, &outs));
+            let gates = random::gates(random, n, p, 1024, 0);
+            let outs = random::outs(random, n, gates.len(), 64);
+            files.push(plan_file(n as u8, t as u8, p, &gates, &outs));
+        }
+    }
+    files
+}
+
+/// Plans of the wider class, and plans that multiply and are brought out of their class.
+fn wide_plans(random: &mut Random, tally: &mut Tally) {
+    let files = wide_extremes(random).into_iter().map(|file| (file, 20));
+    let files: Vec<_> = files
+        .chain([[2, 5, 12, 30]; 60].concat().into_iter().map(|most| (random::wide_plan(random, most), 8)))
+        .collect();
+    for (file, often) in files {
+        let world = World::new(random, file, &WIDE_ORDER);
+        plans(random, tally, &world);
+        calls(random, tally, &world, often);
+        runs(random, tally, &world, 2);
+        charges(random, tally, &world);
+    }
+    for most in [[5, 12, 30]; 60].concat() {
+        let file = random::plan(random, most);
+        let world = World::new(random, file, &WIDE_ORDER);
+        plans(random, tally, &world);
+        runs(random, tally, &world, 1);
+        charges(random, tally, &world);
+    }
+}
+
+/// Circuits and sheets for thresholds of at least half the seats: refused 25 where they multiply.
+fn wide_texts(random: &mut Random, tally: &mut Tally) {
+    for round in 0..1500 {
+        let (n, t, p) = random::wide_size(random);
+        let sizes = [u32::from(n), t as u32, u32::from(p)];
+        let (gates, outputs) = (random.below(6), random.below(5));
+        let whole = Text::new(random, random_values(round).min(usize::from(n)), gates, round % 4, outputs);
+        let multiplies = whole.lines[3..].iter().any(|line| line[line.len() - 1] != "INV");
+        let outs = whole.lines[2][1..].iter().any(|width| width != "0");
+        let bytes = whole.bytes(random, true);
+        text(
+            random,
+            tally,
+            bytes.clone(),
+            sizes,
+            Some(if !outs {
+                6
+            } else if multiplies {
+                25
+            } else {
+                0
+            }),
+        );
+        text(random, tally, bytes, [sizes[0], sizes[0] + round as u32 % 3, sizes[2]], Some(4));
+
+        let operands = random.range(1, 8);
+        let whole = Formula::new(random, n, p, operands);
+        let multiplies = whole.words.iter().any(|word| word == "*");
+        let bytes = whole.bytes(random, true);
+        let seat = random.range(1, usize::from(n)) as u32;
+        let sized = |t, seat| [sizes[0], t, sizes[2], seat];
+        sheet(random, tally, bytes.clone(), sized(sizes[1], seat), Some(if multiplies { 25 } else { 0 }));
+        sheet(random, tally, bytes.clone(), sized(sizes[1], sizes[0] + seat), Some(8));
+        sheet(random, tally, bytes, sized(sizes[0], seat), Some(4));
     }
 }
 
@@ -1109,14 +1240,14 @@ fn main() -> ExitCode {
     let mut tally = Tally::default();
     layouts(&mut tally);
     for file in extremes(&mut random) {
-        let world = World::new(&mut random, file);
+        let world = World::new(&mut random, file, &ORDER);
         plans(&mut random, &mut tally, &world);
         calls(&mut random, &mut tally, &world, 20);
         runs(&mut random, &mut tally, &world, 2);
     }
     for most in [[2, 5, 8, 12, 20, 30].as_slice(); 130].concat().into_iter().chain([300; 8]) {
         let file = random::plan(&mut random, most);
-        let world = World::new(&mut random, file);
+        let world = World::new(&mut random, file, &ORDER);
         plans(&mut random, &mut tally, &world);
         calls(&mut random, &mut tally, &world, 8);
         runs(&mut random, &mut tally, &world, 2);
@@ -1127,13 +1258,15 @@ fn main() -> ExitCode {
     let files = extremes(&mut other);
     for most in [[2, 5, 12, 30].as_slice(); 200].concat() {
         let file = random::plan(&mut other, most);
-        let world = World::new(&mut other, file);
+        let world = World::new(&mut other, file, &ORDER);
         charges(&mut other, &mut tally, &world);
     }
     for file in files {
-        let world = World::new(&mut other, file);
+        let world = World::new(&mut other, file, &ORDER);
         charges(&mut other, &mut tally, &world);
     }
+    wide_plans(&mut Random(20_260_303), &mut tally);
+    wide_texts(&mut Random(20_260_304), &mut tally);
 
     println!("library: {}", if LINKED { "libpool.a" } else { "none linked, the reference stands in" });
     println!("refusal  {}    all", NAMES.map(|name| format!("{name:>10}")).join(" "));
@@ -1143,7 +1276,8 @@ fn main() -> ExitCode {
         let all: usize = row.iter().sum();
         let row: Vec<String> = row.iter().map(|count| format!("{count:>10}")).collect();
         let few = (1..=22).contains(&refusal) && all < 50
-            || MET.iter().any(|&(kind, number, times)| number == refusal && tally.met[kind][refusal] < times);
+            || MET.iter().any(|&(kind, number, times)| number == refusal && tally.met[kind][refusal] < times)
+            || MET_BY_ALL.iter().any(|&(number, times)| number == refusal && all < times);
         if refusal > 22 && all == 0 && !few {
             continue; // a refusal of calls that are not there yet
         }
@@ -1158,11 +1292,16 @@ fn main() -> ExitCode {
     println!("{bills} charges");
     let mut cases: usize = tally.met.iter().flatten().sum();
     let path = std::env::var("POOL_PROGRAM").expect("POOL_PROGRAM: the path of the bench program");
-    let (count, differences) = programs(&mut random, &path);
-    println!("bench program: {count} inputs, {differences} differ");
-    cases += count;
-    tally.passed += count - differences;
-    tally.differences += differences;
+    let mut wide = Random(20_260_305);
+    for (random, times, plan) in
+        [(&mut random, 300, random::plan as fn(&mut Random, usize) -> Vec<u8>), (&mut wide, 100, random::wide_plan)]
+    {
+        let (count, differences) = programs(random, &path, times, plan);
+        println!("bench program: {count} inputs, {differences} differ");
+        cases += count;
+        tally.passed += count - differences;
+        tally.differences += differences;
+    }
     println!("{cases} cases, {} passed, {} differ, {:.1?}", tally.passed, tally.differences, start.elapsed());
     if LINKED
         && tally.differences == 0

@@ -6,7 +6,7 @@ gate-at-requires : tie.Need-gate-at-requires
 gate-at-requires c κs = search matching-coins
 
 match-gate-requires : tie.Need-match-gate-requires
-match-gate-requires c κs = ((search matching-coins, search matching-coins), (search matching-coins, ((search matching-coins, search matching-coins), ((search matching-coins, search matching-coins), (search matching-coins, (search matching-coins, search matching-coins))))))
+match-gate-requires c κs = ((search matching-coins, search matching-coins), (search matching-coins, ((search matching-coins, search matching-coins), (search matching-coins, ((search matching-coins, search matching-coins), (search matching-coins, (search matching-coins, search matching-coins)))))))
 
 same-length : tie.Need-same-length
 same-length c = search matching-coins
