@@ -9,7 +9,8 @@
 /* Where a plan's bytes stand, version by version. */
 struct layout {
     size_t prime, gates_at, gates, outs_at, outs; /* where these numbers stand */
-    size_t width;                                 /* the bytes of each of them, and of a gate's a and b */
+    size_t points_at;                             /* the same; 0: the points are 1 to n */
+    size_t width;                                 /* the bytes of each of them, of a gate's a and b, and of a point */
     size_t out_wire;                              /* the bytes of an out's wire */
 };
 
@@ -17,6 +18,7 @@ enum { VERSION_AT = 4, SEATS_AT = 5, THRESHOLD_AT = 6, GATE_HEAD = 2, OUT_HEAD =
 
 static const struct layout layouts[] = {
     [1] = {.prime = 8, .gates_at = 10, .gates = 12, .outs_at = 14, .outs = 16, .width = 2, .out_wire = 2},
+    [2] = {.prime = 8, .gates_at = 10, .gates = 12, .outs_at = 14, .outs = 16, .points_at = 18, .width = 2, .out_wire = 2},
 };
 
 enum { LAYOUTS = sizeof layouts / sizeof *layouts };
@@ -64,6 +66,14 @@ static void read_outs(struct plan *plan, const struct layout *l)
     plan->outs = fresh(plan->out_count, sizeof *plan->outs);
     for (size_t o = 0; o < plan->out_count; o++, at += OUT_HEAD + l->out_wire)
         plan->outs[o] = (struct out){plan->file.at[at], field(plan, at + OUT_HEAD, l->out_wire)};
+}
+
+static void read_points(struct plan *plan, const struct layout *l)
+{
+    plan->chosen = l->points_at != 0;
+    size_t at = plan->chosen ? field(plan, l->points_at, l->width) : 0;
+    for (unsigned seat = 1; seat <= plan->seats; seat++)
+        plan->points[seat - 1] = plan->chosen ? field(plan, at + l->width * (seat - 1), l->width) : seat;
 }
 
 /* ---- sizes, which the library says */
@@ -127,6 +137,7 @@ struct plan plan_of(const char *name, struct bytes file)
     plan.prime = field(&plan, l->prime, l->width);
     read_gates(&plan, l);
     read_outs(&plan, l);
+    read_points(&plan, l);
     ask_sizes(&plan);
     return plan;
 }

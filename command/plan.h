@@ -3,6 +3,7 @@
 #ifndef PLAN_H
 #define PLAN_H
 
+#include <stdbool.h>
 #include <stdio.h>
 
 #include "lists.h"
@@ -31,6 +32,8 @@ struct plan {
     struct bytes file;
     unsigned version, seats, threshold;
     uint32_t prime;
+    uint32_t points[15]; /* by seat */
+    bool chosen;         /* the points stand in the file; else they are 1 to n */
     size_t gate_count, out_count, figure_count;
     struct gate *gates;
     struct out *outs;

@@ -114,6 +114,8 @@ static void show_words(FILE *to, const struct plan *plan)
         fprintf(to, "%4zu  seat %-2u  wire %u\n", o, plan->outs[o].seat, plan->outs[o].wire);
     for (unsigned seat = 1; seat <= plan->seats; seat++) {
         fprintf(to, "\nseat %u\n", seat);
+        if (plan->chosen)
+            fprintf(to, "  point  %u\n", plan->points[seat - 1]);
         show_gives(to, plan, seat);
         show_draws(to, plan, seat);
         show_sends(to, plan, seat);

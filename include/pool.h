@@ -97,10 +97,11 @@ static inline const char *pool_refusal_sentence(unsigned number)
 /*
  * Checks a plan.
  *
- * plan, plan_len: the bytes of a plan file, any number of them.
+ * plan, plan_len: the bytes of a plan file of version 1 or 2, any number of
+ *                 them.
  *
- * Answers 0 where the plan passes, else the first of refusals 1 to 8 and 25
- * with its place. Writes nothing.
+ * Answers 0 where the plan passes, else the first of refusals 1 to 8, 25 and
+ * 26 with its place. Writes nothing.
  */
 uint64_t pool_plan_check(const uint8_t *plan, size_t plan_len);
 
@@ -184,7 +185,7 @@ uint64_t pool_sheet(const uint8_t *text, size_t text_len, uint32_t n,
  * How many calls each party makes: M + 3, numbered 0 to M + 2, with M the
  * multiply gates.
  *
- * Answers the count as its value, or the first of refusals 1 to 8 and 25.
+ * Answers the count as its value, or the first of refusals 1 to 8, 25 and 26.
  */
 uint64_t pool_calls(const uint8_t *plan, size_t plan_len);
 
@@ -206,7 +207,7 @@ enum {
  * what:           one of the lists above.
  *
  * Answers the size as its value, 0 where there is no such call or list; or
- * the first of refusals 1 to 8, 25 and 9.
+ * the first of refusals 1 to 8, 25, 26 and 9.
  */
 uint64_t pool_seat_size(const uint8_t *plan, size_t plan_len, uint16_t seat,
     uint16_t call, uint16_t what);
@@ -233,7 +234,7 @@ uint64_t pool_seat_size(const uint8_t *plan, size_t plan_len, uint16_t seat,
  * M + 1 party i's part has a share for each of its outs.
  *
  * Answers 0 and has written state and out, or answers the first of refusals 1
- * to 8, 25 and 9 to 20 and has written nothing.
+ * to 8, 25, 26 and 9 to 20 and has written nothing.
  *
  * Refusal 20 speaks of the first of the party's outs that breaks. Its place is
  * a party's number, t + 2 to n: the shares of all parties before it lie on one
@@ -261,7 +262,7 @@ enum {
  * what: one of the lists above.
  *
  * Answers the size as its value, 0 where there is no such list; or the first
- * of refusals 1 to 8, 25 and 9.
+ * of refusals 1 to 8, 25, 26 and 9.
  */
 uint64_t pool_run_size(const uint8_t *plan, size_t plan_len, uint16_t set,
     uint16_t what);
@@ -278,7 +279,7 @@ uint64_t pool_run_size(const uint8_t *plan, size_t plan_len, uint16_t set,
  *                       each round's mail, its results.
  *
  * Answers the elements sent as its value and has written view, or answers the
- * first of refusals 1 to 8, 25, 9 to 13 and 19 and has written nothing.
+ * first of refusals 1 to 8, 25, 26, 9 to 13 and 19 and has written nothing.
  */
 uint64_t pool_bench(const uint8_t *plan, size_t plan_len, uint16_t set,
     const uint8_t *figures, size_t figures_len,
@@ -296,7 +297,7 @@ uint64_t pool_bench(const uint8_t *plan, size_t plan_len, uint16_t set,
  *                         list gives the coalition the same view.
  *
  * Answers 0 and has written matched, or answers the first of refusals 1 to 8,
- * 25, 9 to 13, 19, 21 and 22 and has written nothing.
+ * 25, 26, 9 to 13, 19, 21 and 22 and has written nothing.
  */
 uint64_t pool_match(const uint8_t *plan, size_t plan_len, uint16_t set,
     const uint8_t *first, size_t first_len,
@@ -319,7 +320,7 @@ uint64_t pool_match(const uint8_t *plan, size_t plan_len, uint16_t set,
  * the bill.
  *
  * Answers the bill in cents as its value and has written parts, or answers the
- * first of refusals 1 to 8, 25, 31 and 19 and has written nothing.
+ * first of refusals 1 to 8, 25, 26, 31 and 19 and has written nothing.
  */
 uint64_t pool_charge(const uint8_t *plan, size_t plan_len, uint32_t price,
     uint8_t *parts, size_t parts_len);

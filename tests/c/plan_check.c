@@ -39,7 +39,8 @@ static void check_refusals(void)
 {
     changed("letters", 0, 'p', 1, 0);
     changed("letters", 3, 'K', 1, 0);
-    changed("version", 4, 2, 2, 0);
+    changed("version", 4, 9, 2, 0);
+    changed("a version 2 without points", 4, 2, 6, 0);
     changed("no party", 5, 0, 3, 0);
     changed("16 parties", 5, 16, 3, 0);
     changed("n=2, t=1", 5, 2, 8, 0);

@@ -18,7 +18,7 @@ use Rattle.plan.specs.declared.Gate.the-variants.{Input, Add, Scale, Offset, Mu
 use Rattle.plan.specs.declared.Step.{Step}
 use Rattle.plan.specs.declared.Step.the-variants.{DealInputs, DealProduct, DealZero, DealMasked, SendTruncated, DealDraws, OpenSpent, SendOuts}
 use Rattle.plan.specs.Plans.{Plan, partyCount, dealerCount, kindOf, isKind, kindCount, inputOwners, coinOwners, inputCount, ownInputCount, coinCount, ownCoinCount, outWires, ownOutCount, stepAt, received, mailCount, sentCount}
-use Rattle.plan.specs.File.{nAt, tAt, gateCountAt, outCountAt, planCheck, planOf}
+use Rattle.plan.specs.File.{pointAt, nAt, tAt, gateCountAt, outCountAt, planCheck, planOf}
 use Rattle.plan.proofs.Planned.{passing, between-true, Laid, laid, length-gates, length-outs}
 use Rattle.plan.proofs.Valid.{Plain, plain, valid, none-or-majority}
 use Rattle.plan.proofs.Counts.{plain-inputs, plain-coins, plain-sent}
@@ -49,7 +49,7 @@ module _ (bs : List ℕ) (passes : planCheck bs ≡ Passed) where
 
   pub parties-few : partyCount (planOf bs) ≤ 15
   unfolding partyCount planOf
-  parties-few = omega (arith, length-tab suc (nAt bs), between-true 1 15 (nAt bs) (passing bs passes .parties) .1)
+  parties-few = omega (arith, length-tab (pointAt bs) (nAt bs), between-true 1 15 (nAt bs) (passing bs passes .parties) .1)
 
   pub threshold-few : planOf bs .t ≤ 14
   unfolding planOf
@@ -147,7 +147,7 @@ module _ (bs : List ℕ) (passes : planCheck bs ≡ Passed) where
   pub sent-some : 1 ≤ sentCount plan
   unfolding partyCount planOf
   sent-some =
-      let n : 1 ≤ partyCount (planOf bs) = omega (arith, length-tab suc (nAt bs), between-true 1 15 (nAt bs) (passing bs passes .parties) .0) in
+      let n : 1 ≤ partyCount (planOf bs) = omega (arith, length-tab (pointAt bs) (nAt bs), between-true 1 15 (nAt bs) (passing bs passes .parties) .0) in
       let k : ℕ = kindCount (planOf bs) 1 + kindCount (planOf bs) 5 * dealerCount (planOf bs) + length (planOf bs .outs) in
       let l : 1 ≤ k = omega (arith, length-outs bs, between-true 1 64 (outCountAt bs) (laid-out .outs) .0) in
       omega (arith, plain-sent plan file-plain, mul-le-mul {n₁ = 1} {m₁ = 1} {n₂ = partyCount (planOf bs)} {m₂ = k} n l)

@@ -103,10 +103,10 @@ module _ (plan : Plan) (ok : Valid plan) (i : ℕ) (mail : List ℕ) (below : al
 -- ---- a call that is refused with 20
 module _ (bytes : List ℕ) (i : ℕ) (inputs coins state mail : List ℕ) (room place : ℕ)
     (e : callAnswer bytes i inputs coins state mail room ≡ Refused (refusal.OffPolynomial place)) where
-  parts : (firstOf (take 20 (callChecks bytes i inputs coins state mail room)) ≡ Passed) × (firstOf (drop 20 (callChecks bytes i inputs coins state mail room)) ≡ Refused (refusal.OffPolynomial place))
+  parts : (firstOf (take 21 (callChecks bytes i inputs coins state mail room)) ≡ Passed) × (firstOf (drop 21 (callChecks bytes i inputs coins state mail room)) ≡ Refused (refusal.OffPolynomial place))
   unfolding callAnswer callChecks numberOf isIn
   parts =
-      split-at 20 (planNumbers ++ partyNumbers) (callChecks bytes i inputs coins state mail room)
+      split-at 21 (planNumbers ++ partyNumbers) (callChecks bytes i inputs coins state mail room)
       (joined (plan-numbers bytes) (party-numbers (planOf bytes) i inputs coins state mail room)) (refusal.OffPolynomial place) refl e
 
   passes : planCheck bytes ≡ Passed
@@ -117,7 +117,7 @@ module _ (bytes : List ℕ) (i : ℕ) (inputs coins state mail : List ℕ) (room
   unfolding callChecks planChecks partyChecks
   below =
       firstOver-nothing (planOf bytes .p) (numbers mail)
-      (passed-found refusal.MailValue (firstOver (planOf bytes .p) (numbers mail)) (first-passed (take 20 (callChecks bytes i inputs coins state mail room)) (parts .0) 18))
+      (passed-found refusal.MailValue (firstOver (planOf bytes .p) (numbers mail)) (first-passed (take 21 (callChecks bytes i inputs coins state mail room)) (parts .0) 19))
 
   opening : openingCheck (planOf bytes) i (getD (numbers state) 0 0) (numbers mail) ≡ Refused (refusal.OffPolynomial place)
   unfolding callChecks planChecks partyChecks firstOf

@@ -27,7 +27,7 @@ use Rattle.plan.specs.declared.Checked.the-variants.{Passed, Refused}
 use Rattle.plan.specs.Refusals.{numberOf, placeOf, codeOf, andThen, firstOf, need, unlessFound}
 use Rattle.plan.proofs.Refusals.{firstOf-append, passed-both, passed-need, first-refused}
 use Rattle.plan.specs.Plans.{Plan, partyCount, lastCall, inputCount, ownInputCount, coinCount, ownCoinCount, ownOutCount, mailCount, sentCount}
-use Rattle.plan.specs.File.{gateCountAt, outCountAt, gateKept, outKept, layoutOk, majorityCheck, planChecks, planCheck, planOf}
+use Rattle.plan.specs.File.{gateCountAt, outCountAt, gateKept, outKept, layoutOk, majorityCheck, pointsCheck, planChecks, planCheck, planOf}
 use Rattle.plan.proofs.Planned.{between-true, Laid, laid}
 use Rattle.seat_messages.specs.Messages.{fromEach}
 use Rattle.seat_messages.specs.Calls.{onPolynomial, outsCheck, openingCheck, partyChecks, callChecks, callAnswer, unlessRefused, stateAfter, outAfter}
@@ -150,6 +150,7 @@ number-range refusal.Layout = (omega arith, omega arith)
 number-range (refusal.GateRule g) = (omega arith, omega arith)
 number-range (refusal.OutputRule o) = (omega arith, omega arith)
 number-range refusal.Majority = (omega arith, omega arith)
+number-range refusal.Points = (omega arith, omega arith)
 number-range refusal.Price = (omega arith, omega arith)
 number-range refusal.Coalition = (omega arith, omega arith)
 number-range refusal.InputCount = (omega arith, omega arith)
@@ -255,7 +256,7 @@ module _ {ns : List ℕ} {cs : List Checked} (K : Type 0) (numbers : Numbers ns 
 
 -- ---- the checks of each call
 abbrev pub planNumbers : List ℕ
-planNumbers = 1 ∷ 2 ∷ 3 ∷ 4 ∷ 5 ∷ 6 ∷ 7 ∷ 8 ∷ 25 ∷ []
+planNumbers = 1 ∷ 2 ∷ 3 ∷ 4 ∷ 5 ∷ 6 ∷ 7 ∷ 8 ∷ 25 ∷ 26 ∷ []
 
 abbrev pub partyNumbers : List ℕ
 partyNumbers = 9 ∷ 10 ∷ 11 ∷ 12 ∷ 13 ∷ 14 ∷ 15 ∷ 16 ∷ 17 ∷ 18 ∷ 19 ∷ 20 ∷ []
@@ -267,7 +268,7 @@ abbrev pairNumbers : List ℕ
 pairNumbers = 9 ∷ 10 ∷ 10 ∷ 11 ∷ 11 ∷ 12 ∷ 13 ∷ 19 ∷ 21 ∷ 22 ∷ []
 
 pub plan-numbers : (bs : List ℕ) → Numbers planNumbers (planChecks bs)
-unfolding planChecks majorityCheck numberOf
+unfolding planChecks majorityCheck pointsCheck numberOf
 plan-numbers bs =
     need-number refusal.Magic _
     ▹ need-number refusal.Version _
@@ -278,6 +279,7 @@ plan-numbers bs =
     ▹ found-number refusal.GateRule 7 _ (λ i. refl)
     ▹ found-number refusal.OutputRule 8 _ (λ i. refl)
     ▹ found-number (λ g. refusal.Majority) 25 _ (λ i. refl)
+    ▹ found-number (λ i. refusal.Points) 26 _ (λ i. refl)
     ▹ none
 
 opening-number : (plan : Plan) (i k : ℕ) (mail : List ℕ) → Numbered 20 (openingCheck plan i k mail)
@@ -355,7 +357,7 @@ unfolding priceChecks numberOf
 price-numbers bs price room = need-number refusal.Price _ ▹ need-number refusal.BufferLength _ ▹ none
 
 plan-bounded : (bs : List ℕ) → Bounded (planChecks bs)
-unfolding planChecks majorityCheck placeOf
+unfolding planChecks majorityCheck pointsCheck placeOf
 plan-bounded bs =
     need-small refusal.Magic _ refl
     ▸ λ e1. need-small refusal.Version _ refl
@@ -366,7 +368,8 @@ plan-bounded bs =
     ▸ λ e6. gates-small (laid bs (passed-need refusal.Layout (layoutOk bs) e6))
     ▸ λ e7. outs-small (laid bs (passed-need refusal.Layout (layoutOk bs) e6))
     ▸ λ e8. found-below (λ g. refusal.Majority) _ (λ i q. omega arith)
-    ▸ λ e9. Bounded.none
+    ▸ λ e9. found-below (λ i. refusal.Points) _ (λ i q. omega arith)
+    ▸ λ e10. Bounded.none
   where
     gates-small : Laid bs → Small (unlessFound refusal.GateRule (firstFailing (gateKept bs) (gateCountAt bs)))
     gates-small l = found-small refusal.GateRule _ (λ i. refl) (search-small (gateKept bs) (gateCountAt bs) (omega (arith, between-true 1 1024 (gateCountAt bs) (l .gates) .1)))

@@ -1,23 +1,26 @@
--- What else is claimed beside the demands: of the matching from its calls alone, of a view piece by piece, of the sizes that a host cuts by, and of
--- the party that refusal 20 tells.
+-- What else is claimed beside the demands: of the matching from its calls alone, of a view piece by piece, of the sizes that a host cuts by, of
+-- the party that refusal 20 tells, and of a plan file in both versions.
 use Prim.Native.Nat.{ℕ, suc, _+_, _*_, _≤_, _<_}
 use mathlib.Core.Path.{_≡_}
 use mathlib.Core.Bool.{true}
-use mathlib.Core.List.{List, []}
-use lib.ListN.{length}
+use mathlib.Core.List.{List, [], _∷_, _++_}
+use lib.ListN.{length, drop}
+use Rattle.numbers.specs.Tables.{tab}
 use Rattle.numbers.specs.Bytes.{width, numbers, allBelow}
 use Rattle.sharing_laws.specs.OffLine.{OnOne, OffAt}
 use Rattle.plan.specs.declared.Checked.the-variants.{Passed, Refused}
 use Rattle.plan.specs.declared.Refusal.the-variants as refusal
 use Rattle.plan.specs.Plans.{Plan, partyCount, lastCall, ownInputs, ownCoins, ownOutCount, mailCount, writtenCount}
-use Rattle.plan.specs.File.{planOf}
+use Rattle.plan.specs.File.{magic, versionAt, nAt, tAt, pAt, gateCountAt, outCountAt, planCheck, planOf}
 use Rattle.plan_coalition.specs.Coalitions.{inSet, members}
 use Rattle.seat_messages.specs.Messages.{fromEach}
-use Rattle.seat_messages.specs.Calls.{callAnswer}
+use Rattle.seat_messages.specs.Calls.{callAnswer, stateAfter, outAfter}
+use Rattle.plan_file.specs.Bodies.{words}
+use Rattle.run_bench.specs.BenchCalls.{benchAnswer, viewAfter}
 use Rattle.run_protocol.specs.Rounds.{mailTo, after, results, viewCount}
 use Rattle.run_protocol.specs.Settings.{Coins}
 use Rattle.match_privacy.specs.Matching.{matchedCoins}
-use Rattle.match_agreement.specs.MatchCalls.{matchAnswer}
+use Rattle.match_agreement.specs.MatchCalls.{matchAnswer, matchedAfter}
 use Rattle.demands.specs.Apart.{partCount}
 use Rattle.demands.specs.Demands.{Alike, SameBytes}
 
@@ -70,3 +73,25 @@ FirstBroken =
     (bytes : List ℕ) (i : ℕ) (inputs coins state mail : List ℕ) (room place : ℕ)
     → callAnswer bytes i inputs coins state mail room ≡ Refused (refusal.OffPolynomial place)
     → Broken (planOf bytes) i (numbers mail) place
+
+-- ---- a version 1 file as one of version 2: gates and outs two bytes on, after them the points 1 to n
+unfoldable pub secondVersion : List ℕ → List ℕ
+secondVersion bytes =
+    (magic
+    ++ (2 ∷ nAt bytes ∷ tAt bytes ∷ 0
+    ∷ words (pAt bytes ∷ 20 ∷ gateCountAt bytes ∷ (20 + 6 * gateCountAt bytes) ∷ outCountAt bytes ∷ (20 + 6 * gateCountAt bytes + 3 * outCountAt bytes) ∷ [])))
+    ++ (drop 18 bytes ++ words (tab suc (nAt bytes)))
+
+-- two files with which every call answers and writes the same
+pub record SameCalls (first second : List ℕ) : Type 0 where
+  pub answer : (i : ℕ) (inputs coins state mail : List ℕ) (room : ℕ) → callAnswer second i inputs coins state mail room ≡ callAnswer first i inputs coins state mail room
+  pub state : (i : ℕ) (inputs coins state mail : List ℕ) (room : ℕ) → stateAfter second i inputs coins state mail room ≡ stateAfter first i inputs coins state mail room
+  pub sent : (i : ℕ) (inputs coins state mail out : List ℕ) → outAfter second i inputs coins state mail out ≡ outAfter first i inputs coins state mail out
+  pub bench : (set : ℕ) (inputs coins : List ℕ) (room : ℕ) → benchAnswer second set inputs coins room ≡ benchAnswer first set inputs coins room
+  pub view : (set : ℕ) (inputs coins out : List ℕ) → viewAfter second set inputs coins out ≡ viewAfter first set inputs coins out
+  pub matching : (set : ℕ) (xs ys coins : List ℕ) (room : ℕ) → matchAnswer second set xs ys coins room ≡ matchAnswer first set xs ys coins room
+  pub matched : (set : ℕ) (xs ys coins out : List ℕ) → matchedAfter second set xs ys coins out ≡ matchedAfter first set xs ys coins out
+
+-- the points 1 to n may be written out
+abbrev pub SameVersions : Type 0
+SameVersions = (bytes : List ℕ) → versionAt bytes ≡ 1 → planCheck bytes ≡ Passed → SameCalls bytes (secondVersion bytes)

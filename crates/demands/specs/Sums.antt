@@ -1,4 +1,4 @@
--- The sums worked by hand of document 01, P1 to P10, as one table, with those of R-3 and R-9 of document 02; and that plan K with P5's lists meets the premises of the demands.
+-- The sums worked by hand of document 01, P1 to P10, as one table, with those of R-3, R-4 and R-9 of document 02; and that plan K with P5's lists meets the premises of the demands.
 use Prim.Native.Nat.{ℕ, _+_, _*_}
 use mathlib.Core.Path.{_≡_}
 use mathlib.Core.Bool.{true}
@@ -6,7 +6,7 @@ use mathlib.Core.List.{List, [], _∷_, _++_, map}
 use Rattle.numbers.specs.Bytes.{bytesOf, allBelow}
 use Rattle.sharing_laws.specs.Interp.{weights, interpolate, delta}
 use Rattle.plan.specs.Refusals.{codeOf, firstOf}
-use Rattle.plan.specs.Plans.{Plan}
+use Rattle.plan.specs.Plans.{Plan, pointOf}
 use Rattle.plan.specs.declared.Gate.the-variants.{Multiply}
 use Rattle.plan.specs.File.{planCheck, planOf}
 use Rattle.seat_messages.specs.Calls.{onPolynomial, callAnswer}
@@ -37,6 +37,15 @@ likeK n t low high = contents n t low high ++ bodies 3
 
 unfoldable pub K : Plan
 K = planOf (likeK 3 1 11 0)
+
+-- K of version 2 with p = 101 and these points
+unfoldable pub pointed : ℕ → ℕ → ℕ → List ℕ
+pointed a b c =
+    80 ∷ 79 ∷ 79 ∷ 76 ∷ 2 ∷ 3 ∷ 1 ∷ 0 ∷ 101 ∷ 0 ∷ 20 ∷ 0 ∷ 4 ∷ 0 ∷ 44 ∷ 0 ∷ 1 ∷ 0 ∷ 47 ∷ 0 ∷ (bodies 3 ++ (a ∷ 0 ∷ b ∷ 0 ∷ c ∷ 0 ∷ []))
+
+-- site codes as points
+unfoldable pub Codes : Plan
+Codes = planOf (pointed 7 40 3)
 
 -- P9's file: n = 1, t = 0, p = 2, input 1, one out: party 1, wire 0
 unfoldable pub single : List ℕ
@@ -119,6 +128,20 @@ pub record Sums : Type 0 where
   pub r3-other-coins : matchedCoins (planOf addition) (1 ∷ 4 ∷ []) inputs3 (2 ∷ 2 ∷ 0 ∷ 0 ∷ []) coins3 ≡ 0 ∷ 0 ∷ 0 ∷ 0 ∷ 2 ∷ 1 ∷ 3 ∷ 2 ∷ []
   pub r3-view :
       view (planOf addition) (1 ∷ 4 ∷ []) (2 ∷ 0 ∷ 2 ∷ 0 ∷ []) (0 ∷ 0 ∷ 0 ∷ 2 ∷ 2 ∷ 4 ∷ 3 ∷ 2 ∷ []) [] ≡ view (planOf addition) (1 ∷ 4 ∷ []) inputs3 coins3 []
+  -- R-4: K over 101 with the points 7, 40, 3, its run and its matching for party 3; 26 for 0, for p and for a point that stands twice
+  pub r4-passes : codeOf (planCheck (pointed 7 40 3)) ≡ 0
+  pub r4-weights : weights 101 0 (Codes .points) ≡ 45 ∷ 36 ∷ 21 ∷ []
+  pub r4-shares :
+      map (λ w. map (wireAt (shareTable Codes inputs1 coins1 []) w) (Codes .points)) (0 ∷ 1 ∷ 2 ∷ 3 ∷ [])
+      ≡ (18 ∷ 84 ∷ 10 ∷ []) ∷ (26 ∷ 24 ∷ 14 ∷ []) ∷ (99 ∷ 53 ∷ 25 ∷ []) ∷ (16 ∷ 36 ∷ 35 ∷ []) ∷ []
+  pub r4-result : results Codes inputs1 coins1 [] 3 ≡ 24 ∷ []
+  pub r4-view : view Codes (3 ∷ []) inputs1 coins1 [] ≡ 7 ∷ 10 ∷ 14 ∷ 67 ∷ 11 ∷ 60 ∷ 16 ∷ 36 ∷ 35 ∷ 24 ∷ []
+  pub r4-delta : delta 101 (map (pointOf Codes) (3 ∷ [])) ≡ 1 ∷ 67 ∷ []
+  pub r4-coins : matchedCoins Codes (3 ∷ []) inputs1 (8 ∷ 2 ∷ []) coins1 ≡ 68 ∷ 4 ∷ 64 ∷ 17 ∷ 7 ∷ []
+  pub r4-matched : view Codes (3 ∷ []) (8 ∷ 2 ∷ []) (68 ∷ 4 ∷ 64 ∷ 17 ∷ 7 ∷ []) [] ≡ view Codes (3 ∷ []) inputs1 coins1 []
+  pub r4-zero : codeOf (planCheck (pointed 7 0 3)) ≡ 26
+  pub r4-prime : codeOf (planCheck (pointed 7 40 101)) ≡ 26
+  pub r4-twice : codeOf (planCheck (pointed 7 40 7)) ≡ 26
   -- R-9: seat 3's last call in P1's run, its shares 10 7 4 as they came and with the last wrong; and three openings of five shares, of which the
   -- second breaks at seats 4 and 5, the third at seat 3
   pub r9-right : lastCallOf (10 ∷ 7 ∷ 4 ∷ []) ≡ 0

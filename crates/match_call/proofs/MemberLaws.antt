@@ -1,5 +1,5 @@
 -- The members of a coalition by their bits, and the coins moved by delta's coefficients as the code has them.
---     member-is, points-of-members, members-below      the members, and their points
+--     member-is, points-of-members, members-below      the members, and their points as the code has them
 --     length-tail, tail-below                          delta's coefficients of X to X^t
 --     block-is, blocks-are                             the coins moved are the matched coins
 -- Assumes nothing.
@@ -10,13 +10,11 @@ use mathlib.Core.List.{List, [], _∷_, _++_, map, tail}
 use Prim.Native.Nat.{ℕ, zero, suc, _+_, _-_, _*_, _≤_, _<_}
 use native.Mathlib.Nat.{eq-or-lt-of-le}
 use native.Mathlib.Omega.{arith}
-use borrow.Author.Tests.{eq-eqb, ne-eqb, lt-ltb}
-use lib.Dec.{eqb}
+use borrow.Author.Tests.{eq-eqb, ne-eqb}
 use lib.ListN.{length, getD, take, drop, replicate, length-append, length-replicate, length-drop, length-map}
 use lib.Seq.{length-take-le}
 use Rattle.numbers.specs.Bytes.{allBelow}
-use Rattle.numbers.proofs.Tables.{getD-tab}
-use Rattle.numbers.proofs.Below.{allBelow-at, at-allBelow}
+use Rattle.numbers.proofs.Below.{allBelow-at, at-allBelow, map-below}
 use Rattle.field.specs.Mod.{add, mul, sub}
 use Rattle.field.proofs.Solve.{Canon, #, quote, solve}
 use Rattle.field.proofs.Inverse.{pos}
@@ -32,13 +30,14 @@ use Rattle.plan.specs.Plans.{Plan, pointOf}
 use Rattle.plan.specs.File.{planOf}
 use Rattle.plan.specs.Planned.{Planned}
 use Rattle.plan_coalition.specs.Coalitions.{inSet, membersFrom, members, setOk}
-use Rattle.plan.proofs.Planned.{plan-n, plan-points}
-use Rattle.plan.proofs.Valid.{Valid}
+use Rattle.plan.proofs.Valid.{Valid, planned-ready}
+use Rattle.sharing.proofs.Coding.{entry-below}
+use Rattle.seat_messages.proofs.PointLaws.{plan-points-below}
 use Rattle.match_privacy.specs.Matching.{isMember, matchedBlocks}
-use Rattle.match_moves.specs.Moves.{moved, changeOf, movedBlocks}
+use Rattle.match_moves.specs.Moves.{memberPoints, moved, changeOf, movedBlocks}
 use Rattle.match_call.specs.MatchSteps.{deltaTail}
 use Rattle.match_privacy.proofs.Blocks.{matchedBlock, blocks-cons, block-member, block-other}
-use Rattle.match_privacy.proofs.SetMembers.{member-in, set-few, set-parties, members-from1}
+use Rattle.match_privacy.proofs.SetMembers.{member-in, set-few}
 
 -- a party's dealing of t coins
 abbrev pub dealingBy : Plan → ℕ → Dealing
@@ -69,44 +68,17 @@ pub member-is : (set d : ℕ) → 1 ≤ d → d ≤ 16 → isMember d (members s
 unfolding members
 member-is set d lo hi = both-ways (isMember d (membersFrom set 1 16)) (inSet set d) (member-in set 16 d 1) (λ on. in-member set 16 d 1 on lo (omega arith))
 
--- ---- what holds of every member
-in-tail : (i m : ℕ) (ms : List ℕ) → isMember i ms ≡ true → isMember i (m ∷ ms) ≡ true
-unfolding isMember
-in-tail i m ms e = pick (eqb i m)
-  where
-    pick : (b : Bool) → cond b true (isMember i ms) ≡ true
-    pick true = refl
-    pick false = e
+-- ---- the points of the members
+module _ (bs : List ℕ) (h : Header) (k : Planned bs h) (set : ℕ) (points : List ℕ) (e : points ≡ planOf bs .points) where
+  pub points-of-members : memberPoints points set ≡ map (pointOf (planOf bs)) (members set)
+  unfolding memberPoints pointOf
+  points-of-members = rw e
 
-in-head : (m : ℕ) (ms : List ℕ) → isMember m (m ∷ ms) ≡ true
-unfolding isMember
-in-head m ms = rw (eq-eqb m m refl)
-
-map-same : (f : ℕ → ℕ) (ms : List ℕ) → ((i : ℕ) → isMember i ms ≡ true → f i ≡ i) → map f ms ≡ ms
-map-same f [] h = refl
-map-same f (m ∷ ms) h = ap₂ (λ (x : ℕ) (l : List ℕ). x ∷ l) (h m (in-head m ms)) (map-same f ms (λ i e. h i (in-tail i m ms e)))
-
-each-below : (p : ℕ) (ms : List ℕ) → ((i : ℕ) → isMember i ms ≡ true → i < p) → allBelow p ms ≡ true
-unfolding allBelow
-each-below p [] h = refl
-each-below p (m ∷ ms) h = rw (lt-ltb m p (h m (in-head m ms))) (each-below p ms (λ i e. h i (in-tail i m ms e)))
-
-module _ (bs : List ℕ) (h : Header) (set : ℕ) (k : Planned bs h) (ok : setOk (planOf bs) set ≡ true) where
-  member-high : (i : ℕ) → isMember i (members set) ≡ true → i ≤ h .n
-  member-high i m = rw (← plan-n k) (set-parties (planOf bs) set ok i m)
-
-  pub points-of-members : map (pointOf (planOf bs)) (members set) ≡ members set
-  unfolding pointOf
-  points-of-members =
-      map-same (pointOf (planOf bs)) (members set)
-      (λ i m.
-      let lo : 1 ≤ i = members-from1 set i m in
-      let hi : i ≤ h .n = member-high i m in
-      let e : suc (i - 1) ≡ i = omega arith in
-      rw (plan-points k, getD-tab suc (h .n) (i - 1) 0 (omega arith)) e)
-
-  pub members-below : allBelow (h .field .p) (members set) ≡ true
-  members-below = each-below (h .field .p) (members set) (λ i m. omega (arith, member-high i m, k .p-low))
+  pub members-below : allBelow (h .field .p) (memberPoints points set) ≡ true
+  members-below =
+      ap (allBelow (h .field .p)) points-of-members
+      ∙ map-below (h .field .p) (pointOf (planOf bs)) (members set)
+      (λ i. unfold pointOf in entry-below (h .field .p) (planOf bs .points) (i - 1) (planned-ready bs h k) (plan-points-below bs h k))
 
 -- ---- delta's coefficients of X to X^t
 tail-padded : (n : ℕ) (f : List ℕ) → 0 < length f → tail (padded n f) ≡ tail f ++ replicate (n - length f) 0

@@ -12,7 +12,7 @@ use native.Mathlib.Numerals.{add-one}
 use native.Mathlib.Nat.{mul-zero, mul-le-mul}
 use native.Mathlib.Omega.{arith}
 use borrow.Author.Needs.{needs}
-use lib.ListN.{length, getD, take, drop, length-append, drop-of-length-le}
+use lib.ListN.{length, getD, take, drop, length-append, drop-of-length-le, length-map}
 use lib.Seq.{length-take-le, take-all, take-at, drop-cons, drop-drop}
 use mir.Syntax.{w8, w64}
 use mir.Val.{Fits}
@@ -39,9 +39,10 @@ use Rattle.run_protocol.specs.Shares.{Before, gateShare, past, startOf}
 use Rattle.run_protocol.proofs.Below.{gate-canon}
 use Rattle.run_dealings.specs.Rows.{rowsOf, Prepared, Standing, Holds}
 use Rattle.run_tables.proofs.FillLaws.{rows-snoc, taken-within}
-use Rattle.run_tables.proofs.StepLaws.{placing}
+use Rattle.run_tables.proofs.StepLaws.{placing, points-counted}
 use Rattle.match_privacy.specs.Matching.{withCoins, matchedAt, matchFrom, matchedWith, matchedCoins}
 use Rattle.match_agreement.specs.MatchParts.{Matchable}
+use Rattle.match_moves.specs.Moves.{memberPoints}
 use Rattle.match_call.specs.MatchSteps.{deltaTail, Equipped, Turn, Matched}
 use Rattle.match_privacy.proofs.SetMembers.{set-few}
 use Rattle.run_ideal.proofs.IdealLaws.{taken-next}
@@ -239,8 +240,9 @@ module _ (bs : List ℕ) (h : Header) (set : ℕ) (es ps rows ws xs ys coins : L
 pub ruleset matching-runs = (needs, match-none, match-fits, match-equipped, match-planned, match-prepared, match-turn, match-done, match-same)
 
 -- ---- delta's coefficients
-pub members-count : (set k : ℕ) (room : List ℕ) → take k room ≡ members set → k ≡ length (members set) → k ≡ length (take k room)
-members-count set k room e l = l ∙ sym (ap length e)
+pub members-count : (points : List ℕ) (set k : ℕ) (room : List ℕ) → take k room ≡ memberPoints points set → k ≡ length (members set) → k ≡ length (take k room)
+unfolding memberPoints
+members-count points set k room e l = l ∙ sym (ap length e ∙ length-map (members set) _)
 
 drop-tail : (f r : List ℕ) → 0 < length f → drop 1 (f ++ r) ≡ tail f ++ r
 drop-tail [] r l = absurd (omega arith)
@@ -251,40 +253,42 @@ unfolding padded
 padded-long n f l = rw length-append (omega arith)
 
 tail-of :
-    (bs : List ℕ) (h : Header) (p : Planned bs h) (set : ℕ) → setOk (planOf bs) set ≡ true
-    → deltaTail (planOf bs) set ≡ tail (padded (h .t + 1) (delta (h .field .p) (members set)))
+    (bs : List ℕ) (h : Header) (p : Planned bs h) (set : ℕ) (points : List ℕ) → points ≡ planOf bs .points
+    → deltaTail (planOf bs) set ≡ tail (padded (h .t + 1) (delta (h .field .p) (memberPoints points set)))
 unfolding deltaTail
-tail-of bs h p set ok =
+tail-of bs h p set points e =
     let ep : planOf bs .p ≡ h .field .p = plan-p p in
     let et : planOf bs .t ≡ h .t = plan-t p in
-    let em : map (pointOf (planOf bs)) (members set) ≡ members set = points-of-members bs h set p ok in
+    let em : memberPoints points set ≡ map (pointOf (planOf bs)) (members set) = points-of-members bs h p set points e in
     cc
 
 module _ (bs : List ℕ) (h : Header) (p : Planned bs h) (d : List ℕ) (size : length d ≡ 15) where
   pub delta-count : h .t + 1 ≡ length (take (h .t + 1) d)
   delta-count = sym (length-take-le (h .t + 1) d (omega (arith, p .threshold, p .n-high)))
 
-  module _ (set : ℕ) (ok : setOk (planOf bs) set ≡ true) (k : ℕ) (room : List ℕ) (e : take k room ≡ members set) where
+  module _ (set : ℕ) (ok : setOk (planOf bs) set ≡ true) (points : List ℕ) (is : points ≡ planOf bs .points) (k : ℕ) (room : List ℕ) (e : take k room ≡ memberPoints points set) where
     pub members-room : length (take k room) + 1 ≤ length (take (h .t + 1) d)
-    members-room = rw (e, ← delta-count) (omega (arith, set-few (planOf bs) set ok, plan-t p))
+    unfolding memberPoints
+    members-room = rw (e, length-map, ← delta-count) (omega (arith, set-few (planOf bs) set ok, plan-t p))
 
     pub delta-tail :
         (ys : List ℕ) → ys ≡ padded (length (take (h .t + 1) d)) (delta (h .field .p) (take k room)) → take (h .t + 1 - 1) (drop 1 (ys ++ drop (h .t + 1) d)) ≡ deltaTail (planOf bs) set
     delta-tail ys ey =
-        let f : List ℕ = padded (h .t + 1) (delta (h .field .p) (members set)) in
-        let is : ys ≡ f = ey ∙ ap₂ (λ (n : ℕ) (ms : List ℕ). padded n (delta (h .field .p) ms)) (sym delta-count) e in
-        let long : 0 < length f = padded-long (h .t + 1) (delta (h .field .p) (members set)) (omega (arith, length-delta (h .field .p) (members set))) in
-        let all : deltaTail (planOf bs) set ≡ tail f = tail-of bs h p set ok in
+        let f : List ℕ = padded (h .t + 1) (delta (h .field .p) (memberPoints points set)) in
+        let same : ys ≡ f = ey ∙ ap₂ (λ (n : ℕ) (ms : List ℕ). padded n (delta (h .field .p) ms)) (sym delta-count) e in
+        let long : 0 < length f = padded-long (h .t + 1) (delta (h .field .p) (memberPoints points set)) (omega (arith, length-delta (h .field .p) (memberPoints points set))) in
+        let all : deltaTail (planOf bs) set ≡ tail f = tail-of bs h p set points is in
         let n : h .t + 1 - 1 ≡ h .t = omega arith in
-        ap₂ (λ (m : ℕ) (l : List ℕ). take m (drop 1 (l ++ drop (h .t + 1) d))) n is
+        ap₂ (λ (m : ℕ) (l : List ℕ). take m (drop 1 (l ++ drop (h .t + 1) d))) n same
         ∙ ap (take (h .t)) (drop-tail f (drop (h .t + 1) d) long)
         ∙ take-at (tail f) (drop (h .t + 1) d) (h .t) (sym (ap length all) ∙ length-tail (planOf bs) (valid bs (p .passes)) set ok ∙ plan-t p)
         ∙ sym all
 
-pub points-small : (bs : List ℕ) (h : Header) (set k : ℕ) (room : List ℕ) → Planned bs h → setOk (planOf bs) set ≡ true → take k room ≡ members set → allBelow (h .field .p) (take k room) ≡ true
-points-small bs h set k room p ok e = rw e (members-below bs h set p ok)
+pub points-small : (bs : List ℕ) (h : Header) (set k : ℕ) (points room : List ℕ) → Planned bs h → points ≡ planOf bs .points → take k room ≡ memberPoints points set
+    → allBelow (h .field .p) (take k room) ≡ true
+points-small bs h set k points room p is e = rw e (members-below bs h p set points is)
 
-pub ruleset finding-delta = (needs, planned-ready, members-count, delta-count, members-room, points-small, delta-tail)
+pub ruleset finding-delta = (needs, planned-ready, points-counted, members-count, delta-count, members-room, points-small, delta-tail)
 
 -- ---- the whole
 pub equip : (bs : List ℕ) (h : Header) (set : ℕ) (xs ys coins : List ℕ) (room : ℕ) (es : List ℕ) → Planned bs h → Matchable bs h set xs ys coins room → es ≡ deltaTail (planOf bs) set → Equipped bs h set es

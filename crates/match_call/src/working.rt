@@ -258,10 +258,12 @@ fn delta(plan: &[u8], h: Header, set: u16) -> [u64; 15]
     ensures { λ r. ⌜ take (h .t + 1 - 1) (drop 1 r) ≡ deltaTail (planOf (now (plan .entry))) set ⌝ }
 {
     let e = h.t + 1;
-    let mut points = [0u64; 16];
+    let n = h.n;
+    let points = seat_messages::points_of(plan, h);
+    let mut room = [0u64; 16];
     let mut delta = [0u64; 15];
-    let k = match_moves::members(set, &mut points);
-    sharing_delta::vanishing(h.field, &points[..k], &mut delta[..e]);
+    let k = match_moves::members(set, &points[..n], &mut room);
+    sharing_delta::vanishing(h.field, &room[..k], &mut delta[..e]);
     delta
 }
 

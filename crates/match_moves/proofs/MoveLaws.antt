@@ -1,17 +1,17 @@
 -- What each way through the code that moves coins says of its definition.
---     Gathered, gathering        the members of a set
+--     Gathered, gathering        the points of a set's members
 --     Moving, moving             the coins of one dealing
 --     Blocking, moving-blocks    the coins of several dealings
 -- Assumes nothing.
 use mathlib.Core.Path.{_≡_, refl, sym, ap, ap₂, _∙_}
 use mathlib.Core.Bool.{Bool, true, false, cond}
-use mathlib.Core.List.{List, [], _∷_, _++_, tail, append-assoc, append-nil}
+use mathlib.Core.List.{List, [], _∷_, _++_, map, tail, append-assoc, append-nil}
 use Prim.Native.Nat.{ℕ, suc, _+_, _-_, _*_, _/_, _%_, _^_, _<_, _≤_}
 use native.Mathlib.Numerals.{add-one}
 use native.Mathlib.Nat.{add-zero, mul-zero, mul-suc, mul-le-mul-left, mod-lt}
 use native.Mathlib.Omega.{arith}
 use borrow.Author.Needs.{needs}
-use lib.ListN.{length, getD, take, drop, set, length-set, length-drop, drop-of-length-le}
+use lib.ListN.{length, getD, take, drop, set, length-set, length-drop, length-map, drop-of-length-le, List·getD-eq-default}
 use lib.Seq.{take-nil, take-suc-set, take-set-le, length-take-le, getD-take, getD-drop, drop-cons, drop-drop}
 use mir.Syntax.{w64}
 use mir.Val.{Fits}
@@ -25,57 +25,65 @@ use Rattle.field.proofs.Products.{word}
 use Rattle.sharing_laws.specs.Poly.{sumOf, scale}
 use Rattle.sharing.proofs.Coding.{entry-below, step-value}
 use Rattle.plan_coalition.specs.Coalitions.{inSet, membersFrom, members}
-use Rattle.match_moves.specs.Moves.{moved, changeOf, movedBlocks, Lent, Written, Advanced}
+use Rattle.match_moves.specs.Moves.{memberPoints, moved, changeOf, movedBlocks, Lent, Written, Advanced}
 
--- ---- the members of a set: those below i stand in front
-pub record Gathered (coalition : ℕ) (d : List ℕ) (k i : ℕ) : Type 0 where
+-- ---- the points of a set's members: those of members below i stand in front
+pub point-past : (points : List ℕ) (i : ℕ) → length points ≤ i - 1 → 0 ≡ getD points (i - 1) 0
+point-past points i l = sym (List·getD-eq-default points 0 {n = i - 1} l)
+
+pub record Gathered (points : List ℕ) (coalition : ℕ) (d : List ℕ) (k i : ℕ) : Type 0 where
   pub low : 1 ≤ i
   pub high : i ≤ 17
   pub few : k + 1 ≤ i
   pub long : length d ≡ 16
-  pub rest : take k d ++ membersFrom coalition i (17 - i) ≡ members coalition
+  pub rest : take k d ++ map (λ j. getD points (j - 1) 0) (membersFrom coalition i (17 - i)) ≡ memberPoints points coalition
 
-pub gather-none : (coalition : ℕ) (d : List ℕ) → length d ≡ 16 → Gathered coalition d 0 1
-unfolding members
-gather-none coalition d e = record { low = omega arith; high = omega arith; few = omega arith; long = e; rest = refl }
+pub gather-none : (points : List ℕ) (coalition : ℕ) (d : List ℕ) → length d ≡ 16 → Gathered points coalition d 0 1
+unfolding members memberPoints
+gather-none points coalition d e = record { low = omega arith; high = omega arith; few = omega arith; long = e; rest = refl }
 
 -- one more where the test holds
-front-with : (coalition : ℕ) (d : List ℕ) (k i n : ℕ) → k < length d → (t : Bool) → inSet coalition i ≡ t
-    → take (k + cond t 1 0) (set d k i) ++ membersFrom coalition (suc i) n ≡ take k d ++ membersFrom coalition i (suc n)
+front-with : (at : ℕ → ℕ) (coalition : ℕ) (d : List ℕ) (k i n : ℕ) → k < length d → (t : Bool) → inSet coalition i ≡ t
+    → take (k + cond t 1 0) (set d k (at i)) ++ map at (membersFrom coalition (suc i) n) ≡ take k d ++ map at (membersFrom coalition i (suc n))
 unfolding membersFrom
-front-with coalition d k i n l true e = rw (e, add-one, take-suc-set d k i l, append-assoc)
-front-with coalition d k i n l false e = rw (e, add-zero, take-set-le k d k i (omega arith))
+front-with at coalition d k i n l true e = rw (e, add-one, take-suc-set d k (at i) l, append-assoc)
+front-with at coalition d k i n l false e = rw (e, add-zero, take-set-le k d k (at i) (omega arith))
 
-module _ (coalition : ℕ) (d : List ℕ) (k i : ℕ) (h : Gathered coalition d k i) where
+module _ (points : List ℕ) (coalition : ℕ) (d : List ℕ) (k i : ℕ) (h : Gathered points coalition d k i) where
+  abbrev at : ℕ → ℕ
+  at j = getD points (j - 1) 0
+
   pub gather-place : i ≤ 16 → k < length d
   gather-place l = omega (arith, h .few, h .long)
 
-  pub gather-next : (t : Bool) (o : ℕ) → i ≤ 16 → t ≡ inSet coalition i → o ≡ cond t 1 0 → o ≤ 1 → Gathered coalition (set d k i) (k + o) (i + 1)
-  gather-next t o l et eo le =
+  pub gather-next : (t : Bool) (o v : ℕ) → i ≤ 16 → v ≡ getD points (i - 1) 0 → t ≡ inSet coalition i → o ≡ cond t 1 0 → o ≤ 1
+      → Gathered points coalition (set d k v) (k + o) (i + 1)
+  gather-next t o v l ev et eo le =
       let e : 17 - i ≡ suc (17 - suc i) = omega (arith, h .high) in
       record {
         low = omega arith;
         high = omega arith;
         few = omega (arith, h .few);
-        long = length-set d k i ∙ h .long;
+        long = length-set d k v ∙ h .long;
         rest =
-            rw (eo, et, add-one) (front-with coalition d k i (17 - suc i) (gather-place l) (inSet coalition i) refl
-            ∙ ap (λ (n : ℕ). take k d ++ membersFrom coalition i n) (sym e) ∙ h .rest);
+            rw (ev, eo, et, add-one) (front-with at coalition d k i (17 - suc i) (gather-place l) (inSet coalition i) refl
+            ∙ ap (λ (n : ℕ). take k d ++ map at (membersFrom coalition i n)) (sym e) ∙ h .rest);
       }
 
-  pub gathered : 16 < i → take k d ≡ members coalition
+  pub gathered : 16 < i → take k d ≡ memberPoints points coalition
   unfolding membersFrom
   gathered l =
       let e : 17 - i ≡ 0 = omega (arith, h .high) in
-      sym (append-nil (take k d)) ∙ ap (λ (n : ℕ). take k d ++ membersFrom coalition i n) (sym e) ∙ h .rest
+      sym (append-nil (take k d)) ∙ ap (λ (n : ℕ). take k d ++ map at (membersFrom coalition i n)) (sym e) ∙ h .rest
 
   pub gathered-few : k ≤ 16
   gathered-few = omega (arith, h .few, h .high)
 
   pub gathered-count : 16 < i → k ≡ length (members coalition)
-  gathered-count l = sym (length-take-le k d (omega (arith, h .few, h .high, h .long))) ∙ ap length (gathered l)
+  unfolding memberPoints
+  gathered-count l = sym (length-take-le k d (omega (arith, h .few, h .high, h .long))) ∙ ap length (gathered l) ∙ length-map (members coalition) at
 
-pub ruleset gathering = (needs, gather-none, gather-place, gather-next, gathered, gathered-few, gathered-count)
+pub ruleset gathering = (needs, point-past, gather-none, gather-place, gather-next, gathered, gathered-few, gathered-count)
 
 -- ---- a change
 module _ (p : ℕ) (m : Bool) (s z : ℕ) where

@@ -1,8 +1,8 @@
 -- Coins moved by delta's coefficients, dealing by dealing.
-use Prim.Native.Nat.{ℕ, suc, _+_, _/_, _≤_}
+use Prim.Native.Nat.{ℕ, suc, _+_, _-_, _/_, _≤_}
 use mathlib.Core.Path.{_≡_}
 use mathlib.Core.Bool.{Bool, true, cond}
-use mathlib.Core.List.{List, [], _∷_, _++_}
+use mathlib.Core.List.{List, [], _∷_, _++_, map}
 use lib.ListN.{length, take, drop, getD}
 use Rattle.numbers.specs.Tables.{tab}
 use Rattle.numbers.specs.Bytes.{width, numbers, allBelow}
@@ -11,8 +11,12 @@ use Rattle.sharing_laws.specs.Poly.{sumOf, scale}
 use Rattle.plan.specs.declared.Gate.{Gate}
 use Rattle.plan.specs.declared.Gate.the-variants.{Input, Add, Scale, Offset, Multiply, Random, Spend}
 use Rattle.plan.specs.declared.Header.{Header}
-use Rattle.plan_coalition.specs.Coalitions.{inSet}
+use Rattle.plan_coalition.specs.Coalitions.{inSet, members}
 use Rattle.run_dealings.specs.Rows.{productsOf}
+
+-- of the parties' points, those of a set's members
+unfoldable pub memberPoints : List ℕ → ℕ → List ℕ
+memberPoints points set = map (λ i. getD points (i - 1) 0) (members set)
 
 -- coins moved by d times the coefficients es
 unfoldable pub moved : ℕ → ℕ → List ℕ → List ℕ → List ℕ

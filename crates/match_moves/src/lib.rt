@@ -1,4 +1,4 @@
-// The members of a set, and the coins of a gate's dealings moved by delta's coefficients.
+// The points of a set's members, and the coins of a gate's dealings moved by delta's coefficients.
 use field::Field;
 use plan::Gate;
 use plan::Header;
@@ -6,7 +6,7 @@ ghost use mathlib.Core.Path.{_≡_};
 ghost use mathlib.Core.Bool.{true};
 ghost use mathlib.Core.List.{[], _∷_};
 ghost use Prim.Native.Nat.{suc, _+_, _-_, _*_, _<_, _≤_};
-ghost use lib.ListN.{length, take, drop};
+ghost use lib.ListN.{length, getD, take, drop};
 ghost use Rattle.numbers.specs.Tables.{tab};
 ghost use Rattle.numbers.specs.Bytes.{numbers, allBelow};
 ghost use Rattle.field.specs.Field.{Below2, Is, Ready};
@@ -14,19 +14,31 @@ ghost use Rattle.plan.specs.Plans.{kindOf};
 ghost use Rattle.plan.specs.File.{gateOk, majorityOk};
 ghost use Rattle.plan_coalition.specs.Coalitions.{members};
 ghost use Rattle.run_dealings.specs.Rows.{productsOf, Sized, Rowed, Standing};
-ghost use Rattle.match_moves.specs.Moves.{moved, changeOf, movedBlocks, dealersIn, dealtIn, Lent, Written, Advanced};
+ghost use Rattle.match_moves.specs.Moves.{memberPoints, moved, changeOf, movedBlocks, dealersIn, dealtIn, Lent, Written, Advanced};
 
 // ---- the members
 
-// The members of a set, ascending, in front of the room; how many they are.
-pub fn members(set: u16, room: &mut [u64]) -> usize
+// Party i's point; past the list's end there is none.
+fn point(points: &[u64], i: usize) -> u64
+    requires { ⌜ 1 ≤ i ⌝ }
+    ensures { λ r. ⌜ r ≡ getD (now (points .entry)) (i - 1) 0 ⌝ }
+{
+    let at = i - 1;
+    if at < points.len() {
+        return points[at];
+    }
+    0
+}
+
+// The points of a set's members, ascending, in front of the room; how many they are.
+pub fn members(set: u16, points: &[u64], room: &mut [u64]) -> usize
     requires { ⌜ length (now room) ≡ 16 ⌝ }
-    ensures { λ k. ⌜ record { eq : take k (now (room .exit)) ≡ members set; count : k ≡ length (members set); le : k ≤ 16 } ⌝ }
+    ensures { λ k. ⌜ record { eq : take k (now (room .exit)) ≡ memberPoints (now (points .entry)) set; count : k ≡ length (members set); le : k ≤ 16 } ⌝ }
 {
     let mut k: usize = 0;
     let mut i: usize = 1;
     while i <= 16 {
-        room[k] = i as u64;
+        room[k] = point(points, i);
         k += numbers::one_if(plan_coalition::is_member(set, i));
         i += 1;
     }

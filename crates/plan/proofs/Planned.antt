@@ -7,7 +7,7 @@
 use mathlib.Core.Path.{_≡_, refl, sym, ap, _∙_}
 use mathlib.Core.Bool.{Bool, true, cond, _&&_}
 use mathlib.Core.List.{List}
-use Prim.Native.Nat.{ℕ, suc, _+_, _*_, _<_, _≤_}
+use Prim.Native.Nat.{ℕ, _+_, _*_, _<_, _≤_}
 use native.Mathlib.Omega.{arith}
 use borrow.Author.Tests.{ltb-true, leb-true, eqb-true}
 use lib.Dec.{eqb, leb, ltb}
@@ -29,14 +29,15 @@ use Rattle.plan.specs.declared.Refusal.the-variants as refusal
 use Rattle.plan.specs.declared.Checked.the-variants.{Passed, Refused}
 use Rattle.plan.specs.Refusals.{firstOf}
 use Rattle.plan.specs.Plans.{multiplying, partyCount, dealerCount}
-use Rattle.plan.specs.File.{nAt, tAt, pAt, gateCountAt, outCountAt, between, partiesOk, thresholdOk, modulusOk, gateAt, outAt, majorityOk, gateKept, outKept, majorityKept, layoutOk, majorityCheck, planChecks, planCheck, planOf, headerOf}
+use Rattle.plan.specs.File.{versionAt, nAt, tAt, pAt, gateCountAt, outCountAt, layoutOf, outPlace, pointPlace, between, partiesOk, thresholdOk, modulusOk, gateAt, outAt, majorityOk, pointAt, gateKept, outKept, majorityKept, pointKept, pointsPlaced, layoutOk, majorityCheck, pointsCheck, planChecks, planCheck, planOf, headerOf}
 use Rattle.plan.specs.Planned.{Planned, ReadAs}
 use Rattle.plan.proofs.Refusals.{passed-both, passed-need, passed-found}
+use Rattle.plan.proofs.Gates.{out-place}
 use Rattle.plan.proofs.Ways.{check-of-passed, check-of-refused, header-of-passed, read-outcome}
 
 -- ---- the checks of a plan that passes
 pub record Passing (bs : List ℕ) : Type 0 where
-  pub version : eqb (getD bs 4 0) 1 ≡ true
+  pub version : between 1 2 (versionAt bs) ≡ true
   pub parties : partiesOk (nAt bs) ≡ true
   pub threshold : thresholdOk (nAt bs) (tAt bs) ≡ true
   pub modulus : modulusOk (nAt bs) (pAt bs) ≡ true
@@ -44,9 +45,10 @@ pub record Passing (bs : List ℕ) : Type 0 where
   pub gates : firstFailing (gateKept bs) (gateCountAt bs) ≡ Nothing
   pub outs : firstFailing (outKept bs) (outCountAt bs) ≡ Nothing
   pub majority : firstFailing (majorityKept bs) (gateCountAt bs) ≡ Nothing
+  pub points : firstFailing (pointKept bs) (nAt bs) ≡ Nothing
 
 pub passing : (bs : List ℕ) → planCheck bs ≡ Passed → Passing bs
-unfolding planCheck planChecks firstOf majorityCheck
+unfolding planCheck planChecks firstOf majorityCheck pointsCheck
 passing bs h =
     let a = passed-both _ _ h in
     let b = passed-both _ _ (a .1) in
@@ -57,6 +59,7 @@ passing bs h =
     let g = passed-both _ _ (f .1) in
     let o = passed-both _ _ (g .1) in
     let m = passed-both _ _ (o .1) in
+    let q = passed-both _ _ (m .1) in
     record {
       version = passed-need refusal.Version _ (b .0);
       parties = passed-need refusal.Parties _ (c .0);
@@ -66,6 +69,7 @@ passing bs h =
       gates = passed-found refusal.GateRule _ (g .0);
       outs = passed-found refusal.OutputRule _ (o .0);
       majority = passed-found (λ g. refusal.Majority) _ (m .0);
+      points = passed-found (λ i. refusal.Points) _ (q .0);
     }
 
 -- a gate that multiplies has its majority
@@ -93,20 +97,26 @@ between-true a b x h = let t = both-true (leb a x) (leb x b) h in (leb-true a x 
 pub record Laid (bs : List ℕ) : Type 0 where
   pub gates : between 1 1024 (gateCountAt bs) ≡ true
   pub outs : between 1 64 (outCountAt bs) ≡ true
-  pub long : length bs ≡ 18 + 6 * gateCountAt bs + 3 * outCountAt bs
+  pub long : length bs ≡ pointPlace bs (nAt bs)
 
 pub laid : (bs : List ℕ) → layoutOk bs ≡ true → Laid bs
-unfolding layoutOk
+unfolding layoutOk pointsPlaced
 laid bs h =
     let a = both-true (eqb (getD bs 7 0) 0) _ h in
-    let b = both-true (eqb (wordAt bs 10) 18) _ (a .1) in
+    let b = both-true (eqb (wordAt bs 10) _) _ (a .1) in
     let c = both-true (between 1 1024 (gateCountAt bs)) _ (b .1) in
-    let d = both-true (eqb (wordAt bs 14) (18 + 6 * gateCountAt bs)) _ (c .1) in
+    let d = both-true (eqb (wordAt bs 14) (outPlace bs 0)) _ (c .1) in
     let e = both-true (between 1 64 (outCountAt bs)) _ (d .1) in
-    record { gates = c .0; outs = e .0; long = eqb-true (length bs) (18 + 6 * gateCountAt bs + 3 * outCountAt bs) (e .1) }
+    let f = both-true (cond (eqb (layoutOf bs .point) 0) true (eqb (wordAt bs 18) (pointPlace bs 0))) (eqb (length bs) (pointPlace bs (nAt bs))) (e .1) in
+    record { gates = c .0; outs = e .0; long = eqb-true (length bs) (pointPlace bs (nAt bs)) (f .1) }
 
-pub laid-gates : (bs : List ℕ) (t : Bool) → t ≡ layoutOk bs → t ≡ true → 18 + 6 * gateCountAt bs ≤ length bs
-laid-gates bs t e y = omega (arith, laid bs (sym e ∙ y) .long)
+-- its gates and outs stand within it
+laid-outs : (bs : List ℕ) → layoutOk bs ≡ true → layoutOf bs .head + 6 * gateCountAt bs + 3 * outCountAt bs ≤ length bs
+unfolding pointPlace
+laid-outs bs h = omega (arith, laid bs h .long, out-place bs (outCountAt bs))
+
+pub laid-gates : (bs : List ℕ) (t : Bool) → t ≡ layoutOk bs → t ≡ true → layoutOf bs .head + 6 * gateCountAt bs ≤ length bs
+laid-gates bs t e y = omega (arith, laid-outs bs (sym e ∙ y))
 
 pub planned : (bs : List ℕ) → pAt bs < 65536 → planCheck bs ≡ Passed → Planned bs (headerOf bs)
 unfolding headerOf
@@ -128,7 +138,7 @@ planned bs small h =
       gates-high = g .1;
       outs-low = o .0;
       outs-high = o .1;
-      long = l .long;
+      long = laid-outs bs (q .layout);
     }
 
 -- what a reading says
@@ -161,13 +171,13 @@ module _ {bs : List ℕ} {h : Header} (k : Planned bs h) where
   unfolding planOf headerOf
   plan-p = sym (ap (λ (x : Header). x .field .p) (k .is))
 
-  pub plan-points : planOf bs .points ≡ tab suc (h .n)
+  pub plan-points : planOf bs .points ≡ tab (pointAt bs) (h .n)
   unfolding planOf headerOf
-  plan-points = ap (tab suc) (sym (ap (λ (x : Header). x .n) (k .is)))
+  plan-points = ap (tab (pointAt bs)) (sym (ap (λ (x : Header). x .n) (k .is)))
 
   pub plan-n : partyCount (planOf bs) ≡ h .n
   unfolding partyCount
-  plan-n = ap length plan-points ∙ length-tab suc (h .n)
+  plan-n = ap length plan-points ∙ length-tab (pointAt bs) (h .n)
 
   pub plan-dealers : dealerCount (planOf bs) ≡ h .t + h .t + 1
   unfolding dealerCount

@@ -1,8 +1,7 @@
 -- What the proofs use of a plan, and that a plan that passes has it.
 --     Valid, valid            all that the protocol asks: 2t < n only where there is a gate of kind 5 or 7
 --     Sized, sized            what its lists and calls need beside
---     Plain, plain            what a plan file may have today: the rule of versions 1 to 3, kinds 1 to 5, and the points 1 to n
---     version-read            and its version is 1
+--     Plain, plain            what a plan file may have today: the rule of versions 1 to 3, and kinds 1 to 5
 --     points-apart            no two points are the same
 --     none-or-majority        no gate of kind 5, or 2t < n
 --     plain-no-6, plain-no-7  a plain plan has no gate of kind 6 or 7
@@ -14,10 +13,12 @@ use mathlib.Core.Path.{_≡_, refl, sym, ap, subst}
 use mathlib.Core.Logic.{_≢_, _⊎_, inl, inr}
 use mathlib.Core.Bool.{Bool, true, false, cond, _||_}
 use mathlib.Core.List.{List, [], _∷_}
-use borrow.Author.Tests.{ltb-true, eqb-true, ne-eqb}
+use borrow.Author.Tests.{ltb-true, eqb-false, ne-eqb, not-true}
 use lib.Dec.{T, eqb, ltb}
 use lib.ListN.{length, getD}
-use Rattle.numbers.specs.Tables.{tab, countWhere}
+use Rattle.numbers.specs.Tables.{tab, firstFailing, countWhere}
+use Rattle.numbers.specs.declared.Found.{Found}
+use Rattle.numbers.specs.declared.Found.the-variants.{At, Nothing}
 use Rattle.numbers.specs.Bytes.{limit}
 use Rattle.numbers.proofs.Tables.{length-tab, getD-tab}
 use Rattle.numbers.proofs.Counts.{countWhere-le-length}
@@ -27,7 +28,7 @@ use Rattle.field.specs.Prime.{Prime}
 use Rattle.field.specs.Field.{Ready}
 use Rattle.field.proofs.Primes.{prime-sound}
 use Rattle.sharing_laws.specs.Interp.{All, Distinct}
-use Rattle.sharing_laws.proofs.Shares.{points-distinct}
+use Rattle.sharing_laws.proofs.Shares.{distinct-tab}
 use Rattle.sharing_laws.proofs.Alls.{all-tab, all-at}
 use Rattle.plan.specs.declared.Checked.the-variants.{Passed}
 use Rattle.plan.specs.declared.Gate.{Gate}
@@ -35,9 +36,9 @@ use Rattle.plan.specs.declared.Gate.the-variants.{Input, Add, Scale, Off
 use Rattle.plan.specs.declared.Rule.the-variants.{Reduction}
 use Rattle.plan.specs.declared.Header.{Header}
 use Rattle.plan.specs.Plans.{Plan, partyCount, kindOf, isKind, kindCount, multiplying}
-use Rattle.plan.specs.File.{nAt, tAt, pAt, gateCountAt, outCountAt, gateOf, gateAt, outAt, gateOk, outOk, gateKept, outKept, planCheck, planOf}
+use Rattle.plan.specs.File.{nAt, tAt, pAt, gateCountAt, outCountAt, gateOf, gateAt, outAt, pointAt, gateOk, outOk, gateKept, outKept, foundNone, pointApart, pointKept, planCheck, planOf}
 use Rattle.plan.specs.Planned.{Planned}
-use Rattle.plan.proofs.Planned.{Passing, passing, passing-majority, laid, between-true, modulus-prime, modulus-above, modulus-small, plan-t, plan-p, plan-n, plan-gates, plan-gate}
+use Rattle.plan.proofs.Planned.{Passing, passing, passing-majority, laid, between-true, modulus-prime, modulus-small, plan-t, plan-p, plan-n, plan-gates, plan-gate}
 
 pub record Valid (plan : Plan) : Type 0 where
   pub prime : Prime (plan .p)
@@ -58,7 +59,6 @@ pub record Sized (plan : Plan) : Type 0 where
 pub record Plain (plan : Plan) : Type 0 where
   pub rule : plan .rule ≡ Reduction
   pub kinds : (g : ℕ) → kindOf (getD (plan .gates) g (Input 0)) ≤ 5
-  pub points : plan .points ≡ tab suc (partyCount plan)
 
 -- ---- no two points are the same
 apart-from : (p : ℕ) (xs : List ℕ) → Distinct p xs → (i j : ℕ) → j < i → i < length xs → getD xs i 0 ≢ getD xs j 0
@@ -95,15 +95,28 @@ kinds-read f zero g h = omega arith
 kinds-read f (suc n) zero h = h 0
 kinds-read f (suc n) (suc g) h = kinds-read (λ i. f (suc i)) n g (λ i. h (suc i))
 
+none-found : (f : Found) → foundNone f ≡ true → f ≡ Nothing
+unfolding foundNone
+none-found (At i) e = let z : _≡_ {A = ℕ} 0 1 = cc in absurd (omega arith)
+none-found Nothing e = refl
+
 module _ (bs : List ℕ) (h : planCheck bs ≡ Passed) where
   checks : Passing bs
   checks = passing bs h
 
-  above : nAt bs < pAt bs
-  above = modulus-above (nAt bs) (pAt bs) (checks .modulus)
+  point-parts : (i : ℕ) → i < nAt bs → (0 < pointAt bs i) × (pointAt bs i < pAt bs) × (foundNone (firstFailing (pointApart bs i) i) ≡ true)
+  unfolding pointKept
+  point-parts i l =
+      let a = both-true (ltb 0 (pointAt bs i)) _ (nothing-passes (pointKept bs) (nAt bs) (checks .points) i l) in
+      let b = both-true (ltb (pointAt bs i) (pAt bs)) _ (a .1) in
+      (ltb-true 0 (pointAt bs i) (a .0), ltb-true (pointAt bs i) (pAt bs) (b .0), b .1)
 
-  points-small : (i : ℕ) → i < nAt bs → suc i < pAt bs
-  points-small i l = omega (arith, above)
+  apart : (i j : ℕ) → j < i → i < nAt bs → pointAt bs i ≢ pointAt bs j
+  unfolding pointApart
+  apart i j l m e =
+      eqb-false (pointAt bs j) (pointAt bs i)
+      (not-true (eqb (pointAt bs j) (pointAt bs i))
+      (nothing-passes (pointApart bs i) i (none-found (firstFailing (pointApart bs i) i) (point-parts i m .2)) j l)) (sym e)
 
   below-n : tAt bs < nAt bs
   below-n = ltb-true (tAt bs) (nAt bs) (checks .threshold)
@@ -122,24 +135,25 @@ module _ (bs : List ℕ) (h : planCheck bs ≡ Passed) where
   valid =
       record {
         prime = prime-sound (pAt bs) (subst T (sym (modulus-prime (nAt bs) (pAt bs) (checks .modulus))) tt);
-        threshold = rw (length-tab suc (nAt bs)) below-n;
+        threshold = rw (length-tab (pointAt bs) (nAt bs)) below-n;
         majority =
             λ g l m.
             let k : g < gateCountAt bs = rw (← length-tab (gateAt bs) (gateCountAt bs)) l in
             let is : multiplying (gateAt bs g) ≡ true = rw (getD-tab (gateAt bs) (gateCountAt bs) g (Input 0) k) at m in
-            rw (length-tab suc (nAt bs)) (omega (arith, passing-majority bs checks g k is));
-        distinct = points-distinct (pAt bs) (nAt bs) above;
+            rw (length-tab (pointAt bs) (nAt bs)) (omega (arith, passing-majority bs checks g k is));
+        distinct = distinct-tab (pAt bs) (pointAt bs) (nAt bs) (λ i l. point-parts i l .1) apart;
         nonzero =
-            all-tab (λ x. x % pAt bs ≢ 0) suc (nAt bs) (λ i l e. omega (arith, mod-eq-of-lt {n = suc i} {m = pAt bs} (points-small i l)));
-        small = all-tab (λ x. x < pAt bs) suc (nAt bs) points-small;
+            all-tab (λ x. x % pAt bs ≢ 0) (pointAt bs) (nAt bs)
+            (λ i l e. omega (arith, point-parts i l .0, mod-eq-of-lt {n = pointAt bs i} {m = pAt bs} (point-parts i l .1)));
+        small = all-tab (λ x. x < pAt bs) (pointAt bs) (nAt bs) (λ i l. point-parts i l .1);
         gates =
             λ g l.
             let k : g < gateCountAt bs = rw (← length-tab (gateAt bs) (gateCountAt bs)) l in
-            rw (length-tab suc (nAt bs), getD-tab (gateAt bs) (gateCountAt bs) g (Input 0) k) (gates-kept g k);
+            rw (length-tab (pointAt bs) (nAt bs), getD-tab (gateAt bs) (gateCountAt bs) g (Input 0) k) (gates-kept g k);
         outs =
             λ o l.
             let k : o < outCountAt bs = rw (← length-tab (outAt bs) (outCountAt bs)) l in
-            rw (length-tab suc (nAt bs), length-tab (gateAt bs) (gateCountAt bs), getD-tab (outAt bs) (outCountAt bs) o (record { party = 0; wire = 0 }) k)
+            rw (length-tab (pointAt bs) (nAt bs), length-tab (gateAt bs) (gateCountAt bs), getD-tab (outAt bs) (outCountAt bs) o (record { party = 0; wire = 0 }) k)
             (outs-kept o k);
       }
 
@@ -158,10 +172,6 @@ module _ (bs : List ℕ) (h : planCheck bs ≡ Passed) where
             );
       }
 
-  -- its version is 1
-  pub version-read : getD bs 4 0 ≡ 1
-  version-read = eqb-true (getD bs 4 0) 1 (checks .version)
-
   -- and it is plain
   pub plain : Plain (planOf bs)
   unfolding planOf partyCount gateAt
@@ -169,7 +179,6 @@ module _ (bs : List ℕ) (h : planCheck bs ≡ Passed) where
       record {
         rule = refl;
         kinds = λ g. kinds-read (gateAt bs) (gateCountAt bs) g (λ i. kind-read _ _ _ _);
-        points = ap (tab suc) (sym (length-tab suc (nAt bs)));
       }
 
 -- ---- of kinds above 5 a plain plan has none

@@ -1,10 +1,11 @@
 -- What each way through the reader says of its definition.
---     rules, seeking, majorities, beginning, laying, contents, body, reads     what closes the needs of the functions that read a plan
+--     points-pass          points 1 to n are apart and below p
+--     rules, seeking, majorities, pointing, beginning, laying, placing, contents, body, last, reads     what closes the needs of the functions that read a plan
 -- Assumes nothing.
 use mathlib.Core.Path.{_≡_, refl, sym, ap, _∙_}
-use mathlib.Core.Bool.{Bool, true, false, cond, _&&_}
+use mathlib.Core.Bool.{Bool, true, false, cond, not, _&&_}
 use mathlib.Core.List.{List, [], _∷_}
-use Prim.Native.Nat.{ℕ, _+_, _*_, _<_, _≤_}
+use Prim.Native.Nat.{ℕ, suc, _+_, _*_, _<_, _≤_}
 use native.Mathlib.Omega.{arith}
 use borrow.Author.Needs.{needs}
 use borrow.Author.Tests.{not-true, not-false, lt-ltb, le-ltb, le-leb, lt-leb, eq-eqb, ne-eqb}
@@ -16,7 +17,7 @@ use Rattle.numbers.specs.Tables.{firstFailing}
 use Rattle.numbers.specs.Bytes.{wordAt}
 use Rattle.numbers.specs.declared.Found.{Found}
 use Rattle.numbers.specs.declared.Found.the-variants.{At, Nothing}
-use Rattle.numbers.proofs.Searches.{Seeking, begin, found, passed, nothing, passes-nothing}
+use Rattle.numbers.proofs.Searches.{Seeking, begin, found, passed, nothing, found-not, passed-not, passes-nothing}
 use Rattle.field.specs.declared.Field.{Field}
 use Rattle.field.specs.declared.Made.{Made}
 use Rattle.field.specs.declared.Made.the-variants as made
@@ -35,8 +36,9 @@ use Rattle.plan.specs.declared.Refusal.the-variants as refusal
 use Rattle.plan.specs.Refusals.{firstOf, andThen, need, unlessFound}
 use Rattle.plan.specs.Plans.{multiplying}
 use Rattle.plan.proofs.Refusals.{andThen-passed, andThen-refused, andThen-end, firstOf-append}
-use Rattle.plan.specs.File.{magic, sameBytes, between, partiesOk, thresholdOk, modulusOk, fieldAbove, gateAt, outAt, gateOk, outOk, majorityOk, gateKept, outKept, majorityKept, layoutOk, majorityCheck, planChecks, planCheck, headerOf, readingOf, outcomeOf, readPlan}
+use Rattle.plan.specs.File.{magic, sameBytes, between, partiesOk, thresholdOk, modulusOk, fieldAbove, layoutFor, layoutOf, gatePlace, outPlace, pointPlace, gateAt, outAt, pointAt, gateOk, outOk, majorityOk, gateKept, outKept, majorityKept, foundNone, pointApart, pointKept, pointsPlaced, layoutOk, majorityCheck, pointsCheck, planChecks, planCheck, headerOf, readingOf, outcomeOf, readPlan}
 use Rattle.plan.specs.Planned.{ReadAs}
+use Rattle.plan.proofs.Gates.{head-second, gate-place, out-place, point-place, no-points-place}
 
 -- ---- small tests
 pub between-under : (a b x : ℕ) → x < a → false ≡ between a b x
@@ -180,6 +182,65 @@ module _ (bs : List ℕ) (f : Found) (e : f ≡ firstFailing (majorityKept bs) (
 
 pub ruleset majorities = (needs, multiplies-as, majority-all, majority-begin, majority-end, majority-found, majority-passed, majority-lacking, majority-there)
 
+-- ---- the points
+module _ (bs : List ℕ) (i : ℕ) where
+  pub apart-is : (x y j : ℕ) (t : Bool) → x ≡ pointAt bs i → y ≡ pointAt bs j → t ≡ not (eqb y x) → t ≡ pointApart bs i j
+  unfolding pointApart
+  apart-is x y j t e f h = rw (← e, ← f) h
+
+  module _ (x : ℕ) (ex : x ≡ pointAt bs i) where
+    pub point-zero : x ≡ 0 → false ≡ pointKept bs i
+    unfolding pointKept
+    point-zero e = rw (← ex, e)
+
+    module _ (p : ℕ) (ep : p ≡ wordAt bs 8) (ne : x ≡ 0 → ⊥) where
+      pub point-large : p ≤ x → false ≡ pointKept bs i
+      unfolding pointKept
+      point-large l = rw (← ex, ← ep, lt-ltb 0 x (omega arith), le-ltb x p l)
+
+      module _ (l : x < p) (f : Found) (ef : f ≡ firstFailing (pointApart bs i) i) where
+        pub point-earlier : (j : ℕ) → f ≡ At j → false ≡ pointKept bs i
+        unfolding pointKept foundNone
+        point-earlier j e = rw (← ex, ← ep, lt-ltb 0 x (omega arith), lt-ltb x p l, ← ef, e)
+
+        pub point-new : f ≡ Nothing → true ≡ pointKept bs i
+        unfolding pointKept foundNone
+        point-new e = rw (← ex, ← ep, lt-ltb 0 x (omega arith), lt-ltb x p l, ← ef, e)
+
+-- points 1 to n pass where p is above n
+module _ (bs : List ℕ) (v : getD bs 4 0 ≡ 1) where
+  pub point-is : (i : ℕ) → pointAt bs i ≡ suc i
+  unfolding pointAt layoutFor
+  point-is i = rw (eq-eqb (getD bs 4 0) 1 v)
+
+  first-apart : (i j : ℕ) → j < i → pointApart bs i j ≡ true
+  unfolding pointApart
+  first-apart i j m = rw (point-is i, point-is j, ne-eqb (suc j) (suc i) (λ e. omega arith))
+
+  first-kept : getD bs 5 0 < wordAt bs 8 → (i : ℕ) → i < getD bs 5 0 → pointKept bs i ≡ true
+  unfolding pointKept foundNone
+  first-kept l i m = rw (point-is i, lt-ltb 0 (suc i) (omega arith), lt-ltb (suc i) (wordAt bs 8) (omega arith), passes-nothing (pointApart bs i) i (first-apart i))
+
+  pub points-pass : getD bs 5 0 < wordAt bs 8 → firstFailing (pointKept bs) (getD bs 5 0) ≡ Nothing
+  points-pass l = passes-nothing (pointKept bs) (getD bs 5 0) (first-kept l)
+
+pub first-points : (bs : List ℕ) (v n p : ℕ) → v ≡ getD bs 4 0 → n ≡ getD bs 5 0 → p ≡ wordAt bs 8 → v ≡ 1 → n < p → Nothing ≡ firstFailing (pointKept bs) (getD bs 5 0)
+first-points bs v n p ev en ep h l = sym (points-pass bs (sym ev ∙ h) (rw (← en, ← ep) l))
+
+pub all-points : (bs : List ℕ) (n : ℕ) (f : Found) → n ≡ getD bs 5 0 → f ≡ firstFailing (pointKept bs) n → f ≡ firstFailing (pointKept bs) (getD bs 5 0)
+all-points bs n f e h = rw (← e) h
+
+module _ (bs : List ℕ) (f : Found) (e : f ≡ firstFailing (pointKept bs) (getD bs 5 0)) where
+  pub points-wrong : (i : ℕ) → f ≡ At i → Refused refusal.Points ≡ pointsCheck bs
+  unfolding pointsCheck unlessFound
+  points-wrong i h = rw (← e, h)
+
+  pub points-right : f ≡ Nothing → Passed ≡ pointsCheck bs
+  unfolding pointsCheck unlessFound
+  points-right h = rw (← e, h)
+
+pub ruleset pointing = (needs, begin, found-not, passed-not, nothing, apart-is, point-zero, point-large, point-earlier, point-new, first-points, all-points, points-wrong, points-right)
+
 -- ---- the letters POOL
 same-four : (s : List ℕ) → 4 ≤ length s → sameBytes (take 4 s) magic ≡ (eqb (getD s 0 0) 80 && (eqb (getD s 1 0) 79 && (eqb (getD s 2 0) 79 && eqb (getD s 3 0) 76)))
 unfolding sameBytes magic
@@ -224,32 +285,72 @@ module _ (s : List ℕ) where
     unfolding layoutOk
     layout-zero h = rw (← ez, ne-eqb z 0 h)
 
-    module _ (hz : z ≡ 0) (a : ℕ) (ea : a ≡ wordAt s 10) where
-      pub layout-gates-offset : (a ≡ 18 → ⊥) → false ≡ layoutOk s
-      unfolding layoutOk
-      layout-gates-offset h = rw (← ez, eq-eqb z 0 hz, ← ea, ne-eqb a 18 h)
+    module _ (hz : z ≡ 0) (d : ℕ) (ed : d ≡ layoutOf s .head) (a : ℕ) (ea : a ≡ wordAt s 10) where
+      gates-start : gatePlace s 0 ≡ d
+      gates-start = gate-place s 0 ∙ omega arith
 
-      module _ (ha : a ≡ 18) (g : ℕ) (eg : g ≡ wordAt s 12) (t : Bool) (et : t ≡ between 1 1024 g) where
+      pub layout-gates-offset : (a ≡ d → ⊥) → false ≡ layoutOk s
+      unfolding layoutOk
+      layout-gates-offset h = rw (← ez, eq-eqb z 0 hz, ← ea, gates-start, ne-eqb a d h)
+
+      module _ (ha : a ≡ d) (g : ℕ) (eg : g ≡ wordAt s 12) (t : Bool) (et : t ≡ between 1 1024 g) where
         pub layout-gates : t ≡ false → false ≡ layoutOk s
         unfolding layoutOk
-        layout-gates h = rw (← ez, eq-eqb z 0 hz, ← ea, eq-eqb a 18 ha, ← eg, ← et, h)
+        layout-gates h = rw (← ez, eq-eqb z 0 hz, ← ea, gates-start, eq-eqb a d ha, ← eg, ← et, h)
 
-        pub layout-further : t ≡ true → (r : Bool) → r ≡ (eqb (wordAt s 14) (18 + 6 * g) && (between 1 64 (wordAt s 16) && eqb (length s) (18 + 6 * g + 3 * wordAt s 16))) → r ≡ layoutOk s
+        pub layout-further : t ≡ true → (r : Bool) → r ≡ (eqb (wordAt s 14) (outPlace s 0) && (between 1 64 (wordAt s 16) && pointsPlaced s)) → r ≡ layoutOk s
         unfolding layoutOk
-        layout-further h r e = rw (← ez, eq-eqb z 0 hz, ← ea, eq-eqb a 18 ha, ← eg, ← et, h) e
+        layout-further h r e = rw (← ez, eq-eqb z 0 hz, ← ea, gates-start, eq-eqb a d ha, ← eg, ← et, h) e
 
-module _ (s : List ℕ) (g b : ℕ) (eb : b ≡ wordAt s 14) where
-  pub outs-displaced : (b ≡ 18 + 6 * g → ⊥) → false ≡ (eqb (wordAt s 14) (18 + 6 * g) && (between 1 64 (wordAt s 16) && eqb (length s) (18 + 6 * g + 3 * wordAt s 16)))
-  outs-displaced h = rw (← eb, ne-eqb b (18 + 6 * g) h)
+  -- where the outs begin
+  pub outs-start : (d g : ℕ) → d ≡ layoutOf s .head → g ≡ wordAt s 12 → d + 6 * g ≡ outPlace s 0
+  outs-start d g e f = omega (arith, out-place s 0)
 
-  module _ (hb : b ≡ 18 + 6 * g) (o : ℕ) (eo : o ≡ wordAt s 16) (u : Bool) (eu : u ≡ between 1 64 o) where
-    pub outs-many : u ≡ false → false ≡ (eqb (wordAt s 14) (18 + 6 * g) && (between 1 64 (wordAt s 16) && eqb (length s) (18 + 6 * g + 3 * wordAt s 16)))
-    outs-many h = rw (← eb, eq-eqb b (18 + 6 * g) hb, ← eo, ← eu, h)
+module _ (s : List ℕ) (at : ℕ) (ea : at ≡ outPlace s 0) (b : ℕ) (eb : b ≡ wordAt s 14) where
+  pub outs-displaced : (b ≡ at → ⊥) → false ≡ (eqb (wordAt s 14) (outPlace s 0) && (between 1 64 (wordAt s 16) && pointsPlaced s))
+  outs-displaced h = rw (← eb, ← ea, ne-eqb b at h)
 
-    pub outs-length : u ≡ true → eqb (length s) (18 + 6 * g + 3 * o) ≡ (eqb (wordAt s 14) (18 + 6 * g) && (between 1 64 (wordAt s 16) && eqb (length s) (18 + 6 * g + 3 * wordAt s 16)))
-    outs-length h = rw (← eb, eq-eqb b (18 + 6 * g) hb, ← eo, ← eu, h)
+  module _ (hb : b ≡ at) (o : ℕ) (eo : o ≡ wordAt s 16) (u : Bool) (eu : u ≡ between 1 64 o) where
+    pub outs-many : u ≡ false → false ≡ (eqb (wordAt s 14) (outPlace s 0) && (between 1 64 (wordAt s 16) && pointsPlaced s))
+    outs-many h = rw (← eb, ← ea, eq-eqb b at hb, ← eo, ← eu, h)
 
-pub ruleset laying = (needs, not-true, not-false, layout-zero, layout-gates-offset, layout-gates, layout-further, outs-displaced, outs-many, outs-length)
+    pub outs-further : u ≡ true → (r : Bool) → r ≡ pointsPlaced s → r ≡ (eqb (wordAt s 14) (outPlace s 0) && (between 1 64 (wordAt s 16) && pointsPlaced s))
+    outs-further h r e = rw (← eb, ← ea, eq-eqb b at hb, ← eo, ← eu, h) e
+
+-- where the outs end
+pub outs-end-place : (s : List ℕ) (at o : ℕ) → at ≡ outPlace s 0 → o ≡ wordAt s 16 → at + 3 * o ≡ outPlace s (wordAt s 16)
+outs-end-place s at o e f = omega (arith, out-place s 0, out-place s (wordAt s 16))
+
+module _ (s : List ℕ) (at : ℕ) (ea : at ≡ outPlace s (wordAt s 16)) (v : ℕ) (ev : v ≡ getD s 4 0) where
+  pub placed-first : v ≡ 1 → eqb (length s) at ≡ pointsPlaced s
+  unfolding pointsPlaced layoutFor
+  placed-first h = rw (no-points-place s (sym ev ∙ h) (getD s 5 0), ← ea, ← ev, eq-eqb v 1 h)
+
+  module _ (h : v ≡ 1 → ⊥) where
+    not-first : getD s 4 0 ≡ 1 → ⊥
+    not-first e = h (ev ∙ e)
+
+    starts : pointPlace s 0 ≡ at
+    starts = omega (arith, point-place s not-first 0, out-place s (wordAt s 16), head-second s (getD s 4 0) refl not-first)
+
+    ends : (n : ℕ) → pointPlace s n ≡ at + 2 * n
+    ends n = omega (arith, point-place s not-first n, out-place s (wordAt s 16), head-second s (getD s 4 0) refl not-first)
+
+    module _ (b : ℕ) (eb : b ≡ wordAt s 18) where
+      pub placed-elsewhere : (b ≡ at → ⊥) → false ≡ pointsPlaced s
+      unfolding pointsPlaced layoutFor
+      placed-elsewhere d = rw (← ev, ne-eqb v 1 h, starts, ← eb, ne-eqb b at d)
+
+      pub placed-second : b ≡ at → (r : Bool) → r ≡ eqb (length s) (at + 2 * getD s 5 0) → r ≡ pointsPlaced s
+      unfolding pointsPlaced layoutFor
+      placed-second e r q = q ∙ rw (← ev, ne-eqb v 1 h, starts, ← eb, eq-eqb b at e, ends (getD s 5 0))
+
+pub ruleset laying = (needs, not-true, not-false, layout-zero, layout-gates-offset, layout-gates, layout-further, outs-start, outs-displaced, outs-many, outs-further, outs-end-place)
+
+pub placed-end : (s : List ℕ) (at n : ℕ) → n ≡ getD s 5 0 → eqb (length s) (at + 2 * n) ≡ eqb (length s) (at + 2 * getD s 5 0)
+placed-end s at n e = rw e
+
+pub ruleset placing = (needs, placed-end, placed-first, placed-elsewhere, placed-second)
 
 -- ---- refusals 1 to 4
 module _ (s : List ℕ) (t : Bool) (et : t ≡ (leb 18 (length s) && sameBytes (take 4 s) magic)) where
@@ -257,28 +358,28 @@ module _ (s : List ℕ) (t : Bool) (et : t ≡ (leb 18 (length s) && sameBytes (
   unfolding planChecks firstOf andThen need
   contents-magic h = rw (← et, h)
 
-  module _ (ht : t ≡ true) (v : ℕ) (ev : v ≡ getD s 4 0) where
-    pub contents-version : (v ≡ 1 → ⊥) → Refused refusal.Version ≡ firstOf (take 4 (planChecks s))
+  module _ (ht : t ≡ true) (w : ℕ) (ew : w ≡ getD s 4 0) (v : Bool) (ev : v ≡ between 1 2 w) where
+    pub contents-version : v ≡ false → Refused refusal.Version ≡ firstOf (take 4 (planChecks s))
     unfolding planChecks firstOf andThen need
-    contents-version h = rw (← et, ht, ← ev, ne-eqb v 1 h)
+    contents-version h = rw (← et, ht, ← ew, ← ev, h)
 
-    module _ (hv : v ≡ 1) (n : ℕ) (en : n ≡ getD s 5 0) (u : Bool) (eu : u ≡ partiesOk n) where
+    module _ (hv : v ≡ true) (n : ℕ) (en : n ≡ getD s 5 0) (u : Bool) (eu : u ≡ partiesOk n) where
       pub contents-parties : u ≡ false → Refused refusal.Parties ≡ firstOf (take 4 (planChecks s))
       unfolding planChecks firstOf andThen need
-      contents-parties h = rw (← et, ht, ← ev, eq-eqb v 1 hv, ← en, ← eu, h)
+      contents-parties h = rw (← et, ht, ← ew, ← ev, hv, ← en, ← eu, h)
 
-      module _ (hu : u ≡ true) (d : ℕ) (ed : d ≡ getD s 6 0) (w : Bool) (ew : w ≡ thresholdOk n d) where
-        pub contents-threshold : w ≡ false → Refused refusal.Threshold ≡ firstOf (take 4 (planChecks s))
+      module _ (hu : u ≡ true) (d : ℕ) (ed : d ≡ getD s 6 0) (x : Bool) (ex : x ≡ thresholdOk n d) where
+        pub contents-threshold : x ≡ false → Refused refusal.Threshold ≡ firstOf (take 4 (planChecks s))
         unfolding planChecks firstOf andThen need
-        contents-threshold h = rw (← et, ht, ← ev, eq-eqb v 1 hv, ← en, ← eu, hu, ← ed, ← ew, h)
+        contents-threshold h = rw (← et, ht, ← ew, ← ev, hv, ← en, ← eu, hu, ← ed, ← ex, h)
 
-        pub contents-passed : w ≡ true → Passed ≡ firstOf (take 4 (planChecks s))
+        pub contents-passed : x ≡ true → Passed ≡ firstOf (take 4 (planChecks s))
         unfolding planChecks firstOf andThen need
-        contents-passed h = rw (← et, ht, ← ev, eq-eqb v 1 hv, ← en, ← eu, hu, ← ed, ← ew, h)
+        contents-passed h = rw (← et, ht, ← ew, ← ev, hv, ← en, ← eu, hu, ← ed, ← ex, h)
 
 pub ruleset contents = (needs, not-true, not-false, contents-magic, contents-version, contents-parties, contents-threshold, contents-passed)
 
--- ---- refusals 6 to 8 and 25
+-- ---- refusals 6 to 8, 25 and 26
 module _ (s : List ℕ) (t : Bool) (et : t ≡ layoutOk s) where
   pub body-layout : t ≡ false → Refused refusal.Layout ≡ firstOf (drop 5 (planChecks s))
   unfolding planChecks firstOf andThen need
@@ -294,11 +395,22 @@ module _ (s : List ℕ) (t : Bool) (et : t ≡ layoutOk s) where
       unfolding planChecks firstOf andThen need unlessFound
       body-out k h = rw (← et, ht, ← ef, hf, ← eo, h)
 
-      pub body-majority : o ≡ Nothing → (c : Checked) → c ≡ majorityCheck s → c ≡ firstOf (drop 5 (planChecks s))
+      pub body-last : o ≡ Nothing → (c : Checked) → c ≡ firstOf (drop 8 (planChecks s)) → c ≡ firstOf (drop 5 (planChecks s))
       unfolding planChecks firstOf andThen need unlessFound
-      body-majority h c ec = rw (← et, ht, ← ef, hf, ← eo, h, ← ec) (sym (andThen-end c))
+      body-last h c ec = ec ∙ rw (← et, ht, ← ef, hf, ← eo, h)
 
-pub ruleset body = (needs, not-true, not-false, body-layout, body-gate, body-out, body-majority)
+pub ruleset body = (needs, not-true, not-false, body-layout, body-gate, body-out, body-last)
+
+module _ (s : List ℕ) (c : Checked) (ec : c ≡ majorityCheck s) where
+  pub last-majority : (r : Refusal) → c ≡ Refused r → Refused r ≡ firstOf (drop 8 (planChecks s))
+  unfolding planChecks firstOf andThen
+  last-majority r h = rw (← ec, h)
+
+  pub last-points : c ≡ Passed → (d : Checked) → d ≡ pointsCheck s → d ≡ firstOf (drop 8 (planChecks s))
+  unfolding planChecks firstOf andThen
+  last-points h d ed = rw (← ec, h, ← ed) (sym (andThen-end d))
+
+pub ruleset last = (needs, last-majority, last-points)
 
 -- ---- the whole reading
 -- bytes make a two-byte number

@@ -13,7 +13,7 @@ use Rattle.plan.specs.declared.Refusal.the-variants as refusal
 use Rattle.plan.specs.Refusals.{firstOf, andThen, need, unlessFound}
 use Rattle.plan.specs.declared.Step.the-variants.{DealInputs, DealProduct, SendOuts}
 use Rattle.plan.specs.Plans.{partyCount, parties, dealerCount, kindOf, isKind, kindCount, multiplying, operandsOf, isInputOf, wiresFrom, inputWires, outWiresOf, outWires, inputOwnersAt, inputOwners, firstDealings, multiplyDealings, dealingsAt, coinOwnersAt, coinOwners, multiplySteps, stepsAt, stepsFrom, steps, stepAt, lastCall, inputCount, coinCount, ownOutCount, received, sentBy, mailCount, writtenCount, perMultiply, sentCount}
-use Rattle.plan.specs.File.{magic, sameBytes, between, gateOf, gateAt, outAt, gateOk, outOk, majorityOk, gateKept, outKept, majorityKept, layoutOk, majorityCheck, planChecks, planCheck, planOf}
+use Rattle.plan.specs.File.{magic, sameBytes, between, layoutFor, gatePlace, outPlace, pointPlace, gateOf, gateAt, outAt, pointAt, gateOk, outOk, majorityOk, gateKept, outKept, majorityKept, foundNone, pointApart, pointKept, pointsPlaced, layoutOk, majorityCheck, pointsCheck, planChecks, planCheck, planOf}
 
 -- the contents of a plan of four gates and one out, with its version, n, t, byte 7 and p
 contents : ℕ → ℕ → ℕ → ℕ → ℕ → List ℕ
@@ -77,8 +77,9 @@ worked =
 pub faults : List Row
 faults =
     row (1 ∷ 1 ∷ []) (Refused refusal.Magic)
-    ∷ row (80 ∷ plan 2 3 1 0 11) (Refused refusal.Magic)
-    ∷ row (plan 2 16 1 0 11) (Refused refusal.Version)
+    ∷ row (80 ∷ plan 5 3 1 0 11) (Refused refusal.Magic)
+    ∷ row (plan 5 16 1 0 11) (Refused refusal.Version)
+    ∷ row (plan 0 16 1 0 11) (Refused refusal.Version)
     ∷ row (plan 1 0 1 0 11) (Refused refusal.Parties)
     ∷ row (plan 1 2 2 0 9) (Refused refusal.Threshold)
     ∷ row (plan 1 3 1 1 9) (Refused refusal.Modulus)
@@ -90,21 +91,47 @@ faults =
     ∷ row (contents 1 3 1 0 11 ++ (input1 ++ (input2 ++ (multiply ++ (add ++ (4 ∷ 4 ∷ 0 ∷ [])))))) (Refused (refusal.OutputRule 0))
     ∷ []
 
-pub plans-worked : map (λ r. planCheck (r .bytes)) (worked ++ faults) ≡ map (λ r. r .answer) (worked ++ faults)
-unfolding contents input1 input2 multiply add out body plan k single row worked faults planCheck firstOf andThen planChecks need unlessFound firstFailing firstFrom magic sameBytes between gateOf gateAt outAt gateOk outOk isKind kindOf multiplying majorityOk gateKept outKept majorityKept layoutOk majorityCheck wordAt isPrime divisorOf divisorFrom
+-- K of version 2: its contents, with where the points stand, gates and out, and points
+kept : ℕ → ℕ → List ℕ → List ℕ
+kept version place points =
+    80 ∷ 79 ∷ 79 ∷ 76 ∷ version ∷ 3 ∷ 1 ∷ 0 ∷ 101 ∷ 0 ∷ 20 ∷ 0 ∷ 4 ∷ 0 ∷ 44 ∷ 0 ∷ 1 ∷ 0 ∷ place ∷ 0 ∷ (body ++ points)
+
+-- site codes as points; 26 for 0, for p, for a point that stands twice, next to each other or not; 25 before 26; 6 for
+-- the offset, the length and a file that ends in its contents
+pub pointed : List Row
+pointed =
+    row (kept 2 47 (7 ∷ 0 ∷ 40 ∷ 0 ∷ 3 ∷ 0 ∷ [])) Passed
+    ∷ row (kept 2 47 (7 ∷ 0 ∷ 100 ∷ 0 ∷ 1 ∷ 0 ∷ [])) Passed
+    ∷ row (kept 2 47 (7 ∷ 0 ∷ 0 ∷ 0 ∷ 3 ∷ 0 ∷ [])) (Refused refusal.Points)
+    ∷ row (kept 2 47 (7 ∷ 0 ∷ 40 ∷ 0 ∷ 101 ∷ 0 ∷ [])) (Refused refusal.Points)
+    ∷ row (kept 2 47 (7 ∷ 0 ∷ 40 ∷ 1 ∷ 3 ∷ 0 ∷ [])) (Refused refusal.Points)
+    ∷ row (kept 2 47 (7 ∷ 0 ∷ 7 ∷ 0 ∷ 3 ∷ 0 ∷ [])) (Refused refusal.Points)
+    ∷ row (kept 2 47 (7 ∷ 0 ∷ 40 ∷ 0 ∷ 7 ∷ 0 ∷ [])) (Refused refusal.Points)
+    ∷ row (kept 2 45 (7 ∷ 0 ∷ 40 ∷ 0 ∷ 3 ∷ 0 ∷ [])) (Refused refusal.Layout)
+    ∷ row (kept 2 47 (7 ∷ 0 ∷ 40 ∷ 0 ∷ [])) (Refused refusal.Layout)
+    ∷ row (kept 1 47 (7 ∷ 0 ∷ 40 ∷ 0 ∷ 3 ∷ 0 ∷ [])) (Refused refusal.Layout)
+    ∷ row (80 ∷ 79 ∷ 79 ∷ 76 ∷ 2 ∷ 3 ∷ 2 ∷ 0 ∷ 101 ∷ 0 ∷ 20 ∷ 0 ∷ 4 ∷ 0 ∷ 44 ∷ 0 ∷ 1 ∷ 0 ∷ 47 ∷ 0 ∷ (body ++ (7 ∷ 0 ∷ 7 ∷ 0 ∷ 3 ∷ 0 ∷ []))) (Refused refusal.Majority)
+    ∷ row (plan 2 3 1 0 11) (Refused refusal.Layout)
+    ∷ row (contents 2 3 1 0 11) (Refused refusal.Layout)
+    ∷ row (contents 2 3 1 0 11 ++ (0 ∷ [])) (Refused refusal.Layout)
+    ∷ row (contents 2 3 1 0 9) (Refused refusal.Modulus)
+    ∷ []
+
+pub plans-worked : map (λ r. planCheck (r .bytes)) (worked ++ (faults ++ pointed)) ≡ map (λ r. r .answer) (worked ++ (faults ++ pointed))
+unfolding contents input1 input2 multiply add out body plan k single row worked faults kept pointed planCheck firstOf andThen planChecks need unlessFound firstFailing firstFrom magic sameBytes between gateOf gateAt outAt gateOk outOk isKind kindOf multiplying majorityOk gateKept outKept majorityKept foundNone pointApart pointKept pointsPlaced layoutOk majorityCheck pointsCheck layoutFor gatePlace outPlace pointPlace pointAt wordAt isPrime divisorOf divisorFrom
 plans-worked = refl
 
 -- K's steps
 pub steps-worked : steps (planOf k) ≡ DealInputs ∷ DealProduct 2 0 1 ∷ SendOuts ∷ []
-unfolding contents input1 input2 multiply add out body plan k planOf tab gateOf gateAt outAt wordAt multiplySteps stepsAt stepsFrom steps
+unfolding contents input1 input2 multiply add out body plan k planOf tab layoutFor gatePlace outPlace pointPlace gateOf gateAt outAt pointAt wordAt multiplySteps stepsAt stepsFrom steps
 steps-worked = refl
 
 -- K's inputs, coins and elements sent, and the owners of its coins
 pub counts-worked : inputCount (planOf k) ∷ coinCount (planOf k) ∷ sentCount (planOf k) ∷ coinOwners (planOf k) ≡ 2 ∷ 5 ∷ 18 ∷ 1 ∷ 2 ∷ 1 ∷ 2 ∷ 3 ∷ []
-unfolding contents input1 input2 multiply add out body plan k planOf tab countWhere partyCount parties gateOf gateAt outAt wordAt dealerCount kindOf isKind kindCount inputOwnersAt inputOwners firstDealings multiplyDealings dealingsAt coinOwnersAt coinOwners flatMap inputCount coinCount perMultiply sentCount
+unfolding contents input1 input2 multiply add out body plan k planOf tab countWhere partyCount parties layoutFor gatePlace outPlace pointPlace gateOf gateAt outAt pointAt wordAt dealerCount kindOf isKind kindCount inputOwnersAt inputOwners firstDealings multiplyDealings dealingsAt coinOwnersAt coinOwners flatMap inputCount coinCount perMultiply sentCount
 counts-worked = refl
 
 -- what party 3 of K takes and writes in its calls 0 to 3
 pub rounds-worked : (map (mailCount (planOf k) 3) (0 ∷ 1 ∷ 2 ∷ 3 ∷ []) ≡ 0 ∷ 2 ∷ 3 ∷ 3 ∷ []) × (map (writtenCount (planOf k) 3) (0 ∷ 1 ∷ 2 ∷ 3 ∷ []) ≡ 0 ∷ 3 ∷ 1 ∷ 1 ∷ [])
-unfolding contents input1 input2 multiply add out body plan k planOf tab countWhere partyCount gateOf gateAt outAt wordAt dealerCount kindOf isKind kindCount operandsOf isInputOf wiresFrom inputWires outWiresOf outWires ownOutCount multiplySteps stepsAt stepsFrom steps stepAt lastCall received sentBy mailCount writtenCount
+unfolding contents input1 input2 multiply add out body plan k planOf tab countWhere partyCount layoutFor gatePlace outPlace pointPlace gateOf gateAt outAt pointAt wordAt dealerCount kindOf isKind kindCount operandsOf isInputOf wiresFrom inputWires outWiresOf outWires ownOutCount multiplySteps stepsAt stepsFrom steps stepAt lastCall received sentBy mailCount writtenCount
 rounds-worked = (refl, refl)

@@ -1,11 +1,13 @@
--- The plan file (document 01): its checks, 1 to 8 and 25, and the plan that it stands for.
+-- The plan file of versions 1 and 2 (document 01; R-3 and R-4 of document 02): its checks, 1 to 8, 25 and 26, and the plan that it stands for.
 use Prim.Native.Nat.{ℕ, suc, _+_, _*_}
-use mathlib.Core.Bool.{Bool, true, false, cond, _&&_}
+use mathlib.Core.Bool.{Bool, true, false, cond, not, _&&_}
 use mathlib.Core.List.{List, [], _∷_}
 use lib.Dec.{eqb, leb, ltb}
 use lib.ListN.{length, take, getD}
 use Rattle.numbers.specs.Tables.{tab, firstFailing}
 use Rattle.numbers.specs.Bytes.{wordAt}
+use Rattle.numbers.specs.declared.Found.{Found}
+use Rattle.numbers.specs.declared.Found.the-variants.{At, Nothing}
 use Rattle.field.specs.declared.Made.{Made}
 use Rattle.field.specs.declared.Made.the-variants as made
 use Rattle.field.specs.Prime.{isPrime}
@@ -37,6 +39,9 @@ unfoldable pub between : ℕ → ℕ → ℕ → Bool
 between a b x = leb a x && leb x b
 
 -- the contents' fields
+abbrev pub versionAt : List ℕ → ℕ
+versionAt bs = getD bs 4 0
+
 abbrev pub nAt : List ℕ → ℕ
 nAt bs = getD bs 5 0
 
@@ -52,6 +57,31 @@ gateCountAt bs = wordAt bs 12
 abbrev pub outCountAt : List ℕ → ℕ
 outCountAt bs = wordAt bs 16
 
+-- ---- the layout of a version: the contents, then gates, outs of three bytes, and points
+pub record Layout : Type 0 where
+  -- bytes of the contents, of a gate and of a point; no bytes of a point: the file has none, and the points are 1 to n
+  pub head : ℕ
+  pub gate : ℕ
+  pub point : ℕ
+
+unfoldable pub layoutFor : ℕ → Layout
+layoutFor version =
+    cond (eqb version 1) (record { head = 18; gate = 6; point = 0 })
+    (record { head = 20; gate = 6; point = 2 })
+
+abbrev pub layoutOf : List ℕ → Layout
+layoutOf bs = layoutFor (versionAt bs)
+
+-- where gate g stands, out o and point i
+unfoldable pub gatePlace : List ℕ → ℕ → ℕ
+gatePlace bs g = layoutOf bs .head + layoutOf bs .gate * g
+
+unfoldable pub outPlace : List ℕ → ℕ → ℕ
+outPlace bs o = gatePlace bs (gateCountAt bs) + 3 * o
+
+unfoldable pub pointPlace : List ℕ → ℕ → ℕ
+pointPlace bs i = outPlace bs (outCountAt bs) + layoutOf bs .point * i
+
 -- a gate by its kind, second byte, a and b; what is none reads as an input of party 0, which no plan admits
 unfoldable pub gateOf : ℕ → ℕ → ℕ → ℕ → Gate
 gateOf kind second a b =
@@ -63,19 +93,16 @@ gateOf kind second a b =
     (cond (eqb kind 5) (Multiply a b) (Input 0))))))
     (Input 0)
 
--- where gate g stands, and out o
-abbrev pub gatePlace : ℕ → ℕ
-gatePlace g = 18 + 6 * g
-
-abbrev pub outPlace : List ℕ → ℕ → ℕ
-outPlace bs o = 18 + 6 * gateCountAt bs + 3 * o
-
 unfoldable pub gateAt : List ℕ → ℕ → Gate
 gateAt bs g =
-    gateOf (getD bs (gatePlace g) 0) (getD bs (gatePlace g + 1) 0) (wordAt bs (gatePlace g + 2)) (wordAt bs (gatePlace g + 4))
+    gateOf (getD bs (gatePlace bs g) 0) (getD bs (gatePlace bs g + 1) 0) (wordAt bs (gatePlace bs g + 2)) (wordAt bs (gatePlace bs g + 4))
 
 unfoldable pub outAt : List ℕ → ℕ → Output
 outAt bs o = record { party = getD bs (outPlace bs o) 0; wire = wordAt bs (outPlace bs o + 1) }
+
+-- the point of party i + 1
+unfoldable pub pointAt : List ℕ → ℕ → ℕ
+pointAt bs i = cond (eqb (layoutOf bs .point) 0) (suc i) (wordAt bs (pointPlace bs i))
 
 -- gate g keeps its kind's rule
 unfoldable pub gateOk : ℕ → ℕ → ℕ → Gate → Bool
@@ -104,14 +131,30 @@ outKept bs o = outOk (nAt bs) (gateCountAt bs) (outAt bs o)
 unfoldable pub majorityKept : List ℕ → ℕ → Bool
 majorityKept bs g = majorityOk (nAt bs) (tAt bs) (gateAt bs g)
 
+-- a search that found nothing
+unfoldable pub foundNone : Found → Bool
+foundNone (At i) = false
+foundNone Nothing = true
+
+-- the point of party i + 1 is not 0, is below p and is no earlier party's
+unfoldable pub pointApart : List ℕ → ℕ → ℕ → Bool
+pointApart bs i j = not (eqb (pointAt bs j) (pointAt bs i))
+
+unfoldable pub pointKept : List ℕ → ℕ → Bool
+pointKept bs i = ltb 0 (pointAt bs i) && (ltb (pointAt bs i) (pAt bs) && foundNone (firstFailing (pointApart bs i) i))
+
+-- the points' offset, where the file has points, and its end
+unfoldable pub pointsPlaced : List ℕ → Bool
+pointsPlaced bs = cond (eqb (layoutOf bs .point) 0) true (eqb (wordAt bs 18) (pointPlace bs 0)) && eqb (length bs) (pointPlace bs (nAt bs))
+
 unfoldable pub layoutOk : List ℕ → Bool
 layoutOk bs =
     eqb (getD bs 7 0) 0
-    && (eqb (wordAt bs 10) 18
+    && (eqb (wordAt bs 10) (gatePlace bs 0)
     && (between 1 1024 (gateCountAt bs)
-    && (eqb (wordAt bs 14) (18 + 6 * gateCountAt bs)
+    && (eqb (wordAt bs 14) (outPlace bs 0)
     && (between 1 64 (outCountAt bs)
-    && eqb (length bs) (18 + 6 * gateCountAt bs + 3 * outCountAt bs)))))
+    && pointsPlaced bs))))
 
 -- refusals 3 to 5, by n, t and p
 abbrev pub partiesOk : ℕ → Bool
@@ -128,11 +171,15 @@ modulusOk n p = (ltb p fieldLimit && isPrime p) && ltb n p
 unfoldable pub majorityCheck : List ℕ → Checked
 majorityCheck bs = unlessFound (λ g. refusal.Majority) (firstFailing (majorityKept bs) (gateCountAt bs))
 
--- refusals 1 to 8 and 25
+-- refusal 26
+unfoldable pub pointsCheck : List ℕ → Checked
+pointsCheck bs = unlessFound (λ i. refusal.Points) (firstFailing (pointKept bs) (nAt bs))
+
+-- refusals 1 to 8, 25 and 26
 unfoldable pub planChecks : List ℕ → List Checked
 planChecks bs =
     need refusal.Magic (leb 18 (length bs) && sameBytes (take 4 bs) magic)
-    ∷ need refusal.Version (eqb (getD bs 4 0) 1)
+    ∷ need refusal.Version (between 1 2 (versionAt bs))
     ∷ need refusal.Parties (partiesOk (nAt bs))
     ∷ need refusal.Threshold (thresholdOk (nAt bs) (tAt bs))
     ∷ need refusal.Modulus (modulusOk (nAt bs) (pAt bs))
@@ -140,6 +187,7 @@ planChecks bs =
     ∷ unlessFound refusal.GateRule (firstFailing (gateKept bs) (gateCountAt bs))
     ∷ unlessFound refusal.OutputRule (firstFailing (outKept bs) (outCountAt bs))
     ∷ majorityCheck bs
+    ∷ pointsCheck bs
     ∷ []
 
 unfoldable pub planCheck : List ℕ → Checked
@@ -151,7 +199,7 @@ planOf bs =
     record {
       t = tAt bs;
       p = pAt bs;
-      points = tab suc (nAt bs);
+      points = tab (pointAt bs) (nAt bs);
       gates = tab (gateAt bs) (gateCountAt bs);
       outs = tab (outAt bs) (outCountAt bs);
       rule = Reduction;

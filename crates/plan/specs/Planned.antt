@@ -6,7 +6,7 @@ use lib.ListN.{length}
 use Rattle.plan.specs.declared.Header.{Header}
 use Rattle.plan.specs.declared.Reading.{Reading}
 use Rattle.plan.specs.declared.Checked.the-variants.{Passed}
-use Rattle.plan.specs.File.{pAt, planCheck, headerOf, readPlan}
+use Rattle.plan.specs.File.{pAt, layoutOf, planCheck, headerOf, readPlan}
 
 -- the bounds follow from the first two fields; they stand here for arithmetic to find
 pub record Planned (bs : List ℕ) (h : Header) : Type 0 where
@@ -21,7 +21,7 @@ pub record Planned (bs : List ℕ) (h : Header) : Type 0 where
   pub gates-high : h .gates ≤ 1024
   pub outs-low : 1 ≤ h .outs
   pub outs-high : h .outs ≤ 64
-  pub long : length bs ≡ 18 + 6 * h .gates + 3 * h .outs
+  pub long : layoutOf bs .head + 6 * h .gates + 3 * h .outs ≤ length bs
 
 -- what reading the bytes of a plan answers; its prime has two bytes
 pub record ReadAs (bs : List ℕ) (r : Reading) : Type 0 where

@@ -225,7 +225,7 @@ fn rounds_at(plan: &[u8], h: Header, g: usize) -> bool
     requires { ⌜ g < h .gates ⌝ }
     ensures { λ r. ⌜ r ≡ leb 5 (kindOf (gateAt (now (plan .entry)) g)) ⌝ }
 {
-    5 <= plan::byte(plan, 18 + 6 * g)
+    5 <= plan::byte(plan, plan::head(plan) + 6 * g)
 }
 
 // The step that the calls of number k send.

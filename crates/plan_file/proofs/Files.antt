@@ -15,7 +15,7 @@ use lib.ListN.{length, take, drop, getD, length-append, List·getD-append}
 use lib.Seq.{getD-append-add, getD-take, getD-drop}
 use Rattle.numbers.specs.Tables.{tab, firstFailing}
 use Rattle.numbers.specs.Bytes.{bytesFrom, wordAt, allBelow}
-use Rattle.numbers.proofs.Tables.{is-tab}
+use Rattle.numbers.proofs.Tables.{is-tab, tab-ext}
 use Rattle.numbers.specs.declared.Found.the-variants.{Nothing}
 use Rattle.numbers.proofs.Rows.{flat-length, flat-part}
 use Rattle.numbers.proofs.Searches.{passes-nothing, first-ext}
@@ -29,9 +29,10 @@ use Rattle.plan.specs.declared.Checked.the-variants.{Passed, Refused}
 use Rattle.plan.specs.declared.Refusal.the-variants as refusal
 use Rattle.plan.specs.Refusals.{andThen, firstOf, need, unlessFound}
 use Rattle.plan.specs.Plans.{kindOf, operandsOf}
-use Rattle.plan.specs.File.{magic, sameBytes, between, gateOf, gateAt, outAt, gateOk, outOk, gateKept, outKept, gateCountAt, outCountAt, nAt, tAt, pAt, partiesOk, thresholdOk, modulusOk, layoutOk, majorityCheck, planChecks, planCheck, planOf}
-use Rattle.plan.proofs.Planned.{between-true, modulus-small}
-use Rattle.plan.proofs.Ways.{majority-all, majority-there}
+use Rattle.plan.specs.File.{versionAt, layoutOf, gatePlace, outPlace, pointAt, pointsPlaced, magic, sameBytes, between, gateOf, gateAt, outAt, gateOk, outOk, gateKept, outKept, gateCountAt, outCountAt, nAt, tAt, pAt, partiesOk, thresholdOk, modulusOk, layoutOk, pointKept, majorityCheck, pointsCheck, planChecks, planCheck, planOf}
+use Rattle.plan.proofs.Gates.{head-first, gate-place, out-place}
+use Rattle.plan.proofs.Planned.{between-true, modulus-small, modulus-above}
+use Rattle.plan.proofs.Ways.{majority-all, majority-there, point-is, points-pass, points-right, placed-first}
 use Rattle.plan_file.specs.Bodies.{Bodies, planWith, words, gateBytes, outBytes, started, counted, contents, fileSize, planFile, contentChecks, outMade}
 
 -- ---- rows of k bytes within the file
@@ -133,6 +134,16 @@ module _ (n t p : ℕ) (b : Bodies) where
       let e : 18 + 6 * g + j + 1 ≡ 18 + 6 * g + (j + 1) = omega arith in
       rw (e, at-gate g j l (omega arith), at-gate g (j + 1) l s)
 
+  version-back : versionAt (planFile n t p b) ≡ 1
+  unfolding planFile contents started magic
+  version-back = refl
+
+  head-back : layoutOf (planFile n t p b) .head ≡ 18
+  head-back = sym (head-first (planFile n t p b) (versionAt (planFile n t p b)) refl version-back)
+
+  gate-place-back : (g : ℕ) → gatePlace (planFile n t p b) g ≡ 18 + 6 * g
+  gate-place-back g = gate-place (planFile n t p b) g ∙ ap (λ (k : ℕ). k + 6 * g) head-back
+
   pub n-back : nAt (planFile n t p b) ≡ n
   unfolding planFile contents started magic
   n-back = refl
@@ -158,10 +169,23 @@ module _ (n t p : ℕ) (b : Bodies) where
     unfolding planFile contents started counted magic wordAt words bytesFrom flatMap
     outs-offset = word-back (18 + 6 * length (b .gates)) (omega arith)
 
+    out-place-back : (o : ℕ) → outPlace (planFile n t p b) o ≡ 18 + 6 * length (b .gates) + 3 * o
+    out-place-back o =
+        out-place (planFile n t p b) o
+        ∙ ap₂ (λ (k g : ℕ). k + 6 * g + 3 * o) head-back gates-back
+
+    -- the outs end the file
+    placed-back : pointsPlaced (planFile n t p b) ≡ true
+    unfolding fileSize
+    placed-back =
+        sym (placed-first (planFile n t p b) (outPlace (planFile n t p b) (outCountAt (planFile n t p b))) refl (versionAt (planFile n t p b)) refl version-back)
+        ∙ eq-eqb (length (planFile n t p b)) (outPlace (planFile n t p b) (outCountAt (planFile n t p b)))
+        (file-long ∙ sym (out-place-back (outCountAt (planFile n t p b)) ∙ ap (λ (o : ℕ). 18 + 6 * length (b .gates) + 3 * o) outs-back))
+
     pub layout-back : layoutOk (planFile n t p b) ≡ (between 1 1024 (length (b .gates)) && between 1 64 (length (b .outs)))
-    unfolding layoutOk fileSize
+    unfolding layoutOk
     layout-back =
-        rw (seven, ten, gates-back, outs-offset, outs-back, file-long, eq-eqb (18 + 6 * length (b .gates)) (18 + 6 * length (b .gates)) refl, eq-eqb (18 + 6 * length (b .gates) + 3 * length (b .outs)) (18 + 6 * length (b .gates) + 3 * length (b .outs)) refl)
+        rw (seven, ten, gate-place-back 0, gates-back, outs-offset, out-place-back 0, outs-back, placed-back, eq-eqb (18 + 6 * length (b .gates)) (18 + 6 * length (b .gates) + 3 * 0) (omega arith))
         (ends (between 1 1024 (length (b .gates))) (between 1 64 (length (b .outs))))
       where
         seven : getD (planFile n t p b) 7 0 ≡ 0
@@ -180,11 +204,12 @@ module _ (n t p : ℕ) (b : Bodies) where
       unfolding gateAt
       gate-back g l =
           let e : 18 + 6 * g ≡ 18 + 6 * g + 0 = omega arith in
-          ap₂ (λ (k s : ℕ). gateOf k s (wordAt (planFile n t p b) (18 + 6 * g + 2)) (wordAt (planFile n t p b) (18 + 6 * g + 4)))
+          rw (gate-place-back g)
+          (ap₂ (λ (k s : ℕ). gateOf k s (wordAt (planFile n t p b) (18 + 6 * g + 2)) (wordAt (planFile n t p b) (18 + 6 * g + 4)))
           (ap (λ (k : ℕ). getD (planFile n t p b) k 0) e ∙ at-gate g 0 l (omega arith)) (at-gate g 1 l (omega arith))
           ∙ ap₂ (λ (x y : ℕ). gateOf (getD (gateBytes (getD (b .gates) g (Input 0))) 0 0) (getD (gateBytes (getD (b .gates) g (Input 0))) 1 0) x y)
           (word-at-gate g 2 l (omega arith)) (word-at-gate g 4 l (omega arith))
-          ∙ gate-of-bytes (getD (b .gates) g (Input 0)) (roomy .low g l) (roomy .a-small g l) (roomy .b-small g l)
+          ∙ gate-of-bytes (getD (b .gates) g (Input 0)) (roomy .low g l) (roomy .a-small g l) (roomy .b-small g l))
 
       pub out-back : (o : ℕ) → o < length (b .outs) → outAt (planFile n t p b) o ≡ getD (b .outs) o noOut
       unfolding outAt wordAt outBytes words bytesFrom flatMap
@@ -193,7 +218,7 @@ module _ (n t p : ℕ) (b : Bodies) where
           let at : ℕ = 18 + 6 * length (b .gates) + 3 * o in
           let none : at ≡ at + 0 = omega arith in
           let two : at + 1 + 1 ≡ at + 2 = omega arith in
-          rw gates-back
+          rw (out-place-back o)
           (ap₂ (λ (c w : ℕ). record { party = c; wire = w })
           (ap (λ (k : ℕ). getD (planFile n t p b) k 0) none ∙ at-out o 0 l (omega arith))
           (ap₂ (λ (c d : ℕ). c + 256 * d) (at-out o 1 l (omega arith)) (ap (λ (k : ℕ). getD (planFile n t p b) k 0) two ∙ at-out o 2 l (omega arith))
@@ -205,10 +230,13 @@ module _ (n t p : ℕ) (b : Bodies) where
       outs-are : tab (outAt (planFile n t p b)) (outCountAt (planFile n t p b)) ≡ b .outs
       outs-are = rw outs-back (sym (is-tab (outAt (planFile n t p b)) (length (b .outs)) (b .outs) noOut refl (λ o l. sym (out-back o l))))
 
+      points-are : tab (pointAt (planFile n t p b)) (nAt (planFile n t p b)) ≡ tab suc n
+      points-are = rw n-back (tab-ext (pointAt (planFile n t p b)) suc n (λ i l. point-is (planFile n t p b) version-back i))
+
       -- the plan that was made
       pub plan-back : planOf (planFile n t p b) ≡ planWith n t p b
       unfolding planOf planWith
-      plan-back = rw (gates-are, outs-are, p-back, n-back, t-back)
+      plan-back = rw (gates-are, outs-are, points-are, p-back, t-back)
 
 -- ---- the checks
 -- gates of the kinds that a file may have, and gates and outs that keep their rules
@@ -291,9 +319,15 @@ module _ (n t p : ℕ) (b : Bodies) (few-gates : length (b .gates) ≤ 1024) (fe
       letters : sameBytes (take 4 (planFile n t p b)) magic ≡ true
       letters = unfold planFile in unfold contents in unfold started in unfold magic in unfold sameBytes in refl
 
-  first-version : getD (planFile n t p b) 4 0 ≡ 1
-  unfolding planFile contents started magic
-  first-version = refl
+  first-version : between 1 2 (versionAt (planFile n t p b)) ≡ true
+  unfolding between
+  first-version = rw (version-back n t p b)
+
+  -- 26 falls on no file that was made
+  points-made : modulusOk n p ≡ true → pointsCheck (planFile n t p b) ≡ Passed
+  points-made f =
+      sym (points-right (planFile n t p b) (firstFailing (pointKept (planFile n t p b)) (nAt (planFile n t p b))) refl
+      (points-pass (planFile n t p b) (version-back n t p b) (rw (n-back n t p b, p-back n t p b) (modulus-above n p f))))
 
   -- a file that was made is refused for its contents, for the parties of its outs and for want of a majority alone
   pub file-check-outs : (partiesOk n ≡ true → modulusOk n p ≡ true → Wired n p b)
@@ -308,7 +342,7 @@ module _ (n t p : ℕ) (b : Bodies) (few-gates : length (b .gates) ≤ 1024) (fe
       rest =
           unlessFound refusal.GateRule (firstFailing (gateKept (planFile n t p b)) (gateCountAt (planFile n t p b)))
           ∷ unlessFound refusal.OutputRule (firstFailing (outKept (planFile n t p b)) (outCountAt (planFile n t p b)))
-          ∷ majorityCheck (planFile n t p b) ∷ []
+          ∷ majorityCheck (planFile n t p b) ∷ pointsCheck (planFile n t p b) ∷ []
 
       made : Checked
       made = andThen (unlessFound refusal.OutputRule (firstFailing (outMade n b) (length (b .outs)))) (majorityCheck (planFile n t p b))
@@ -327,7 +361,7 @@ module _ (n t p : ℕ) (b : Bodies) (few-gates : length (b .gates) ≤ 1024) (fe
       by true true true true e f =
           let n-small : n ≤ 15 = between-true 1 15 n e .1 in
           let p-small : p < 65536 = modulus-small n p f in
-          rw (gates-pass n p b n-small (omega arith) few-gates (wired e f) t few-outs, outs-same n p b n-small (omega arith) few-gates (wired e f) t few-outs)
+          rw (gates-pass n p b n-small (omega arith) few-gates (wired e f) t few-outs, outs-same n p b n-small (omega arith) few-gates (wired e f) t few-outs, points-made f)
           (unfold unlessFound in ap (andThen (unlessFound refusal.OutputRule (firstFailing (outMade n b) (length (b .outs))))) (only (majorityCheck (planFile n t p b))))
 
   -- where the outs keep their rules too, for its contents and for want of a majority alone

@@ -1,4 +1,4 @@
-// A plan file read and checked: refusals 1 to 8 of document 01, and 25 of document 02.
+// A plan file read and checked: refusals 1 to 8 of document 01, 25 and 26 of document 02.
 use field::Field;
 use field::Made;
 use numbers::Found;
@@ -10,7 +10,7 @@ use plan::Output;
 use plan::Reading;
 use plan::Refusal;
 ghost use mathlib.Core.Path.{_≡_};
-ghost use mathlib.Core.Bool.{_&&_};
+ghost use mathlib.Core.Bool.{_&&_, not};
 ghost use Prim.Native.Nat.{_<_, _+_, _*_, _≤_};
 ghost use lib.Dec.{eqb, ltb, leb};
 ghost use lib.ListN.{length, take, drop};
@@ -18,7 +18,7 @@ ghost use Rattle.numbers.specs.Bytes.{wordAt};
 ghost use Rattle.numbers.specs.Tables.{firstFailing};
 ghost use Rattle.plan.specs.Refusals.{firstOf};
 ghost use Rattle.plan.specs.Plans.{multiplying};
-ghost use Rattle.plan.specs.File.{magic, sameBytes, between, partiesOk, thresholdOk, fieldAbove, gateOk, outOk, gateCountAt, outCountAt, gateKept, outKept, majorityKept, layoutOk, majorityCheck, planChecks, planCheck, headerOf, readingOf, outcomeOf};
+ghost use Rattle.plan.specs.File.{magic, sameBytes, between, partiesOk, thresholdOk, fieldAbove, gateOk, outOk, nAt, pAt, gateCountAt, outCountAt, layoutOf, outPlace, gateKept, outKept, majorityKept, pointApart, pointKept, pointsPlaced, layoutOk, majorityCheck, pointsCheck, planChecks, planCheck, headerOf, readingOf, outcomeOf};
 ghost use Rattle.plan.specs.Planned.{ReadAs};
 
 pub fn is_between(low: usize, high: usize, x: usize) -> bool
@@ -66,7 +66,7 @@ fn out_ok(n: usize, gates: usize, out: Output) -> bool
 
 // The first gate that breaks its kind's rule, in a file that has them all.
 fn first_bad_gate(plan: &[u8]) -> Found
-    requires { ⌜ 18 + 6 * gateCountAt (now plan) ≤ length (now plan) ⌝ }
+    requires { ⌜ layoutOf (now plan) .head + 6 * gateCountAt (now plan) ≤ length (now plan) ⌝ }
     ensures { λ r. ⌜ r ≡ firstFailing (gateKept (now (plan .entry))) (gateCountAt (now (plan .entry))) ⌝ }
 {
     let n = plan::byte(plan, 5);
@@ -144,6 +144,87 @@ pub fn check_majority(plan: &[u8]) -> Checked
     Checked::Passed
 }
 
+// ---- refusal 26
+
+fn apart(a: u64, b: u64) -> bool
+    ensures { λ r. ⌜ r ≡ not (eqb a b) ⌝ }
+{
+    a != b
+}
+
+// The first party whose point is that of party i + 1, of those before it.
+fn earlier(plan: &[u8], i: usize) -> Found
+    requires { ⌜ i < 256 ⌝ }
+    ensures { λ r. ⌜ r ≡ firstFailing (pointApart (now (plan .entry)) i) i ⌝ }
+{
+    let x = plan::point_at(plan, i);
+    let mut j: usize = 0;
+    while j < i {
+        if !apart(plan::point_at(plan, j), x) {
+            return Found::At(j);
+        }
+        j += 1;
+    }
+    Found::Nothing
+}
+
+// Whether the point of party i + 1 is from 1 to p - 1 and no earlier party's.
+fn point_ok(plan: &[u8], p: u64, i: usize) -> bool
+    requires { ⌜ i < 256 ⌝ }
+    requires { ⌜ p ≡ pAt (now plan) ⌝ }
+    ensures { λ r. ⌜ r ≡ pointKept (now (plan .entry)) i ⌝ }
+{
+    let x = plan::point_at(plan, i);
+    if x == 0 {
+        return false;
+    }
+    if p <= x {
+        return false;
+    }
+    match earlier(plan, i) {
+        Found::At(_) => false,
+        Found::Nothing => true,
+    }
+}
+
+// The first party whose point breaks its rule; points 1 to n keep it where p is above n.
+fn first_bad_point(plan: &[u8]) -> Found
+    ensures { λ r. ⌜ r ≡ firstFailing (pointKept (now (plan .entry))) (nAt (now (plan .entry))) ⌝ }
+{
+    let n = plan::byte(plan, 5);
+    let p = plan::word(plan, 8);
+    if plan::byte(plan, 4) == 1 {
+        if n < p {
+            return Found::Nothing;
+        }
+    }
+    seek_point(plan, n, p as u64)
+}
+
+fn seek_point(plan: &[u8], n: usize, p: u64) -> Found
+    requires { ⌜ n < 256 ⌝ }
+    requires { ⌜ p ≡ pAt (now plan) ⌝ }
+    ensures { λ r. ⌜ r ≡ firstFailing (pointKept (now (plan .entry))) n ⌝ }
+{
+    let mut i: usize = 0;
+    while i < n {
+        if !point_ok(plan, p, i) {
+            return Found::At(i);
+        }
+        i += 1;
+    }
+    Found::Nothing
+}
+
+fn check_points(plan: &[u8]) -> Checked
+    ensures { λ r. ⌜ r ≡ pointsCheck (now (plan .entry)) ⌝ }
+{
+    if let Found::At(_) = first_bad_point(plan) {
+        return Checked::Refused(Refusal::Points);
+    }
+    Checked::Passed
+}
+
 // ---- refusals 3 to 5, by n, t and p
 
 pub fn parties_ok(n: usize) -> bool
@@ -189,36 +270,61 @@ fn begins(plan: &[u8]) -> bool
     plan[3] == MAGIC[3]
 }
 
-// Whether byte 7, the offsets, the counts and the length are those of the layout.
+// Whether byte 7, the offsets, the counts and the length are those of the version's layout.
 fn layout_ok(plan: &[u8]) -> bool
     ensures { λ r. ⌜ r ≡ layoutOk (now (plan .entry)) ⌝ }
 {
     if plan::byte(plan, 7) != 0 {
         return false;
     }
-    if plan::word(plan, 10) != 18 {
+    let head = plan::head(plan);
+    if plan::word(plan, 10) != head {
         return false;
     }
     let gates = plan::word(plan, 12);
     if !is_between(1, 1024, gates) {
         return false;
     }
-    outs_placed(plan, gates)
+    outs_placed(plan, head + 6 * gates)
 }
 
-// Whether the outs follow the gates and end the file.
-fn outs_placed(plan: &[u8], gates: usize) -> bool
-    requires { ⌜ gates < 65536 ⌝ }
-    ensures { λ r. ⌜ r ≡ (eqb (wordAt (now (plan .entry)) 14) (18 + 6 * gates) && (between 1 64 (outCountAt (now (plan .entry))) && eqb (length (now (plan .entry))) (18 + 6 * gates + 3 * outCountAt (now (plan .entry))))) ⌝ }
+// Whether the outs follow the gates, which end here, and the points the outs.
+fn outs_placed(plan: &[u8], at: usize) -> bool
+    requires { ⌜ at ≡ outPlace (now plan) 0 ⌝ }
+    requires { ⌜ at < 1000000 ⌝ }
+    ensures { λ r. ⌜ r ≡ (eqb (wordAt (now (plan .entry)) 14) (outPlace (now (plan .entry)) 0) && (between 1 64 (outCountAt (now (plan .entry))) && pointsPlaced (now (plan .entry)))) ⌝ }
 {
-    if plan::word(plan, 14) != 18 + 6 * gates {
+    if plan::word(plan, 14) != at {
         return false;
     }
     let outs = plan::word(plan, 16);
     if !is_between(1, 64, outs) {
         return false;
     }
-    plan.len() == 18 + 6 * gates + 3 * outs
+    points_placed(plan, at + 3 * outs)
+}
+
+// Whether the points, in a version that has them, follow the outs, which end here, and nothing else does.
+fn points_placed(plan: &[u8], at: usize) -> bool
+    requires { ⌜ at ≡ outPlace (now plan) (outCountAt (now plan)) ⌝ }
+    requires { ⌜ at < 2000000 ⌝ }
+    ensures { λ r. ⌜ r ≡ pointsPlaced (now (plan .entry)) ⌝ }
+{
+    if plan::byte(plan, 4) == 1 {
+        return plan.len() == at;
+    }
+    if plan::word(plan, 18) != at {
+        return false;
+    }
+    ends_at(plan, at)
+}
+
+// Whether n points from here on end the file.
+fn ends_at(plan: &[u8], at: usize) -> bool
+    requires { ⌜ at < 2000000 ⌝ }
+    ensures { λ r. ⌜ r ≡ eqb (length (now (plan .entry))) (at + 2 * nAt (now (plan .entry))) ⌝ }
+{
+    plan.len() == at + 2 * plan::byte(plan, 5)
 }
 
 // Refusals 1 to 4.
@@ -228,7 +334,7 @@ fn check_contents(plan: &[u8]) -> Checked
     if !begins(plan) {
         return Checked::Refused(Refusal::Magic);
     }
-    if plan::byte(plan, 4) != 1 {
+    if !is_between(1, 2, plan::byte(plan, 4)) {
         return Checked::Refused(Refusal::Version);
     }
     let n = plan::byte(plan, 5);
@@ -241,7 +347,17 @@ fn check_contents(plan: &[u8]) -> Checked
     Checked::Passed
 }
 
-// Refusals 6 to 8 and 25.
+// Refusals 25 and 26.
+fn check_last(plan: &[u8]) -> Checked
+    ensures { λ r. ⌜ r ≡ firstOf (drop 8 (planChecks (now (plan .entry)))) ⌝ }
+{
+    match check_majority(plan) {
+        Checked::Passed => check_points(plan),
+        Checked::Refused(r) => Checked::Refused(r),
+    }
+}
+
+// Refusals 6 to 8, 25 and 26.
 fn check_body(plan: &[u8]) -> Checked
     ensures { λ r. ⌜ r ≡ firstOf (drop 5 (planChecks (now (plan .entry)))) ⌝ }
 {
@@ -254,7 +370,7 @@ fn check_body(plan: &[u8]) -> Checked
     if let Found::At(o) = first_bad_out(plan) {
         return Checked::Refused(Refusal::OutputRule(o));
     }
-    check_majority(plan)
+    check_last(plan)
 }
 
 fn reading_of(c: Checked, h: Header) -> Reading
@@ -266,7 +382,7 @@ fn reading_of(c: Checked, h: Header) -> Reading
     }
 }
 
-// Refusals 5 to 8 and 25, and the contents.
+// Refusals 5 to 8, 25 and 26, and the contents.
 fn read_on(plan: &[u8]) -> Reading
     ensures { λ r. ⌜ r ≡ readingOf (firstOf (drop 4 (planChecks (now (plan .entry))))) (headerOf (now (plan .entry))) ⌝ }
 {
@@ -285,7 +401,7 @@ fn read_on(plan: &[u8]) -> Reading
     reading_of(check_body(plan), h)
 }
 
-// Reads a plan: its contents, or the first refusal of 1 to 8 and 25 that falls on it.
+// Reads a plan: its contents, or the first refusal of 1 to 8, 25 and 26 that falls on it.
 pub fn read(plan: &[u8]) -> Reading
     ensures { λ r. ⌜ ReadAs (now (plan .entry)) r ⌝ }
 {
@@ -305,7 +421,7 @@ pub fn outcome(r: Reading) -> Checked
     }
 }
 
-// Checks a plan: the first refusal of 1 to 8 and 25 that falls on it.
+// Checks a plan: the first refusal of 1 to 8, 25 and 26 that falls on it.
 pub fn check(plan: &[u8]) -> Checked
     ensures { λ r. ⌜ r ≡ planCheck (now (plan .entry)) ⌝ }
 {

@@ -37,8 +37,9 @@ use Rattle.plan.specs.declared.Gate.the-variants.{Input, Add, Scale, Offset, Mu
 use Rattle.plan.specs.declared.Output.{Output}
 use Rattle.plan.specs.declared.Header.{Header}
 use Rattle.plan.specs.Plans.{Plan, partyCount, dealerCount, parties, pointOf, kindOf, isKind, multiplying, operandsOf, isInputOf, wiresFrom, inputWires, outWiresOf, outWires, inputOwnersAt, inputOwners, dealingsAt, coinOwnersAt, coinOwners, coinCount, ownOf, ownInputs, ownCoins}
-use Rattle.plan.specs.File.{between, gateOf, gateAt, outAt, outOk, planOf}
+use Rattle.plan.specs.File.{between, layoutOf, gatePlace, gateOf, gateAt, outAt, outOk, planOf}
 use Rattle.plan.specs.Planned.{Planned}
+use Rattle.plan.proofs.Gates.{gate-place}
 use Rattle.plan.proofs.Planned.{plan-t, plan-n, plan-dealers, plan-gates, plan-outs, plan-gate, plan-out}
 use Rattle.plan.proofs.Valid.{valid, plain, planned-ready, gate-majority}
 use Rattle.seat_messages.proofs.PointLaws.{plan-points-long, plan-points-below, points-at}
@@ -91,17 +92,18 @@ not-input j a b x l true false false true five = refl
 not-input j a b x l true false false false true = refl
 not-input j a b x l true false false false false = sym (ne-eqb j 0 (λ e. omega arith))
 
-pub other-kind : (bs : List ℕ) (g j : ℕ) → (getD bs (18 + 6 * g) 0 ≡ 1 → ⊥) → 1 ≤ j → false ≡ isInputOf j (gateAt bs g)
+pub other-kind : (bs : List ℕ) (g d j : ℕ) → d ≡ layoutOf bs .head → (getD bs (d + 6 * g) 0 ≡ 1 → ⊥) → 1 ≤ j → false ≡ isInputOf j (gateAt bs g)
 unfolding gateAt gateOf
-other-kind bs g j n l =
-    let kind : ℕ = getD bs (18 + 6 * g) 0 in
-    let a : ℕ = wordAt bs (18 + 6 * g + 2) in
-    let b : ℕ = wordAt bs (18 + 6 * g + 4) in
-    rw (ne-eqb (getD bs (18 + 6 * g) 0) 1 n)
-    (not-input j a b (cond (eqb b 0) (Input a) (Input 0)) l (eqb (getD bs (18 + 6 * g + 1) 0) 0) (eqb kind 2) (eqb kind 3) (eqb kind 4) (eqb kind 5))
+other-kind bs g d j ed n l =
+    let place : gatePlace bs g ≡ d + 6 * g = omega (arith, gate-place bs g) in
+    let kind : ℕ = getD bs (gatePlace bs g) 0 in
+    let a : ℕ = wordAt bs (gatePlace bs g + 2) in
+    let b : ℕ = wordAt bs (gatePlace bs g + 4) in
+    rw (ne-eqb (getD bs (gatePlace bs g) 0) 1 (λ e. n (ap (λ (at : ℕ). getD bs at 0) (sym place) ∙ e)))
+    (not-input j a b (cond (eqb b 0) (Input a) (Input 0)) l (eqb (getD bs (gatePlace bs g + 1) 0) 0) (eqb kind 2) (eqb kind 3) (eqb kind 4) (eqb kind 5))
 
-pub first-byte-within : (bs : List ℕ) (h : Header) (g : ℕ) → Planned bs h → g < h .gates → 18 + 6 * g < length bs
-first-byte-within bs h g pl l = omega (arith, pl .long)
+pub first-byte-within : (bs : List ℕ) (h : Header) (g d : ℕ) → Planned bs h → g < h .gates → d ≡ layoutOf bs .head → d + 6 * g < length bs
+first-byte-within bs h g d pl l e = omega (arith, pl .long)
 
 pub ruleset sorting = (needs, other-kind, first-byte-within, input-at, input-of-as)
 

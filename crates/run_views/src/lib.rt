@@ -115,7 +115,7 @@ fn is_input_at(plan: &[u8], h: Header, g: usize, j: usize) -> bool
     requires { ⌜ 1 ≤ j ⌝ }
     ensures { λ r. ⌜ r ≡ isInputOf j (gateAt (now (plan .entry)) g) ⌝ }
 {
-    let at = 18 + 6 * g;
+    let at = plan::head(plan) + 6 * g;
     if plan[at] != 1 {
         return false;
     }

@@ -14,33 +14,23 @@ use Rattle.sharing_laws.specs.Sharing.{deal, mixture, matched}
 use Rattle.numbers.specs.Tables.{tab}
 use Rattle.field.proofs.Solve.{Canon, below, add-canon, #, quote, solve, combine}
 use Rattle.field.proofs.Inverse.{pos, one-canon}
+use Rattle.sharing_laws.proofs.Alls.{all-tab}
 use Rattle.sharing_laws.proofs.Polys.{eval-canon, eval-sum, eval-scale, eval-product, length-sum, length-scale, length-product}
 use Rattle.sharing_laws.proofs.Interpolation.{interpolation}
 use Rattle.sharing_laws.proofs.Roots.{through, through-values, length-through}
 use Rattle.sharing_laws.proofs.Deltas.{delta-at-0, delta-at, length-delta}
 
--- ---- the points a, a + 1, ..
-points-away : (p x a n : ℕ) (f : ℕ → ℕ) → ((k : ℕ) → f k ≡ a + k) → x < a → a + n ≤ p → All (λ y. y % p ≢ x % p) (tab f n)
+-- ---- numbers below p of which no two are the same are distinct modulo p
+pub distinct-tab :
+    (p : ℕ) (f : ℕ → ℕ) (n : ℕ) → ((i : ℕ) → i < n → f i < p) → ((i j : ℕ) → j < i → i < n → f i ≢ f j) → Distinct p (tab f n)
 unfolding tab
-points-away p x a zero f is lt le = tt
-points-away p x a (suc n) f is lt le =
-    let e : f 0 ≡ a = omega (arith, is 0) in (
-      λ q. omega (arith, rw e at q, mod-eq-of-lt {n = a} {m = p} (omega arith), mod-eq-of-lt {n = x} {m = p} (omega arith)),
-      points-away p x (suc a) n (λ k. f (suc k)) (λ k. omega (arith, is (suc k))) (omega arith) (omega arith),
-    )
-
-distinct-from : (p a n : ℕ) (f : ℕ → ℕ) → ((k : ℕ) → f k ≡ a + k) → a + n ≤ p → Distinct p (tab f n)
-unfolding tab
-distinct-from p a zero f is le = tt
-distinct-from p a (suc n) f is le =
-    let e : f 0 ≡ a = omega (arith, is 0) in (
-      rw e (points-away p a (suc a) n (λ k. f (suc k)) (λ k. omega (arith, is (suc k))) (omega arith) (omega arith)),
-      distinct-from p (suc a) n (λ k. f (suc k)) (λ k. omega (arith, is (suc k))) (omega arith),
-    )
-
--- 1 to n are distinct modulo p where n is below p
-pub points-distinct : (p n : ℕ) → n < p → Distinct p (tab suc n)
-points-distinct p n lt = distinct-from p 1 n suc (λ k. omega arith) (omega arith)
+distinct-tab p f zero small apart = tt
+distinct-tab p f (suc n) small apart = (
+  all-tab (λ y. y % p ≢ f 0 % p) (λ k. f (suc k)) n
+      (λ k l e. apart (suc k) 0 (omega arith) (omega arith)
+      (sym (mod-eq-of-lt (small (suc k) (omega arith))) ∙ e ∙ mod-eq-of-lt (small 0 (omega arith)))),
+  distinct-tab p (λ k. f (suc k)) n (λ i l. small (suc i) (omega arith)) (λ i j l m. apart (suc i) (suc j) (omega arith) (omega arith)),
+)
 
 -- ---- mixtures
 pub eval-mixture : (p : ℕ) (ws : List ℕ) (fs : List (List ℕ)) (x : ℕ) → eval p (mixture p ws fs) x ≡ dot p ws (map (λ f. eval p f x) fs)

@@ -53,15 +53,15 @@ impl Field {
         ((u64::from(first) + terms.sum::<u64>()) % u64::from(self.p)) as u16
     }
 
-    /// The interpolation weights at `x` of points 1 to `count`.
-    pub fn weights(self, count: u16, x: u16) -> Vec<u16> {
-        let weight = |i| {
-            let others = (1..=count).filter(|&j| j != i);
+    /// The interpolation weights at `x` of distinct points.
+    pub fn weights(self, points: &[u16], x: u16) -> Vec<u16> {
+        let weight = |&i: &u16| {
+            let others = points.iter().filter(|&&j| j != i);
             let (above, below) = others
-                .fold((1, 1), |(above, below), j| (self.mul(above, self.sub(x, j)), self.mul(below, self.sub(i, j))));
+                .fold((1, 1), |(above, below), &j| (self.mul(above, self.sub(x, j)), self.mul(below, self.sub(i, j))));
             self.mul(above, self.inverse(below))
         };
-        (1..=count).map(weight).collect()
+        points.iter().map(weight).collect()
     }
 
     /// `X^1 .. X^t` at `x`, by which a dealing's coins are weighted.
@@ -69,11 +69,11 @@ impl Field {
         std::iter::successors(Some(x % self.p), |&w| Some(self.mul(w, x))).take(t).collect()
     }
 
-    /// The coefficients of `X^0 .. X^t` in the product of `1 − X/c` over the members `c`.
-    pub fn delta(self, members: &[u16], t: usize) -> Vec<u16> {
+    /// The coefficients of `X^0 .. X^t` in the product of `1 − X/c` over the members' points `c`.
+    pub fn delta(self, points: &[u16], t: usize) -> Vec<u16> {
         let mut delta = vec![0; t + 1];
         delta[0] = 1;
-        for &c in members {
+        for &c in points {
             let slope = self.inverse(c);
             for j in (1..=t).rev() {
                 delta[j] = self.sub(delta[j], self.mul(slope, delta[j - 1]));

@@ -33,7 +33,8 @@ pub fn matching(
 /// Steps both runs side by side; each dealing by a non-member is moved by its change times δ.
 fn matched_coins(plan: &Plan, members: &[u16], figures: [&[u16]; 2], mut coins: Vec<u16>) -> Vec<u16> {
     let field = plan.field;
-    let delta = field.delta(members, plan.t);
+    let points: Vec<u16> = members.iter().map(|&seat| plan.point(seat)).collect();
+    let delta = field.delta(&points, plan.t);
     let tables = Tables::new(plan);
     let mut shares: [Vec<Seats>; 2] = Default::default();
     let mut place = 0;

@@ -43,9 +43,12 @@ pub struct Out {
 /// A plan that passes.
 #[derive(Clone, Debug, PartialEq, Eq)]
 pub struct Plan {
+    pub version: u8,
     pub n: u16,
     pub t: usize,
     pub field: Field,
+    /// Each seat's point, seat 1 first.
+    pub points: Vec<u16>,
     pub gates: Vec<Gate>,
     pub outs: Vec<Out>,
     /// The input gates in gate order: wire and seat.
@@ -79,30 +82,71 @@ fn out(bytes: &[u8], gates: usize, n: u16) -> Option<Out> {
     ((1..=n).contains(&out.seat) && out.wire < gates).then_some(out)
 }
 
-/// The plan check, refusals 1 to 8 and 25; it hands every gate and out it has read to `take`.
-fn check(bytes: &[u8], mut take: impl FnMut(Result<Gate, Out>)) -> Result<(u16, usize, Field), Refusal> {
+/// Where the bodies of a version's plan begin.
+pub fn head(version: u8) -> usize {
+    if version == 1 {
+        18
+    } else {
+        20
+    }
+}
+
+/// Where the gates, the outs and the points begin: refusal 6 unless all of it follows the version's layout.
+fn layout(bytes: &[u8]) -> Result<[usize; 3], Refusal> {
+    let (version, n) = (bytes[4], usize::from(bytes[5]));
+    let head = head(version);
+    require(bytes.len() >= head, 6, 0)?;
+    let [first_gate, gates, first_out, outs] = [10, 12, 14, 16].map(|i| usize::from(number(bytes, i)));
+    let first_point = first_out + 3 * outs;
+    require((1..=1024).contains(&gates) && (1..=64).contains(&outs), 6, 0)?;
+    require(bytes[7] == 0 && first_gate == head && first_out == head + 6 * gates, 6, 0)?;
+    require(version == 1 || usize::from(number(bytes, 18)) == first_point, 6, 0)?;
+    require(bytes.len() == first_point + if version == 1 { 0 } else { 2 * n }, 6, 0)?;
+    Ok([first_gate, first_out, first_point])
+}
+
+/// The seats' points, unless one is 0, isn't below p or equals an earlier one.
+fn points(bytes: &[u8], n: u16, p: u16) -> Option<Vec<u16>> {
+    if bytes.is_empty() {
+        return Some((1..=n).collect());
+    }
+    let mut points = Vec::with_capacity(15);
+    for two in bytes.chunks_exact(2) {
+        let point = number(two, 0);
+        if point == 0 || point >= p || points.contains(&point) {
+            return None;
+        }
+        points.push(point);
+    }
+    Some(points)
+}
+
+/// A plan's n, t, field and points.
+type Sizes = (u16, usize, Field, Vec<u16>);
+
+/// The plan check, refusals 1 to 8, 25 and 26; it hands every gate and out it has read to `take`.
+fn check(bytes: &[u8], mut take: impl FnMut(Result<Gate, Out>)) -> Result<Sizes, Refusal> {
     require(bytes.len() >= 18 && &bytes[..4] == b"POOL", 1, 0)?;
-    require(bytes[4] == 1, 2, 0)?;
+    require((1..=2).contains(&bytes[4]), 2, 0)?;
     let (n, t) = (u16::from(bytes[5]), usize::from(bytes[6]));
     require((1..=15).contains(&n), 3, 0)?;
     require(t < usize::from(n), 4, 0)?;
     let Some(field) = Field::new(number(bytes, 8)).filter(|field| field.p() > n) else { return refuse(5) };
-    let [first_gate, gates, first_out, outs] = [10, 12, 14, 16].map(|i| usize::from(number(bytes, i)));
-    let in_range = (1..=1024).contains(&gates) && (1..=64).contains(&outs);
-    let in_place = bytes[7] == 0 && first_gate == 18 && first_out == 18 + 6 * gates;
-    require(in_range && in_place && bytes.len() == first_out + 3 * outs, 6, 0)?;
+    let [first_gate, first_out, first_point] = layout(bytes)?;
+    let gates = (first_out - first_gate) / 6;
     let mut multiplies = false;
-    for (g, six) in bytes[18..first_out].chunks_exact(6).enumerate() {
+    for (g, six) in bytes[first_gate..first_out].chunks_exact(6).enumerate() {
         let Some(gate) = gate(six, g, n, field.p()) else { return Err(Refusal { number: 7, place: g }) };
         multiplies |= matches!(gate, Gate::Multiply(..));
         take(Ok(gate));
     }
-    for (o, three) in bytes[first_out..].chunks_exact(3).enumerate() {
+    for (o, three) in bytes[first_out..first_point].chunks_exact(3).enumerate() {
         let Some(out) = out(three, gates, n) else { return Err(Refusal { number: 8, place: o }) };
         take(Err(out));
     }
     require(!multiplies || 2 * t < usize::from(n), 25, 0)?;
-    Ok((n, t, field))
+    let Some(points) = points(&bytes[first_point..], n, field.p()) else { return refuse(26) };
+    Ok((n, t, field, points))
 }
 
 /// Whether a plan passes.
@@ -111,10 +155,10 @@ pub fn plan_check(bytes: &[u8]) -> Result<(), Refusal> {
 }
 
 impl Plan {
-    /// The plan of a file, or its refusal, 1 to 8 or 25.
+    /// The plan of a file, or its refusal, 1 to 8, 25 or 26.
     pub fn read(bytes: &[u8]) -> Result<Plan, Refusal> {
         let (mut gates, mut outs) = (Vec::with_capacity(bytes.len() / 6), Vec::new());
-        let (n, t, field) = check(bytes, |item| match item {
+        let (n, t, field, points) = check(bytes, |item| match item {
             Ok(gate) => gates.push(gate),
             Err(out) => outs.push(out),
         })?;
@@ -126,7 +170,23 @@ impl Plan {
                 _ => {}
             }
         }
-        Ok(Plan { n, t, field, gates, outs, inputs, multiplies })
+        Ok(Plan { version: bytes[4], n, t, field, points, gates, outs, inputs, multiplies })
+    }
+
+    /// The plan's file with these outs instead of its own.
+    pub fn file(&self, outs: &[Out]) -> Vec<u8> {
+        let points = if self.version == 1 { &[][..] } else { &self.points };
+        file((self.n as u8, self.t as u8, self.field.p()), &self.gates, outs, points)
+    }
+
+    /// The seat's point.
+    pub fn point(&self, seat: u16) -> u16 {
+        self.points[usize::from(seat) - 1]
+    }
+
+    /// The weights at 0 by which each seat sums the dealers' pieces.
+    pub fn product_weights(&self) -> Vec<u16> {
+        self.field.weights(&self.points[..usize::from(self.dealers())], 0)
     }
 
     /// The number of seats that deal products: 2t+1, or none where nothing is multiplied.
@@ -281,12 +341,22 @@ pub fn write(list: &[u16], bytes: &mut [u8]) {
     }
 }
 
-/// A plan file, written as it is asked for and not checked.
+/// A plan file of version 1, written as it is asked for and not checked.
 pub fn plan_file(n: u8, t: u8, p: u16, gates: &[Gate], outs: &[Out]) -> Vec<u8> {
-    let first_out = 18 + 6 * gates.len();
+    file((n, t, p), gates, outs, &[])
+}
+
+/// A plan file, written as it is asked for and not checked: of version 2 if there are points, else of version 1.
+pub fn file((n, t, p): (u8, u8, u16), gates: &[Gate], outs: &[Out], points: &[u16]) -> Vec<u8> {
+    let version = if points.is_empty() { 1 } else { 2 };
+    let first_gate = head(version);
+    let first_out = first_gate + 6 * gates.len();
     let mut file = b"POOL".to_vec();
-    file.extend([1, n, t, 0]);
-    file.extend(bytes(&[p, 18, gates.len() as u16, first_out as u16, outs.len() as u16]));
+    file.extend([version, n, t, 0]);
+    file.extend(bytes(&[p, first_gate as u16, gates.len() as u16, first_out as u16, outs.len() as u16]));
+    if version == 2 {
+        file.extend(bytes(&[(first_out + 3 * outs.len()) as u16]));
+    }
     for gate in gates {
         let (kind, a, b) = match *gate {
             Gate::Input(seat) => (1, seat, 0),
@@ -301,5 +371,6 @@ pub fn plan_file(n: u8, t: u8, p: u16, gates: &[Gate], outs: &[Out]) -> Vec<u8> 
         file.push(out.seat as u8);
         file.extend(bytes(&[out.wire as u16]));
     }
+    file.extend(bytes(points));
     file
 }

@@ -1,6 +1,6 @@
 //! Random plans, figures and coins from a fixed seed.
 
-use crate::plan::{plan_file, Gate, Out};
+use crate::plan::{file, number, plan_file, Gate, Out, Plan};
 
 /// A small generator (splitmix64).
 pub struct Random(pub u64);
@@ -152,6 +152,36 @@ fn with_gates(random: &mut Random, (n, t, p): (u16, usize, u16), count: usize, m
     let count = if random.once_in(12) { 64 } else { random.range(1, 6) };
     let outs = outs(random, n, gates.len(), count);
     plan_file(n as u8, t as u8, p, &gates, &outs)
+}
+
+/// Distinct points below p, not 0, of n seats: often 1 to n, in order or not.
+pub fn points(random: &mut Random, n: u16, p: u16) -> Vec<u16> {
+    let seats = usize::from(n);
+    let mut points: Vec<u16> = Vec::with_capacity(seats);
+    let most = if random.once_in(4) { n + 1 } else { p };
+    while points.len() < seats {
+        let point = random.element(most);
+        if point != 0 && !points.contains(&point) {
+            points.push(point);
+        }
+    }
+    if random.once_in(5) {
+        points = (1..=n).collect();
+    }
+    points
+}
+
+/// The plan of a version 1 file in version 2, with these points.
+pub fn with_points(plan: &[u8], points: &[u16]) -> Vec<u8> {
+    let plan = Plan::read(plan).expect("a plan that passes");
+    file((plan.n as u8, plan.t as u8, plan.field.p()), &plan.gates, &plan.outs, points)
+}
+
+/// A random plan file of version 2 of at most `most` gates that passes.
+pub fn pointed_plan(random: &mut Random, most: usize) -> Vec<u8> {
+    let file = if random.once_in(4) { wide_plan(random, most) } else { plan(random, most) };
+    let points = points(random, u16::from(file[5]), number(&file, 8));
+    with_points(&file, &points)
 }
 
 /// A set of at most `t` of the `n` seats.

@@ -115,8 +115,8 @@ pub struct Tables {
 impl Tables {
     pub fn new(plan: &Plan) -> Tables {
         Tables {
-            powers: (1..=plan.n).map(|seat| plan.field.powers(seat, plan.t)).collect(),
-            weights: plan.field.weights(plan.dealers(), 0),
+            powers: plan.points.iter().map(|&point| plan.field.powers(point, plan.t)).collect(),
+            weights: plan.product_weights(),
         }
     }
 
@@ -195,7 +195,7 @@ pub fn bench(file: &[u8], set: u16, figures: &[u8], coins: &[u8], view: &mut [u8
         }
     });
     let coin_seats = if members.is_empty() { Vec::new() } else { plan.coin_seats() };
-    let weights = plan.field.weights(plan.t as u16 + 1, 0);
+    let weights = plan.field.weights(&plan.points[..plan.t + 1], 0);
     let mut seen = Vec::with_capacity(view.len() / 2);
     for (&seat, column) in members.iter().zip(&columns) {
         seen.extend(own(&figures, plan.figure_seats(), seat));

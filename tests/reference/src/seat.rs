@@ -47,9 +47,10 @@ pub fn seat_call(
     Ok(())
 }
 
-/// The receiver's piece of a dealing: the value at X = receiver of s + c1·X + .. + ct·X^t.
+/// The receiver's piece of a dealing: the value at its point of s + c1·X + .. + ct·X^t.
 fn piece(plan: &Plan, value: u16, coins: &[u16], receiver: u16) -> u16 {
-    plan.field.add(value, coins.iter().rfold(0, |sum, &c| plan.field.mul(plan.field.add(sum, c), receiver)))
+    let x = plan.point(receiver);
+    plan.field.add(value, coins.iter().rfold(0, |sum, &c| plan.field.mul(plan.field.add(sum, c), x)))
 }
 
 /// The gates at which the seat deals, in order: the i-th takes the i-th t of its coins.
@@ -83,7 +84,7 @@ fn learn(plan: &Plan, call: usize, mail: &[u16], shares: &mut [u16]) {
             shares[wire] = piece;
         }
     } else {
-        shares[plan.multiplies[call - 2].0] = plan.field.dot(0, &plan.field.weights(plan.dealers(), 0), mail);
+        shares[plan.multiplies[call - 2].0] = plan.field.dot(0, &plan.product_weights(), mail);
     }
 }
 
@@ -106,12 +107,14 @@ fn work(plan: &Plan, call: usize, shares: &mut [u16]) {
 fn results(plan: &Plan, seat: u16, mail: &[u16]) -> Result<Vec<u16>, Refusal> {
     let own = plan.outs_of(seat).count();
     let basis = plan.t + 1;
-    let weights: Vec<Vec<u16>> = (0..=plan.n).map(|x| plan.field.weights(basis as u16, x)).collect();
+    // at 0, then at each seat's point
+    let places = std::iter::once(&0).chain(&plan.points);
+    let weights: Vec<Vec<u16>> = places.map(|&x| plan.field.weights(&plan.points[..basis], x)).collect();
     let mut results = Vec::with_capacity(own);
     for out in 0..own {
         let shares: Vec<u16> = mail.iter().copied().skip(out).step_by(own).collect();
-        let at = |x: usize| plan.field.dot(0, &weights[x], &shares[..basis]);
-        if let Some(off) = (1..=usize::from(plan.n)).find(|&x| at(x) != shares[x - 1]) {
+        let at = |seat: usize| plan.field.dot(0, &weights[seat], &shares[..basis]);
+        if let Some(off) = (1..=usize::from(plan.n)).find(|&seat| at(seat) != shares[seat - 1]) {
             return Err(Refusal { number: 20, place: off });
         }
         results.push(at(0));

@@ -47,11 +47,11 @@ fn p1_shares_of_the_inputs() {
 #[test]
 fn p2_weights_and_products() {
     let field = Field::new(11).unwrap();
-    assert_eq!(field.weights(3, 0), [3, 8, 1]);
+    assert_eq!(field.weights(&[1, 2, 3], 0), [3, 8, 1]);
     let shares = k_shares();
     let products: Vec<u16> = (0..3).map(|i| field.mul(shares[0][i], shares[1][i])).collect();
     assert_eq!(products, [4, 0, 8]);
-    assert_eq!(field.dot(0, &field.weights(3, 0), &products), 9);
+    assert_eq!(field.dot(0, &field.weights(&[1, 2, 3], 0), &products), 9);
 }
 
 #[test]

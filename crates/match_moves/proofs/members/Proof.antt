@@ -4,13 +4,16 @@ use Rattle.match_moves.proofs.members.Statement.{statement}
 use Rattle.match_moves.proofs.members.Tie as tie
 
 abbrev Inv-loop : tie.InvT-loop
-Inv-loop set room₀ k₀ i₀ room k i = Gathered set room k i
+Inv-loop set points room₀ k₀ i₀ room k i = Gathered points set room k i
 
 abbrev μ-loop : tie.MeasureT-loop
-μ-loop set room₀ k₀ i₀ room k i = 17 - i
+μ-loop set points room₀ k₀ i₀ room k i = 17 - i
 
 loop-holds : tie.Need-loop-holds Inv-loop μ-loop
 loop-holds c = search gathering
+
+point-requires : tie.Need-point-requires Inv-loop μ-loop
+point-requires c κs = search gathering
 
 mul-room : tie.Need-mul-room Inv-loop μ-loop
 mul-room c = search gathering
@@ -49,6 +52,7 @@ members-spec =
     Inv-loop
     μ-loop
     loop-holds
+    point-requires
     mul-room
     slice-write-room
     is-member-requires

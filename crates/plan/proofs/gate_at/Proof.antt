@@ -5,6 +5,9 @@ use Rattle.plan.proofs.gate_at.Tie as tie
 returns : tie.Need-returns
 returns c = search reading
 
+head-requires : tie.Need-head-requires
+head-requires c κs = search reading
+
 mul-at : tie.Need-mul-at
 mul-at c = search reading
 
@@ -43,6 +46,7 @@ gate-at-spec =
     tie.close
     (tie.spec
     returns
+    head-requires
     mul-at
     add-at
     byte-requires

@@ -2,6 +2,9 @@ use Rattle.plan.proofs.Gates.{reading}
 use Rattle.plan.proofs.gate_in.Statement.{statement}
 use Rattle.plan.proofs.gate_in.Tie as tie
 
+head-requires : tie.Need-head-requires
+head-requires c κs = search reading
+
 mul-at : tie.Need-mul-at
 mul-at c = search reading
 
@@ -45,6 +48,7 @@ pub gate-in-spec : {M : Type 1} → statement M
 gate-in-spec =
     tie.close
     (tie.spec
+    head-requires
     mul-at
     add-at
     shared-slice-read-wide

@@ -5,6 +5,9 @@ use Rattle.plan.proofs.out_at.Tie as tie
 returns : tie.Need-returns
 returns c = search reading
 
+head-requires : tie.Need-head-requires
+head-requires c κs = search reading
+
 word-requires : tie.Need-word-requires
 word-requires c κs = search reading
 
@@ -37,6 +40,7 @@ out-at-spec =
     tie.close
     (tie.spec
     returns
+    head-requires
     word-requires
     mul-at
     add-at

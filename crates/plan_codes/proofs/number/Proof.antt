@@ -84,6 +84,9 @@ enum-told-26 c = search coding
 enum-told-27 : tie.Need-enum-told-27
 enum-told-27 c = search coding
 
+enum-told-28 : tie.Need-enum-told-28
+enum-told-28 c = search coding
+
 returns : tie.Need-returns
 unfolding numberOf
 returns c = search coding
@@ -192,6 +195,10 @@ returns-27 : tie.Need-returns-27
 unfolding numberOf
 returns-27 c = search coding
 
+returns-28 : tie.Need-returns-28
+unfolding numberOf
+returns-28 c = search coding
+
 pub number-spec : {M : Type 1} → statement M
 number-spec =
     tie.close
@@ -223,6 +230,7 @@ number-spec =
     enum-told-25
     enum-told-26
     enum-told-27
+    enum-told-28
     returns
     returns-2
     returns-3
@@ -249,4 +257,5 @@ number-spec =
     returns-24
     returns-25
     returns-26
-    returns-27)
+    returns-27
+    returns-28)

@@ -2,6 +2,9 @@ use Rattle.plan_counts.proofs.Steps.{stepping}
 use Rattle.plan_counts.proofs.rounds_at.Statement.{statement}
 use Rattle.plan_counts.proofs.rounds_at.Tie as tie
 
+head-requires : tie.Need-head-requires
+head-requires c κs = search stepping
+
 mul-byte : tie.Need-mul-byte
 mul-byte c = search stepping
 
@@ -15,4 +18,4 @@ returns : tie.Need-returns
 returns c = search stepping
 
 pub rounds-at-spec : {M : Type 1} → statement M
-rounds-at-spec = tie.close (tie.spec mul-byte add-byte byte-requires returns)
+rounds-at-spec = tie.close (tie.spec head-requires mul-byte add-byte byte-requires returns)

@@ -1,5 +1,5 @@
-use Rattle.plan.proofs.Planned.{laid-gates}
 use Rattle.plan.proofs.Ways.{body}
+use Rattle.plan.proofs.Planned.{laid-gates}
 use Rattle.plan_reading.proofs.check_body.Statement.{statement}
 use Rattle.plan_reading.proofs.check_body.Tie as tie
 
@@ -33,8 +33,8 @@ returns-3 c = search body
 enum-told-2 : tie.Need-enum-told-2
 enum-told-2 c = search body
 
-check-majority-requires : tie.Need-check-majority-requires
-check-majority-requires c κs = search body
+check-last-requires : tie.Need-check-last-requires
+check-last-requires c κs = search body
 
 returns-4 : tie.Need-returns-4
 returns-4 c = search body
@@ -53,5 +53,5 @@ check-body-spec =
     enum-known-o
     returns-3
     enum-told-2
-    check-majority-requires
+    check-last-requires
     returns-4)

@@ -11,6 +11,9 @@ returns c = search contents
 byte-requires : tie.Need-byte-requires
 byte-requires c κs = search contents
 
+is-between-requires : tie.Need-is-between-requires
+is-between-requires c κs = search contents
+
 returns-2 : tie.Need-returns-2
 returns-2 c = search contents
 
@@ -42,6 +45,7 @@ check-contents-spec =
     begins-requires
     returns
     byte-requires
+    is-between-requires
     returns-2
     byte-requires-2
     parties-ok-requires

@@ -8,6 +8,9 @@ byte-requires c κs = search laying
 returns : tie.Need-returns
 returns c = search laying
 
+head-requires : tie.Need-head-requires
+head-requires c κs = search laying
+
 word-requires : tie.Need-word-requires
 word-requires c κs = search laying
 
@@ -23,6 +26,12 @@ is-between-requires c κs = search laying
 returns-3 : tie.Need-returns-3
 returns-3 c = search laying
 
+mul-outs-placed : tie.Need-mul-outs-placed
+mul-outs-placed c = search laying
+
+add-outs-placed : tie.Need-add-outs-placed
+add-outs-placed c = search laying
+
 outs-placed-requires : tie.Need-outs-placed-requires
 outs-placed-requires c κs = search laying
 
@@ -35,10 +44,13 @@ layout-ok-spec =
     (tie.spec
     byte-requires
     returns
+    head-requires
     word-requires
     returns-2
     word-requires-2
     is-between-requires
     returns-3
+    mul-outs-placed
+    add-outs-placed
     outs-placed-requires
     returns-4)

@@ -2,6 +2,9 @@ use Rattle.run_views.proofs.ViewLaws.{sorting}
 use Rattle.run_views.proofs.is_input_at.Statement.{statement}
 use Rattle.run_views.proofs.is_input_at.Tie as tie
 
+head-requires : tie.Need-head-requires
+head-requires c κs = search sorting
+
 mul-at : tie.Need-mul-at
 mul-at c = search sorting
 
@@ -27,6 +30,7 @@ pub is-input-at-spec : {M : Type 1} → statement M
 is-input-at-spec =
     tie.close
     (tie.spec
+    head-requires
     mul-at
     add-at
     shared-slice-read-if1

@@ -7,7 +7,7 @@
 use reference::field::Field;
 use reference::formulas::{self, Formula};
 use reference::library::{Interface, LIBRARY, LINKED, REFERENCE};
-use reference::plan::{bytes, number, plan_file, Gate, Out, Plan};
+use reference::plan::{bytes, head, number, plan_file, Gate, Out, Plan};
 use reference::program::program;
 use reference::random::{self, Random};
 use reference::run::{ideal, run_by_calls, Step};
@@ -57,7 +57,7 @@ const SHEET: usize = 8;
 const CHARGE: usize = 10;
 
 /// How often a call must meet a refusal: kind of call, refusal, times.
-const MET: [(usize, usize, usize); 12] = [
+const MET: [(usize, usize, usize); 13] = [
     (IMPORT, 23, 500),
     (IMPORT, 24, 500),
     (SHEET, 27, 500),
@@ -70,16 +70,20 @@ const MET: [(usize, usize, usize); 12] = [
     (IMPORT, 25, 200),
     (SHEET, 25, 200),
     (CHARGE, 25, 50),
+    (CHARGE, 26, 50),
 ];
 
 /// How often all calls together must meet a refusal.
-const MET_BY_ALL: [(usize, usize); 2] = [(4, 200), (25, 200)];
+const MET_BY_ALL: [(usize, usize); 3] = [(4, 200), (25, 200), (26, 200)];
 
 /// The refusals that cases are damaged for, in checking order.
 const ORDER: [u8; 21] = [1, 2, 3, 4, 5, 6, 7, 8, 9, 10, 11, 12, 13, 14, 15, 16, 17, 18, 19, 20, 21];
 
 /// The same with 25.
 const WIDE_ORDER: [u8; 22] = [1, 2, 3, 4, 5, 6, 7, 8, 25, 9, 10, 11, 12, 13, 14, 15, 16, 17, 18, 19, 20, 21];
+
+/// The same with 25 and 26.
+const POINTED_ORDER: [u8; 23] = [1, 2, 3, 4, 5, 6, 7, 8, 25, 26, 9, 10, 11, 12, 13, 14, 15, 16, 17, 18, 19, 20, 21];
 
 /// How many of them are a plan's.
 fn of_plans(order: &[u8]) -> usize {
@@ -120,13 +124,15 @@ impl Case {
     }
 
     fn plan(&mut self) -> &mut Vec<u8> {
+        self.lent_plan().expect("a text is no plan")
+    }
+
+    fn lent_plan(&mut self) -> Option<&mut Vec<u8>> {
         match self {
-            Case::Check { plan } | Case::Call { plan, .. } | Case::Bench { plan, .. } => plan,
-            Case::Match { plan, .. } | Case::SeatSize { plan, .. } | Case::RunSize { plan, .. } => plan,
-            Case::Charge { plan, .. } => plan,
-            Case::Import { .. } | Case::ImportSize { .. } | Case::Sheet { .. } | Case::SheetSize { .. } => {
-                unreachable!("a text is no plan")
-            }
+            Case::Check { plan } | Case::Call { plan, .. } | Case::Bench { plan, .. } => Some(plan),
+            Case::Match { plan, .. } | Case::SeatSize { plan, .. } | Case::RunSize { plan, .. } => Some(plan),
+            Case::Charge { plan, .. } => Some(plan),
+            Case::Import { .. } | Case::ImportSize { .. } | Case::Sheet { .. } | Case::SheetSize { .. } => None,
         }
     }
 
@@ -234,6 +240,8 @@ struct Tally {
     met: [[usize; NUMBERS]; KINDS],
     /// Matchings that changed a coin.
     moved: usize,
+    /// Plans of version 2 that were refused 6.
+    second_layout: usize,
     /// Runs of a sheet's plan whose result was compared with the formula's value.
     values: usize,
     passed: usize,
@@ -244,10 +252,11 @@ impl Tally {
     /// Compares one case; `expected` is the refusal the case was damaged for.
     fn compare(&mut self, case: &Case, expected: Option<u8>) {
         let reference = case.make(&REFERENCE);
-        let lent = case.clone();
+        let mut lent = case.clone();
         let library = lent.make(&LIBRARY);
         let refusal = (reference.0 & 255) as usize;
         self.met[case.kind()][refusal] += 1;
+        self.second_layout += usize::from(refusal == 6 && lent.lent_plan().is_some_and(|plan| plan[4] == 2));
         if let Case::Match { coins, .. } = case {
             self.moved += usize::from(refusal == 0 && reference.1[0] != Lent::new(coins).0);
         }
@@ -352,7 +361,7 @@ impl World {
             }
         }
         Case::Match {
-            plan: plan_file(plan.n as u8, plan.t as u8, p, &plan.gates, &outs),
+            plan: plan.file(&outs),
             set,
             first: bytes(&self.figures),
             second: bytes(&second),
@@ -400,14 +409,15 @@ fn put(list: &mut [u8], i: usize, x: u16) {
     list[i..i + 2].copy_from_slice(&x.to_le_bytes());
 }
 
-/// Damages a plan file so that it gets the refusal, 1 to 8 or 25, if no earlier one; false if that can't be done to it.
+/// Damages a plan file so that it gets the refusal, 1 to 8, 25 or 26, if no earlier one; false if that can't be done to it.
 fn damage_plan(random: &mut Random, file: &mut Vec<u8>, plan: &Plan, refusal: u8) -> bool {
     let (n, p, gates, outs) = (plan.n, plan.field.p(), plan.gates.len(), plan.outs.len());
-    let end = 18 + 6 * gates;
+    let start = head(plan.version);
+    let end = start + 6 * gates;
     match refusal {
         1 if random.once_in(2) => file.truncate(random.below(18)),
         1 => file[random.below(4)] ^= 1 << random.below(8),
-        2 => file[4] = random.pick(&[0, 2, 3, 129, 255]),
+        2 => file[4] = random.pick(&[0, 5, 3, 129, 255]),
         3 => file[5] = random.pick(&[0, 16, 17, 128, 255]),
         4 => file[6] = random.pick(&[n as u8 + 1, n as u8, 127, 128, 255]),
         5 => {
@@ -420,9 +430,10 @@ fn damage_plan(random: &mut Random, file: &mut Vec<u8>, plan: &Plan, refusal: u8
             let small = random.below(usize::from(n) + 1) as u16;
             put(file, 8, random.pick(&[0, 1, n, small, 9, 25, 49, 63001, 65025, 65535, composite, composite]));
         }
+        6 if plan.version == 2 && random.once_in(3) => second_layout(random, file, plan),
         6 => match random.below(10) {
             0 => file[7] = random.range(1, 255) as u8,
-            1 => put(file, 10, random.pick(&[0, 17, 19, 18 + 256, 65535])),
+            1 => put(file, 10, random.pick(&[0, start as u16 - 1, start as u16 + 1, start as u16 + 256, 65535])),
             2 => put(file, 12, random.pick(&[0, 1025, gates as u16 + 1, gates as u16 - 1, 65535])),
             3 => put(file, 14, random.pick(&[0, 18, end as u16 + 1, end as u16 - 1, end as u16 - 6])),
             4 => put(file, 16, random.pick(&[0, 65, outs as u16 + 1, outs as u16 - 1, 65535])),
@@ -433,18 +444,21 @@ fn damage_plan(random: &mut Random, file: &mut Vec<u8>, plan: &Plan, refusal: u8
             7 => file.extend(vec![0; random.range(1, 7)]),
             8 => {
                 put(file, 12, 0);
-                put(file, 14, 18);
-                file.drain(18..end);
+                put(file, 14, start as u16);
+                move_points(file, plan, start + 3 * outs);
+                file.drain(start..end);
             }
             _ => {
                 let outs = random.pick(&[0, 65]);
                 put(file, 16, outs);
-                file.resize(end + 3 * usize::from(outs), 1);
+                let first_point = end + 3 * usize::from(outs);
+                move_points(file, plan, first_point);
+                file.resize(first_point + if plan.version == 1 { 0 } else { 2 * usize::from(n) }, 1);
             }
         },
         7 => {
             let g = random.below(gates);
-            let gate = &mut file[18 + 6 * g..24 + 6 * g];
+            let gate = &mut file[start + 6 * g..][..6];
             let high = 0x8000 | random.below(g + 1) as u16;
             let wire = random.pick(&[g as u16, g as u16 + 1, gates as u16, high, u16::MAX]);
             let constant = random.pick(&[p, p + 1, u16::MAX]);
@@ -468,8 +482,58 @@ fn damage_plan(random: &mut Random, file: &mut Vec<u8>, plan: &Plan, refusal: u8
             }
         }
         25 => return too_few_seats(random, file, plan),
-        _ => unreachable!("a plan is refused by 1 to 8 or 25"),
+        26 => return wrong_point(random, file, plan),
+        _ => unreachable!("a plan is refused by 1 to 8, 25 or 26"),
     }
+    true
+}
+
+/// Writes the points' offset, where the version has one.
+fn move_points(file: &mut [u8], plan: &Plan, offset: usize) {
+    if plan.version == 2 {
+        put(file, 18, offset as u16);
+    }
+}
+
+/// Breaks what only version 2's layout has.
+fn second_layout(random: &mut Random, file: &mut Vec<u8>, plan: &Plan) {
+    let first = file.len() - 2 * usize::from(plan.n);
+    let offset = first as u16;
+    match random.below(6) {
+        0 => put(file, 18, random.pick(&[0, 18, 20, offset - 2, offset - 1, offset + 1, offset + 2, u16::MAX])),
+        1 => file.truncate(random.pick(&[18, 19, 20])),
+        2 => file[4] = 1,
+        3 => file.truncate(random.range(first, file.len() - 1)),
+        4 => file.extend([1, 0]),
+        _ => {
+            // version 1's places
+            for (i, before) in [(10, 20), (14, end_of_gates(plan)), (18, first)] {
+                put(file, i, before as u16 - 2);
+            }
+        }
+    }
+}
+
+fn end_of_gates(plan: &Plan) -> usize {
+    head(plan.version) + 6 * plan.gates.len()
+}
+
+/// A point that is 0, isn't below p or equals an earlier one; false in version 1.
+fn wrong_point(random: &mut Random, file: &mut [u8], plan: &Plan) -> bool {
+    let seats = usize::from(plan.n);
+    if plan.version == 1 {
+        return false;
+    }
+    let (first, seat) = (file.len() - 2 * seats, random.below(seats));
+    let any = random.range(usize::from(plan.field.p()), 65535) as u16;
+    let other = random.below(seats);
+    let point = match random.below(4) {
+        0 => 0,
+        1 => random.pick(&[plan.field.p(), any, u16::MAX]),
+        _ if other != seat => plan.points[other],
+        _ => 0,
+    };
+    put(file, first + 2 * seat, point);
     true
 }
 
@@ -482,7 +546,7 @@ fn too_few_seats(random: &mut Random, file: &mut [u8], plan: &Plan) -> bool {
         if adds.is_empty() {
             return false;
         }
-        file[18 + 6 * random.pick(&adds)] = 5;
+        file[head(plan.version) + 6 * random.pick(&adds)] = 5;
     }
     if 2 * plan.t < seats && seats > 1 {
         file[6] = random.range(seats.div_ceil(2), seats - 1) as u8;
@@ -1197,6 +1261,59 @@ fn wide_plans(random: &mut Random, tally: &mut Tally) {
     }
 }
 
+/// Plans of version 2: random ones, those at the ends, and points that are 1 to n.
+fn pointed_plans(random: &mut Random, tally: &mut Tally) {
+    let mut files = Vec::new();
+    for file in extremes(random).into_iter().chain(wide_extremes(random)) {
+        let points = random::points(random, u16::from(file[5]), number(&file, 8));
+        files.push((random::with_points(&file, &points), 8));
+    }
+    files.extend([2, 5, 8, 12, 20, 30].repeat(60).into_iter().map(|most| (random::pointed_plan(random, most), 8)));
+    for (file, often) in files {
+        let world = World::new(random, file, &POINTED_ORDER);
+        plans(random, tally, &world);
+        points(random, tally, &world);
+        calls(random, tally, &world, often);
+        runs(random, tally, &world, 2);
+        charges(random, tally, &world);
+    }
+}
+
+/// Checks of a version 2 plan: each way to break its layout or points, its version 1 twin, and any other points.
+fn points(random: &mut Random, tally: &mut Tally, world: &World) {
+    let plan = &world.plan;
+    for _ in 0..4 {
+        for refusal in [6, 26] {
+            let mut file = world.file.clone();
+            if refusal == 6 {
+                second_layout(random, &mut file, plan);
+            } else {
+                wrong_point(random, &mut file, plan);
+            }
+            tally.compare(&Case::Check { plan: file }, Some(refusal));
+        }
+        let mut file = world.file.clone();
+        let first = file.len() - 2 * usize::from(plan.n);
+        for _ in 0..random.range(1, 3) {
+            let at = random.range(first, file.len() - 1);
+            file[at] = if random.once_in(3) { random.pick(&[0, 1, 255]) } else { random.bits() as u8 };
+        }
+        tally.compare(&Case::Check { plan: file }, None);
+    }
+    let mut twin = plan_file(plan.n as u8, plan.t as u8, plan.field.p(), &plan.gates, &plan.outs);
+    tally.compare(&Case::Check { plan: twin.clone() }, Some(0));
+    twin[4] = 2;
+    tally.compare(&Case::Check { plan: twin }, Some(6));
+    // short files: n, t and p are looked at before the layout
+    for length in [18, 19, 20, 21] {
+        let mut file = world.file[..length].to_vec();
+        tally.compare(&Case::Check { plan: file.clone() }, Some(6));
+        let refusal = random.range(3, 5) as u8;
+        damage_plan(random, &mut file, plan, refusal);
+        tally.compare(&Case::Check { plan: file }, Some(refusal));
+    }
+}
+
 /// Circuits and sheets for thresholds of at least half the seats: refused 25 where they multiply.
 fn wide_texts(random: &mut Random, tally: &mut Tally) {
     for round in 0..1500 {
@@ -1267,6 +1384,7 @@ fn main() -> ExitCode {
     }
     wide_plans(&mut Random(20_260_303), &mut tally);
     wide_texts(&mut Random(20_260_304), &mut tally);
+    pointed_plans(&mut Random(20_260_404), &mut tally);
 
     println!("library: {}", if LINKED { "libpool.a" } else { "none linked, the reference stands in" });
     println!("refusal  {}    all", NAMES.map(|name| format!("{name:>10}")).join(" "));
@@ -1285,6 +1403,7 @@ fn main() -> ExitCode {
         println!("{refusal:>7}  {} {all:>6}{}", row.join(" "), if few { "  TOO FEW" } else { "" });
     }
     println!("{} of the matchings changed a coin", tally.moved);
+    println!("{} plans of version 2 refused 6", tally.second_layout);
     let [texts, sheets] = [IMPORT, SHEET].map(|kind| tally.met[kind].iter().sum::<usize>());
     println!("{texts} texts imported or refused");
     println!("{sheets} sheets compiled or refused; {} runs of their plans compared with the formula", tally.values);
@@ -1292,10 +1411,12 @@ fn main() -> ExitCode {
     println!("{bills} charges");
     let mut cases: usize = tally.met.iter().flatten().sum();
     let path = std::env::var("POOL_PROGRAM").expect("POOL_PROGRAM: the path of the bench program");
-    let mut wide = Random(20_260_305);
-    for (random, times, plan) in
-        [(&mut random, 300, random::plan as fn(&mut Random, usize) -> Vec<u8>), (&mut wide, 100, random::wide_plan)]
-    {
+    let (mut wide, mut pointed) = (Random(20_260_305), Random(20_260_405));
+    for (random, times, plan) in [
+        (&mut random, 300, random::plan as fn(&mut Random, usize) -> Vec<u8>),
+        (&mut wide, 100, random::wide_plan),
+        (&mut pointed, 150, random::pointed_plan),
+    ] {
         let (count, differences) = programs(random, &path, times, plan);
         println!("bench program: {count} inputs, {differences} differ");
         cases += count;
@@ -1307,6 +1428,7 @@ fn main() -> ExitCode {
         && tally.differences == 0
         && scarce == 0
         && cases >= 20_000
+        && tally.second_layout >= 200
         && texts.min(sheets) >= 20_000
         && bills >= 5_000
     {
