@@ -82,6 +82,39 @@ static inline void out(uint8_t *plan, unsigned gates, unsigned o, unsigned party
     put(at + 1, wire);
 }
 
+/* The version 1 plan as one of version 2, with these points. */
+static inline size_t second_version(uint8_t *to, const uint8_t *plan, size_t len, const unsigned *points)
+{
+    unsigned n = plan[5];
+    memcpy(to, plan, 18);
+    to[4] = 2;
+    put(to + 10, 20);
+    put(to + 14, get(plan + 14) + 2);
+    put(to + 18, (unsigned)len + 2);
+    memcpy(to + 20, plan + 18, len - 18);
+    for (unsigned i = 0; i < n; i++)
+        put(to + len + 2 + 2 * i, points[i]);
+    return len + 2 + 2 * n;
+}
+
+static inline void first_points(unsigned *points)
+{
+    for (unsigned i = 0; i < 15; i++)
+        points[i] = i + 1;
+}
+
+/* Distinct points from 1 to p - 1. */
+static inline void any_points(unsigned *points, unsigned n, unsigned p)
+{
+    for (unsigned i = 0; i < n;) {
+        unsigned j = 0;
+        points[i] = 1 + below(p - 1);
+        while (j < i && points[j] != points[i])
+            j++;
+        i += j == i;
+    }
+}
+
 /* Plan K: n=3, t=1, p=11; input 1, input 2, multiply 0 1, add 2 0; out to party 3 of wire 3. */
 static inline size_t plan_k(uint8_t *plan)
 {

@@ -14,39 +14,6 @@ static void hold(const char *what, int held)
     expect(what, held ? 0 : 1, 0, 0);
 }
 
-/* The version 1 plan as one of version 2, with these points. */
-static size_t second_version(uint8_t *to, const uint8_t *plan, size_t len, const unsigned *points)
-{
-    unsigned n = plan[5];
-    memcpy(to, plan, 18);
-    to[4] = 2;
-    put(to + 10, 20);
-    put(to + 14, get(plan + 14) + 2);
-    put(to + 18, (unsigned)len + 2);
-    memcpy(to + 20, plan + 18, len - 18);
-    for (unsigned i = 0; i < n; i++)
-        put(to + len + 2 + 2 * i, points[i]);
-    return len + 2 + 2 * n;
-}
-
-static void first_points(unsigned *points)
-{
-    for (unsigned i = 0; i < 15; i++)
-        points[i] = i + 1;
-}
-
-/* Distinct points from 1 to p - 1. */
-static void any_points(unsigned *points, unsigned n, unsigned p)
-{
-    for (unsigned i = 0; i < n;) {
-        unsigned j = 0;
-        points[i] = 1 + below(p - 1);
-        while (j < i && points[j] != points[i])
-            j++;
-        i += j == i;
-    }
-}
-
 static void any_plan(struct run *r)
 {
     static const unsigned primes[] = {17, 19, 101, 251, 257, 4099, 65521};

@@ -18,7 +18,7 @@ use Rattle.seat_messages.specs.Messages.{setAll, fromEach, wiresByParty, opened
 use Rattle.run_protocol.specs.Rounds.{fresh, noCall, callOf, mailTo, nextCall, nextRound, after, atEnd, results, mails, viewOf, view, triplesFrom, sentIn, sentBefore, sentAll, viewCountOf, viewCount}
 use Rattle.run_protocol.specs.Ideal.{inputsTaken, gateValue, valuesFrom, values, granted}
 use Rattle.run_protocol.specs.Shares.{wireAt, productOf, zeroPieces, maskedAt, multiplyDealt, dealtAt, sharings, piecesAt, truncatedAt, multiplyShare, differenceAt, differenceOf, gateShare, triplesTaken, past, pastAll, startOf, shareTable}
-use Rattle.run_orders.specs.Orders.{nobodyCalled, madeBy, mailSoFar, ready, called, calledIn, allReady, reached}
+use Rattle.run_orders.specs.Orders.{nobodyCalled, madeBy, latest, mailSoFar, ready, called, calledIn, allReady, reached}
 use Rattle.run_protocol.proofs.Worked.{planWith, likeK, K, figures, coinsK}
 
 abbrev order : List ℕ
@@ -30,5 +30,5 @@ pub record Sums : Type 0 where
   pub order-reaches : map (λ cs. getD cs 4 noCall) (reached K figures coinsK [] order) ≡ atEnd K figures coinsK []
 
 pub sums : Sums
-unfolding tab firstFrom firstFailing countWhere add mul sub invert inv eval sumOf scale product linear factor weight weights dot interpolate delta deal opened firstOff mixture matched sumAll basis fitted entry row matchedZero partyCount parties pointOf dealerCount dealerPoints kindOf isKind kindCount multiplying operandsOf isInputOf wiresFrom inputWires outWiresOf outWires inputOwnersAt firstDealings multiplyDealings dealingsAt coinOwnersAt inputOwners coinOwners ownOf ownInputs ownCoins inputAt coinsAt tripleNumbers tripleAt ownTriples multiplySteps stepsAt stepsFrom steps stepAt lastCall inputCount ownInputCount coinCount ownCoinCount ownOutCount received sentBy mailCount writtenCount perMultiply sentCount setAll fromEach wiresByParty openedAt spentShare learnt resumeAt workGate workFrom learnFrom spendFrom learn spend dealTo nothing productAt sendAt callWith call fresh noCall callOf mailTo nextCall nextRound after atEnd results mails viewOf view triplesFrom sentIn sentBefore sentAll total viewCountOf viewCount inputsTaken gateValue valuesFrom values granted wireAt productOf zeroPieces maskedAt multiplyDealt dealtAt sharings piecesAt truncatedAt multiplyShare differenceAt differenceOf gateShare triplesTaken past pastAll startOf shareTable nobodyCalled madeBy mailSoFar ready called calledIn allReady reached between planWith likeK K flatMap
+unfolding tab firstFrom firstFailing countWhere add mul sub invert inv eval sumOf scale product linear factor weight weights dot interpolate delta deal opened firstOff mixture matched sumAll basis fitted entry row matchedZero partyCount parties pointOf dealerCount dealerPoints kindOf isKind kindCount multiplying operandsOf isInputOf wiresFrom inputWires outWiresOf outWires inputOwnersAt firstDealings multiplyDealings dealingsAt coinOwnersAt inputOwners coinOwners ownOf ownInputs ownCoins inputAt coinsAt tripleNumbers tripleAt ownTriples multiplySteps stepsAt stepsFrom steps stepAt lastCall inputCount ownInputCount coinCount ownCoinCount ownOutCount received sentBy mailCount writtenCount perMultiply sentCount setAll fromEach wiresByParty openedAt spentShare learnt resumeAt workGate workFrom learnFrom spendFrom learn spend dealTo nothing productAt sendAt callWith call fresh noCall callOf mailTo nextCall nextRound after atEnd results mails viewOf view triplesFrom sentIn sentBefore sentAll total viewCountOf viewCount inputsTaken gateValue valuesFrom values granted wireAt productOf zeroPieces maskedAt multiplyDealt dealtAt sharings piecesAt truncatedAt multiplyShare differenceAt differenceOf gateShare triplesTaken past pastAll startOf shareTable nobodyCalled madeBy latest mailSoFar ready called calledIn allReady reached between planWith likeK K flatMap
 sums = record { order-ready = refl; too-early = refl; order-reaches = refl }

@@ -8,7 +8,7 @@ use lib.ListN.{length, getD, set}
 use Rattle.plan.specs.File.{between}
 use Rattle.plan.specs.Plans.{Plan, partyCount, parties, lastCall, mailCount}
 use Rattle.seat_messages.specs.Messages.{Called}
-use Rattle.run_protocol.specs.Rounds.{fresh, noCall, callOf, nextCall, after}
+use Rattle.run_protocol.specs.Rounds.{fresh, noCall, callOf, mailTo, nextCall, after}
 
 -- what each party's calls so far have left, the latest last; the first entry is what it holds before call 0
 abbrev pub Progress : Type 0
@@ -20,6 +20,10 @@ nobodyCalled plan ts = map (λ i. fresh plan ts i ∷ []) (parties plan)
 -- the calls that party i has made
 unfoldable pub madeBy : ℕ → Progress → ℕ
 madeBy i progress = length (getD progress (i - 1) []) - 1
+
+-- what its latest call has left
+unfoldable pub latest : ℕ → Progress → Called
+latest i progress = getD (getD progress (i - 1) []) (madeBy i progress) noCall
 
 -- what the calls numbered k - 1 made so far have sent to party i
 unfoldable pub mailSoFar : ℕ → ℕ → Progress → List ℕ
@@ -35,7 +39,7 @@ unfoldable pub called : Plan → List ℕ → List ℕ → ℕ → Progress → 
 called plan xs coins i progress =
     set progress (i - 1)
     (getD progress (i - 1) []
-    ++ (nextCall plan xs coins i (getD (getD progress (i - 1) []) (madeBy i progress) noCall) (mailSoFar i (madeBy i progress) progress) ∷ []))
+    ++ (nextCall plan xs coins i (latest i progress) (mailSoFar i (madeBy i progress) progress) ∷ []))
 
 -- the parties called in this order, and whether each could be
 unfoldable pub calledIn : Plan → List ℕ → List ℕ → List ℕ → Progress → Progress
@@ -53,9 +57,19 @@ pub record AnyOrder (plan : Plan) (xs coins ts order : List ℕ) : Type 0 where
   -- every call leaves what the run's call leaves: the state, the triples, what it sent, the results
   pub same : (i k : ℕ) → 1 ≤ i → i ≤ partyCount plan → k ≤ madeBy i (reached plan xs coins ts order)
       → getD (getD (reached plan xs coins ts order) (i - 1) []) k noCall ≡ callOf i (after plan xs coins ts k)
+  -- and a party that can be called takes the run's mail
+  pub takes :
+      (i : ℕ) → ready plan i (reached plan xs coins ts order) ≡ true
+      → mailSoFar i (madeBy i (reached plan xs coins ts order)) (reached plan xs coins ts order)
+      ≡ mailTo i (after plan xs coins ts (madeBy i (reached plan xs coins ts order)))
   -- every order ends
   pub ends : length order ≤ partyCount plan * suc (lastCall plan)
   -- while a party is unfinished, some party can be called
   pub goes-on :
       (i : ℕ) → 1 ≤ i → i ≤ partyCount plan → madeBy i (reached plan xs coins ts order) ≤ lastCall plan
       → (j : ℕ) × (ready plan j (reached plan xs coins ts order) ≡ true)
+  -- a party is at most one call ahead of another that sends it something in its next call
+  pub near :
+      (i j : ℕ) → 1 ≤ i → i ≤ partyCount plan → 1 ≤ j → j ≤ partyCount plan
+      → 1 ≤ length (getD (callOf j (after plan xs coins ts (suc (madeBy j (reached plan xs coins ts order)))) .sent) (i - 1) [])
+      → madeBy i (reached plan xs coins ts order) ≤ suc (madeBy j (reached plan xs coins ts order))
