@@ -1,25 +1,12 @@
 //! Facts about whole runs, over random plans and over every setting of coins of tiny ones.
 
-use reference::matching::matching;
-use reference::plan::{bytes, plan_file, Gate, List, Out, Plan};
+mod common;
+
+use common::{direct, matched};
+use reference::plan::{plan_file, Gate, Out, Plan};
 use reference::random::{self, Random};
-use reference::run::{bench, ideal, run_by_calls, view};
+use reference::run::{ideal, run_by_calls, view};
 use std::collections::HashSet;
-
-/// The direct bench's view and count of elements sent.
-fn direct(file: &[u8], set: u16, figures: &[u16], coins: &[u16]) -> (Vec<u16>, usize) {
-    let length = Plan::read(file).unwrap().view(set).unwrap();
-    let mut seen = vec![0; 2 * length];
-    let sent = bench(file, set, &bytes(figures), &bytes(coins), &mut seen).unwrap();
-    (List::new(&seen, length, 0).unwrap().to_vec(), sent)
-}
-
-/// The matched run's coins.
-fn matched(file: &[u8], set: u16, first: &[u16], second: &[u16], coins: &[u16]) -> Vec<u16> {
-    let mut given = vec![0; 2 * coins.len()];
-    matching(file, set, &bytes(first), &bytes(second), &bytes(coins), &mut given).unwrap();
-    List::new(&given, coins.len(), 0).unwrap().to_vec()
-}
 
 #[test]
 fn calls_equal_the_direct_bench_and_the_plans_arithmetic() {

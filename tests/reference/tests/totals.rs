@@ -1,11 +1,13 @@
 //! Plans that only add, with a threshold of half the seats or more: the example of source document 001, and its ends.
 
+mod common;
+
+use common::{direct, matched};
 use reference::field::Field;
 use reference::import::import_file;
-use reference::matching::matching;
-use reference::plan::{bytes, plan_check, plan_file, Gate, List, Out, Plan, Refusal};
+use reference::plan::{bytes, plan_check, plan_file, Gate, Out, Plan, Refusal};
 use reference::program::program;
-use reference::run::{bench, run_by_calls, shares};
+use reference::run::{run_by_calls, shares};
 use reference::sheet::sheet_file;
 
 const FIGURES: [u16; 4] = [2, 1, 1, 0];
@@ -19,19 +21,6 @@ fn total(n: u16, t: u8, p: u16) -> Vec<u8> {
     gates.extend((1..seats).map(|seat| Gate::Add(if seat == 1 { 0 } else { seats + seat - 2 }, seat)));
     let outs: Vec<Out> = (1..=n).map(|seat| Out { seat, wire: gates.len() - 1 }).collect();
     plan_file(n as u8, t, p, &gates, &outs)
-}
-
-fn view(file: &[u8], set: u16, figures: &[u16], coins: &[u16]) -> (Vec<u16>, usize) {
-    let length = Plan::read(file).unwrap().view(set).unwrap();
-    let mut seen = vec![0; 2 * length];
-    let sent = bench(file, set, &bytes(figures), &bytes(coins), &mut seen).unwrap();
-    (List::new(&seen, length, 0).unwrap().to_vec(), sent)
-}
-
-fn matched(file: &[u8], set: u16, first: &[u16], second: &[u16], coins: &[u16]) -> Vec<u16> {
-    let mut given = vec![0; 2 * coins.len()];
-    matching(file, set, &bytes(first), &bytes(second), &bytes(coins), &mut given).unwrap();
-    List::new(&given, coins.len(), 0).unwrap().to_vec()
 }
 
 fn refused<T>(number: u8) -> Result<T, Refusal> {
@@ -55,10 +44,10 @@ fn the_example_of_001() {
 fn the_matchings_of_001() {
     let (file, set) = (total(4, 2, 5), 0b1001);
     assert_eq!(Field::new(5).unwrap().delta(&[1, 4], 2), [1, 0, 4]);
-    let seen = view(&file, set, &FIGURES, &COINS);
+    let seen = direct(&file, set, &FIGURES, &COINS);
     for (figures, coins) in [([2, 0, 2, 0], [0, 0, 0, 2, 2, 4, 3, 2]), ([2, 2, 0, 0], [0, 0, 0, 0, 2, 1, 3, 2])] {
         assert_eq!(matched(&file, set, &FIGURES, &figures, &COINS), coins);
-        assert_eq!(view(&file, set, &figures, &coins), seen);
+        assert_eq!(direct(&file, set, &figures, &coins), seen);
     }
 }
 
@@ -92,7 +81,7 @@ fn fourteen_members() {
     let given = matched(&silent, set, &figures, &second, &coins);
     assert_eq!(given[..14 * 14], coins[..14 * 14]);
     assert_ne!(given, coins);
-    assert_eq!(view(&silent, set, &figures, &coins), view(&silent, set, &second, &given));
+    assert_eq!(direct(&silent, set, &figures, &coins), direct(&silent, set, &second, &given));
 }
 
 #[test]
