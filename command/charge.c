@@ -6,22 +6,11 @@
 #include "plan.h"
 #include "pool.h"
 
-/* The bytes of a part, whatever lists have. */
-enum { PART_BYTES = 4 };
-
-static uint64_t part_at(struct bytes parts, unsigned seat)
-{
-    uint64_t cents = 0;
-    for (unsigned i = 0; i < PART_BYTES; i++)
-        cents += (uint64_t)parts.at[PART_BYTES * (seat - 1) + i] << (8 * i);
-    return cents;
-}
-
 static void print_parts(FILE *to, const struct plan *plan, struct bytes parts, uint64_t bill, uint32_t price)
 {
     size_t all = 0;
     for (unsigned seat = 1; seat <= plan->seats; seat++) {
-        uint64_t cents = part_at(parts, seat);
+        uint64_t cents = get_number(parts, seat - 1);
         size_t sent = sent_by(plan, seat);
         fprintf(to, "seat %u pays %" PRIu64 " cent%s for %zu number%s\n", seat, cents, plural(cents), sent, plural(sent));
         all += sent;
@@ -37,7 +26,7 @@ static void charge(char **args)
     read_words(args, "plan", &path, options);
     uint32_t price = number_word("--price", word);
     struct plan plan = open_plan(path);
-    struct bytes parts = fresh_bytes(PART_BYTES * plan.seats);
+    struct bytes parts = fresh_bytes(bytes_of(plan.seats));
     uint64_t bill = value(pool_charge(plan.file.at, plan.file.len, price, parts.at, parts.len));
     struct report r;
     open_report(&r);

@@ -31,9 +31,28 @@ struct bytes copy_of(struct bytes b)
 
 /* ---- numbers in bytes */
 
+uint64_t get_bytes(const uint8_t *at, size_t width)
+{
+    uint64_t x = 0;
+    for (size_t j = width; j-- > 0;)
+        x = x << 8 | at[j];
+    return x;
+}
+
+void put_bytes(uint8_t *at, size_t width, uint64_t x)
+{
+    for (size_t j = 0; j < width; j++)
+        at[j] = (uint8_t)(x >> (8 * j));
+}
+
+size_t bytes_of(size_t numbers)
+{
+    return numbers * POOL_NUMBER_BYTES;
+}
+
 size_t numbers_in(size_t bytes)
 {
-    return bytes / NUMBER_BYTES;
+    return bytes / POOL_NUMBER_BYTES;
 }
 
 size_t count_of(struct bytes list)
@@ -43,16 +62,12 @@ size_t count_of(struct bytes list)
 
 uint64_t get_number(struct bytes list, size_t i)
 {
-    uint64_t x = 0;
-    for (int j = NUMBER_BYTES - 1; j >= 0; j--)
-        x = x << 8 | list.at[i * NUMBER_BYTES + (size_t)j];
-    return x;
+    return get_bytes(list.at + bytes_of(i), POOL_NUMBER_BYTES);
 }
 
 void put_number(struct bytes list, size_t i, uint64_t x)
 {
-    for (size_t j = 0; j < NUMBER_BYTES; j++)
-        list.at[i * NUMBER_BYTES + j] = (uint8_t)(x >> (8 * j));
+    put_bytes(list.at + bytes_of(i), POOL_NUMBER_BYTES, x);
 }
 
 /* ---- numbers in decimal text */
@@ -91,7 +106,7 @@ static uint64_t read_number(struct reader *r)
 
 struct bytes numbers_of(const char *name, struct bytes text)
 {
-    struct bytes list = fresh_bytes((text.len / 2 + 1) * NUMBER_BYTES); /* two numbers have a byte between them */
+    struct bytes list = fresh_bytes(bytes_of(text.len / 2 + 1)); /* two numbers have a byte between them */
     struct reader r = {name, text, 0, 1};
     size_t count = 0;
     skip_blanks(&r);
@@ -105,7 +120,7 @@ struct bytes numbers_of(const char *name, struct bytes text)
                 read_number(&r);
         }
     }
-    list.len = count * NUMBER_BYTES;
+    list.len = bytes_of(count);
     return list;
 }
 
@@ -136,7 +151,7 @@ static uint64_t draw_below(uint64_t p)
 
 struct bytes draw_numbers(size_t count, uint64_t p)
 {
-    struct bytes list = fresh_bytes(count * NUMBER_BYTES);
+    struct bytes list = fresh_bytes(bytes_of(count));
     for (size_t i = 0; i < count; i++)
         put_number(list, i, draw_below(p));
     return list;

@@ -6,11 +6,10 @@
 #include <stddef.h>
 #include <stdint.h>
 
-/* The bytes of a number in a list that the library is lent. No other line of these programs says it. */
-enum { NUMBER_BYTES = 2 };
+#include "pool.h"
 
 /* The largest number that a list can have. */
-#define NUMBER_MOST ((UINT64_C(1) << (8 * NUMBER_BYTES)) - 1)
+#define NUMBER_MOST ((UINT64_C(1) << (8 * POOL_NUMBER_BYTES)) - 1)
 
 struct bytes {
     uint8_t *at; /* never null */
@@ -30,10 +29,15 @@ _Noreturn void fail(enum fault fault, const char *format, ...) __attribute__((fo
 struct bytes fresh_bytes(size_t len);
 struct bytes copy_of(struct bytes b);
 
-/* How many numbers so many bytes have. */
+/* A number that stands in so many bytes, the low byte first, and its bytes set to x: what lists, plan files and messages are read and written by. */
+uint64_t get_bytes(const uint8_t *at, size_t width);
+void put_bytes(uint8_t *at, size_t width, uint64_t x);
+
+/* The bytes of so many numbers of a list, and how many numbers so many bytes have. */
+size_t bytes_of(size_t numbers);
 size_t numbers_in(size_t bytes);
 
-/* A list's numbers: how many, number i, and number i set to x. */
+/* The numbers of a list that the library is lent, each of POOL_NUMBER_BYTES: how many, number i, and number i set to x. */
 size_t count_of(struct bytes list);
 uint64_t get_number(struct bytes list, size_t i);
 void put_number(struct bytes list, size_t i, uint64_t x);

@@ -8,6 +8,8 @@
 #include "pool.h"
 #include "seats.h"
 
+static const char *const titles[] = {"first run", "matched run"};
+
 static struct bytes matched_coins(const struct plan *plan, uint16_t set, struct bytes first, struct bytes second, struct bytes coins)
 {
     struct bytes matched = fresh_bytes(value(pool_run_size(plan->file.at, plan->file.len, set, POOL_RUN_COINS)));
@@ -16,23 +18,46 @@ static struct bytes matched_coins(const struct plan *plan, uint16_t set, struct 
     return matched;
 }
 
-static void print_figures(FILE *to, const struct plan *plan, struct bytes first, struct bytes second)
+/* The width of a column: its numbers or its title. */
+static int column(const struct plan *plan, const char *title)
 {
-    fprintf(to, "figure  given by  first run  matched run\n");
-    for (size_t k = 0; k < plan->figure_count; k++)
-        fprintf(to, "%6zu  seat %-3u  %9" PRIu64 "  %11" PRIu64 "\n", k, plan->figures[k].seat, get_number(first, k),
-                get_number(second, k));
+    int digits = digits_of(plan), letters = (int)strlen(title);
+    return digits < letters ? letters : digits;
 }
 
-static void print_coins(FILE *to, struct bytes coins, struct bytes matched)
+/* The two columns: their titles, and a number of each run. */
+static void put_titles(FILE *to, const struct plan *plan)
+{
+    fprintf(to, "  %*s  %*s\n", column(plan, titles[0]), titles[0], column(plan, titles[1]), titles[1]);
+}
+
+static void put_numbers(FILE *to, const struct plan *plan, uint64_t first, uint64_t second)
+{
+    fprintf(to, "  %*" PRIu64 "  %*" PRIu64, column(plan, titles[0]), first, column(plan, titles[1]), second);
+}
+
+static void print_figures(FILE *to, const struct plan *plan, struct bytes first, struct bytes second)
+{
+    fprintf(to, "figure  given by");
+    put_titles(to, plan);
+    for (size_t k = 0; k < plan->figure_count; k++) {
+        fprintf(to, "%6zu  seat %-3u", k, plan->figures[k].seat);
+        put_numbers(to, plan, get_number(first, k), get_number(second, k));
+        fputc('\n', to);
+    }
+}
+
+static void print_coins(FILE *to, const struct plan *plan, struct bytes coins, struct bytes matched)
 {
     size_t moved = 0;
-    fprintf(to, "\n  coin            first run  matched run\n");
+    fprintf(to, "\n  coin          ");
+    put_titles(to, plan);
     for (size_t i = 0; i < count_of(coins); i++) {
         bool differs = get_number(coins, i) != get_number(matched, i);
         moved += differs;
-        fprintf(to, "%6zu            %9" PRIu64 "  %11" PRIu64 "%s\n", i, get_number(coins, i), get_number(matched, i),
-                differs ? "  moved" : "");
+        fprintf(to, "%6zu          ", i);
+        put_numbers(to, plan, get_number(coins, i), get_number(matched, i));
+        fprintf(to, "%s\n", differs ? "  moved" : "");
     }
     fprintf(to, "%zu of %zu coin%s moved\n", moved, count_of(coins), plural(count_of(coins)));
 }
@@ -58,8 +83,8 @@ static void match(char **args)
     struct report r;
     open_report(&r);
     print_figures(r.to, &plan, first, second);
-    print_coins(r.to, coins, matched);
-    print_views(r.to, &plan, set, views, (const char *const[]){"first run", "matched run"}, 2);
+    print_coins(r.to, &plan, coins, matched);
+    print_views(r.to, &plan, set, views, titles, 2);
     fprintf(r.to, "\nThe two views are %s.\n", same ? "the same" : "NOT the same");
     close_report(&r, NULL);
     if (output) {

@@ -6,7 +6,7 @@
 #include "plan.h"
 #include "pool.h"
 
-/* Where a plan's bytes stand, version by version. */
+/* Where a plan's bytes stand, version by version. These widths are the file's own, whatever a number of a list has. */
 struct layout {
     size_t prime, gates_at, gates, outs_at, outs; /* where these numbers stand */
     size_t points_at;                             /* the same; 0: the points are 1 to n */
@@ -25,12 +25,10 @@ enum { LAYOUTS = sizeof layouts / sizeof *layouts };
 
 /* ---- reading */
 
+/* A number of the plan file. */
 static uint32_t field(const struct plan *plan, size_t at, size_t width)
 {
-    uint32_t x = 0;
-    for (size_t j = width; j-- > 0;)
-        x = x << 8 | plan->file.at[at + j];
-    return x;
+    return (uint32_t)get_bytes(plan->file.at + at, width);
 }
 
 static void *fresh(size_t count, size_t size)
@@ -158,6 +156,11 @@ void close_plan(struct plan *plan)
 }
 
 /* ---- words */
+
+int digits_of(const struct plan *plan)
+{
+    return snprintf(NULL, 0, "%u", plan->prime - 1);
+}
 
 void print_counts(FILE *to, const struct plan *plan)
 {

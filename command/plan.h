@@ -62,6 +62,9 @@ size_t sent_by(const struct plan *plan, unsigned seat);
 /* Of what a seat writes in a call, the part for seat `to`. */
 struct part part_of(const struct plan *plan, unsigned from, unsigned to, unsigned call);
 
+/* The digits of the largest number below the prime: those of a column. */
+int digits_of(const struct plan *plan);
+
 /* A line with a plan's counts. */
 void print_counts(FILE *to, const struct plan *plan);
 

@@ -136,11 +136,6 @@ static void print_round(struct table *t, unsigned round)
     print_line(t, &line);
 }
 
-static int digits_of(uint64_t x)
-{
-    return snprintf(NULL, 0, "%" PRIu64, x);
-}
-
 /* Room for a title that is wider than its view's columns. */
 static int margin_for(int columns, const char *const *titles, size_t count)
 {
@@ -153,7 +148,7 @@ static int margin_for(int columns, const char *const *titles, size_t count)
 
 void print_views(FILE *to, const struct plan *plan, uint16_t set, const struct bytes *views, const char *const *titles, size_t count)
 {
-    int digits = digits_of(plan->prime - 1);
+    int digits = digits_of(plan);
     struct table t = {.to = to, .plan = plan, .views = views, .count = count, .width = (digits < LEAST_WIDTH ? LEAST_WIDTH : digits) + 2};
     t.margin = margin_for((int)plan->seats * t.width, titles, count);
     for (t.seat = 1; t.seat <= plan->seats; t.seat++) {

@@ -174,12 +174,14 @@ static void open_plan_file(struct description *d)
     refuse("%s is not this run's plan: its SHA-256 is\n%s, and the description says\n%s", d->plan_path, is, says);
 }
 
-/* What makes this run this one. Addresses are not among it: a plant may move while a run is under way. */
+/* What makes this run this one. A number's bytes are among it: programs whose lists differ in them cannot read each other's mail or record.
+ * Addresses are not: a plant may move while a run is under way. */
 static void name_run(struct description *d)
 {
+    const uint8_t width = POOL_NUMBER_BYTES;
     EVP_MD_CTX *sum = EVP_MD_CTX_new();
-    bool ok = sum && EVP_DigestInit_ex(sum, EVP_sha256(), NULL) && EVP_DigestUpdate(sum, d->name, strlen(d->name) + 1)
-              && EVP_DigestUpdate(sum, d->plan_digest, DIGEST);
+    bool ok = sum && EVP_DigestInit_ex(sum, EVP_sha256(), NULL) && EVP_DigestUpdate(sum, &width, sizeof width)
+              && EVP_DigestUpdate(sum, d->name, strlen(d->name) + 1) && EVP_DigestUpdate(sum, d->plan_digest, DIGEST);
     for (unsigned seat = 1; seat <= d->seats; seat++)
         ok = ok && EVP_DigestUpdate(sum, d->places[seat].fingerprint, DIGEST);
     if (!ok || !EVP_DigestFinal_ex(sum, d->run, NULL))

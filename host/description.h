@@ -26,7 +26,7 @@ struct description {
     uint8_t plan_digest[DIGEST];
     unsigned seats;
     struct place places[MOST_SEATS + 1]; /* by seat, from 1 on */
-    uint8_t run[DIGEST];                 /* of the name, the plan's digest and all fingerprints: equal for the seats of one run alone */
+    uint8_t run[DIGEST]; /* of the bytes of a number, the name, the plan's digest and all fingerprints: equal for the seats of one run alone */
 };
 
 /* Reads a description and its plan. One that is not understood, or a plan with another SHA-256, ends the program. */

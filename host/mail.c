@@ -11,7 +11,7 @@
 #include <unistd.h>
 
 enum {
-    REQUEST = 1 + DIGEST + TOKEN + 2,
+    REQUEST = 1 + DIGEST + TOKEN + SHORT,
     DIAL_S = 10,         /* for a connection and its handshake */
     IDLE_S = 60,         /* a line on which nothing is asked for so long is closed */
     HOLD_MS = 5000,      /* how long a request waits for mail that is not there yet */
@@ -27,18 +27,6 @@ enum {
 
 static const struct description *run;
 static const uint8_t *own_token;
-
-/* A number of two bytes. */
-static unsigned short_at(const uint8_t *at)
-{
-    return at[0] + 256u * at[1];
-}
-
-static void put_short(uint8_t *at, unsigned x)
-{
-    at[0] = (uint8_t)x;
-    at[1] = (uint8_t)(x >> 8);
-}
 
 /* ---- asking */
 
@@ -95,7 +83,7 @@ bool ask(unsigned of, char letter, unsigned number)
     }
     memcpy(request + 1, run->run, DIGEST);
     memcpy(request + 1 + DIGEST, own_token, TOKEN);
-    put_short(request + REQUEST - 2, number);
+    put_short(request + REQUEST - SHORT, number);
     if (send_message(&p->line, request, sizeof request, ANSWER_S))
         return true;
     stumble(of, p->used);
@@ -120,7 +108,7 @@ static const char *wrong_answer(uint8_t letter)
 {
     switch (letter) {
     case 'R':
-        return "it takes part in another run: its description has another name, plan or fingerprint";
+        return "it takes part in another run: its description has another name, plan or fingerprint, or its program is another version";
     case 'L':
         return "it has mail of this seat from before its record was lost: agree on a run with a new name";
     case 'Y':
@@ -225,7 +213,7 @@ static bool answer_mail(struct line *l, unsigned round)
 
 static bool answer_finished(struct line *l, unsigned seats)
 {
-    uint8_t set[2];
+    uint8_t set[SHORT];
     put_short(set, learn_finished(l->seat, seats));
     return answer_yes(l, (struct bytes){set, sizeof set});
 }
@@ -233,7 +221,7 @@ static bool answer_finished(struct line *l, unsigned seats)
 /* Answers one request; false ends the line. */
 static bool answer_request(struct line *l, const uint8_t *request)
 {
-    unsigned number = short_at(request + REQUEST - 2);
+    unsigned number = get_short(request + REQUEST - SHORT);
     if (memcmp(request + 1, run->run, DIGEST))
         return send_message(l, (const uint8_t *)"R", 1, ANSWER_S);
     if (!know_token(l->seat, request + 1 + DIGEST)) {
@@ -277,7 +265,7 @@ static void *serve(void *socket)
     if (known)
         register_line(&l);
     while (known && receive_message(&l, request, REQUEST, REQUEST, IDLE_S) > 0) {
-        last = request[0] == 'F' && short_at(request + REQUEST - 2) == all;
+        last = request[0] == 'F' && get_short(request + REQUEST - SHORT) == all;
         if (!answer_request(&l, request))
             break;
     }

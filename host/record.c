@@ -114,16 +114,14 @@ static unsigned sent_calls(const struct record *r)
     return r->next < r->calls ? r->next : r->calls - 1;
 }
 
-/* The numbers of a record, two bytes each. */
+/* The numbers of a record: its seat, the next call, and two sets. */
 enum { NUMBERS = 4 };
 
-static void numbers_to(uint8_t at[2 * NUMBERS], const struct record *r)
+static void numbers_to(uint8_t at[SHORT * NUMBERS], const struct record *r)
 {
     const unsigned numbers[NUMBERS] = {r->seat, r->next, r->finished, r->told};
-    for (int i = 0; i < NUMBERS; i++) {
-        at[2 * i] = (uint8_t)numbers[i];
-        at[2 * i + 1] = (uint8_t)(numbers[i] >> 8);
-    }
+    for (int i = 0; i < NUMBERS; i++)
+        put_short(at + SHORT * i, numbers[i]);
 }
 
 static void digest_of(uint8_t digest[DIGEST], struct bytes all)
@@ -134,7 +132,7 @@ static void digest_of(uint8_t digest[DIGEST], struct bytes all)
 
 void keep_record(const struct record *r)
 {
-    uint8_t numbers[2 * NUMBERS];
+    uint8_t numbers[SHORT * NUMBERS];
     const struct bytes parts[] = {
         {(uint8_t *)r->run->name, strlen(r->run->name)},
         {(uint8_t *)(uintptr_t)r->run->plan_digest, DIGEST},
@@ -178,16 +176,17 @@ static void compare_run(const struct record *r, struct bytes name, struct bytes 
     if (plan.len != DIGEST || memcmp(plan.at, d->plan_digest, DIGEST))
         refuse("%s is of a run '%s' with another plan: give this one a new name and a folder of its own", path, d->name);
     if (run.len != DIGEST || memcmp(run.at, d->run, DIGEST))
-        refuse("%s is of a run '%s' with other seats or certificates: give this one a new name and a folder of its own", path, d->name);
+        refuse("%s is of a run '%s' with other seats or certificates, or by another version of this program: "
+               "give this one a new name and a folder of its own", path, d->name);
 }
 
 static void read_numbers(struct record *r, struct bytes part)
 {
     unsigned numbers[NUMBERS];
-    if (part.len != 2 * NUMBERS)
+    if (part.len != SHORT * NUMBERS)
         damaged();
     for (int i = 0; i < NUMBERS; i++)
-        numbers[i] = part.at[2 * i] + 256u * part.at[2 * i + 1];
+        numbers[i] = get_short(part.at + SHORT * i);
     if (numbers[0] != r->seat)
         refuse("%s is of seat %u, and this key is that of seat %u", in_home("record"), numbers[0], r->seat);
     r->next = numbers[1];

@@ -9,6 +9,19 @@
 
 enum { TOKEN = 16 };
 
+/* The numbers of a record and of a request (seats, sets, calls and rounds) have two bytes, whatever a number of a list has. */
+enum { SHORT = 2 };
+
+static inline unsigned get_short(const uint8_t *at)
+{
+    return (unsigned)get_bytes(at, SHORT);
+}
+
+static inline void put_short(uint8_t *at, unsigned x)
+{
+    put_bytes(at, SHORT, x);
+}
+
 struct record {
     const struct description *run;
     unsigned seat;

@@ -295,12 +295,12 @@ static unsigned tell(unsigned *finished, unsigned told[MOST_SEATS + 1], unsigned
         if (!(knowing & bit(seat)) && told[seat] != *finished && ask(seat, 'F', *finished))
             asked |= bit(seat);
     for (unsigned seat = 1; seat <= run.seats; seat++) {
-        uint8_t set[2];
+        uint8_t set[SHORT];
         if (!(asked & bit(seat)) || hear(seat, set, sizeof set) != THERE)
             continue;
         told[seat] = *finished;
         answered |= bit(seat);
-        learnt |= set[0] + 256u * set[1];
+        learnt |= get_short(set);
     }
     *finished |= learnt & all_seats();
     return answered;

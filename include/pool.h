@@ -27,9 +27,15 @@
  *    the pointer is not const, and no other thread writes them during the call.
  *  - A buffer that is written does not overlap any other slice of the call.
  *
- * A number of a list takes two bytes, the low byte first, on every machine. An
- * odd byte at the end of a list makes its count wrong. The parts of
- * pool_charge take four.
+ * A number of a list takes four bytes (POOL_NUMBER_BYTES), the low byte first,
+ * on every machine, in every call and for a plan of every version; how wide the
+ * numbers of a plan file are is the file's own affair. Bytes left over at the
+ * end of a list make its count wrong.
+ *
+ * A host that was written for lists of two bytes a number lends and reads twice
+ * as many bytes, and pool_seat_size and pool_run_size answer twice what they
+ * did. Plan files stay as they are; a state that is under way does not: run the
+ * plan anew.
  *
  *
  * Answers
@@ -65,6 +71,9 @@
 #ifdef __cplusplus
 extern "C" {
 #endif
+
+/* The bytes of a number in a list: four. */
+#define POOL_NUMBER_BYTES 4
 
 /* The bytes of stack that a call takes at most. */
 #define POOL_STACK_SEAT 4096
@@ -311,7 +320,7 @@ uint64_t pool_match(const uint8_t *plan, size_t plan_len, uint16_t set,
  * plan, plan_len:   the plan file.
  * price:            the price of 1,000 elements in cents, at most 1,000,000.
  * parts, parts_len: written: each party's part in cents, the parties
- *                   ascending, four bytes each, the low byte first: 4n bytes.
+ *                   ascending: a list of n numbers.
  *
  * The bill is the elements sent times the price, divided by 1,000 and rounded
  * up. Each party pays in proportion to the elements that it sends, those to

@@ -45,13 +45,13 @@ int main(void)
     uint8_t k[64];
     size_t k_len = plan_k(k);
     for (unsigned i = 0; i < CASES; i++) {
-        static const size_t sizes[] = {0, 2, 4, 6, 10, 20, 40};
+        static const size_t sizes[] = {0, BYTES(1), BYTES(2), BYTES(3), BYTES(5), BYTES(10), BYTES(20)};
         struct slice s[6];
         s[0] = lend_text((const char *)k, k_len);
         for (unsigned j = 1; j < 6; j++)
-            s[j] = lend(NULL, below(3) ? sizes[below(7)] : below(50));
+            s[j] = lend(NULL, below(3) ? sizes[below(7)] : below(BYTES(25)));
         if (!below(3))
-            s[3].len = s[3].len > 10 ? 10 : s[3].len;
+            s[3].len = s[3].len > BYTES(5) ? BYTES(5) : s[3].len;
         uint16_t seat = (uint16_t)(below(4) ? below(5) : below(65536));
         check(pool_plan_check(s[0].at, s[0].len));
         check(pool_calls(s[0].at, s[0].len));

@@ -4,7 +4,7 @@
 
 #include "plans.h"
 
-enum { SEATS = 15, GATES = 1024, OUTS = 64, ROOM = 4 * SEATS + 4 };
+enum { SEATS = 15, GATES = 1024, OUTS = 64, ROOM = BYTES(SEATS + 1) };
 
 static uint8_t plan[18 + 6 * GATES + 3 * OUTS], parts[ROOM];
 static size_t plan_len;
@@ -21,8 +21,7 @@ static void expect_number(const char *what, uint64_t got, uint64_t want)
 
 static uint64_t part(unsigned seat)
 {
-    const uint8_t *at = parts + 4 * (seat - 1);
-    return at[0] | (uint64_t)at[1] << 8 | (uint64_t)at[2] << 16 | (uint64_t)at[3] << 24;
+    return get(parts + BYTES(seat - 1));
 }
 
 /* The charge into so many bytes. A refused call writes nothing, and no call writes a byte more. */
@@ -47,7 +46,7 @@ static uint64_t sent_by(unsigned seat)
     uint64_t numbers = 0;
     unsigned calls = (unsigned)POOL_VALUE(pool_calls(plan, plan_len));
     for (unsigned call = 0; call + 1 < calls; call++)
-        numbers += POOL_VALUE(pool_seat_size(plan, plan_len, (uint16_t)seat, (uint16_t)call, POOL_SEAT_OUT)) / 2;
+        numbers += POOL_VALUE(pool_seat_size(plan, plan_len, (uint16_t)seat, (uint16_t)call, POOL_SEAT_OUT)) / POOL_NUMBER_BYTES;
     return numbers;
 }
 
@@ -79,7 +78,7 @@ static void sorted(const char *what, uint32_t price, const uint64_t *sent)
     qsort(owed, n, sizeof *owed, greater_first);
     for (unsigned i = 0; i < left; i++)
         owed[i].cents++;
-    uint64_t answer = charge(price, 4 * n);
+    uint64_t answer = charge(price, BYTES(n));
     expect_number(what, POOL_REFUSAL(answer), 0);
     expect_number(what, POOL_VALUE(answer), bill);
     for (unsigned i = 0; i < n; i++) {
@@ -105,7 +104,7 @@ static void worked(void)
         {1, 1, 1, 0, 0}, {999, 18, 7, 7, 4}, {1000, 18, 7, 7, 4}, {55, 1, 1, 0, 0}, {56, 2, 1, 1, 0}};
     plan_len = plan_k(plan);
     for (unsigned k = 0; k < sizeof bills / sizeof *bills; k++) {
-        uint64_t answer = charge(bills[k][0], 12);
+        uint64_t answer = charge(bills[k][0], BYTES(3));
         expect_number("the worked bills: no refusal", POOL_REFUSAL(answer), 0);
         expect_number("the worked bills: the bill", POOL_VALUE(answer), bills[k][1]);
         for (unsigned seat = 1; seat <= 3; seat++)
@@ -113,34 +112,36 @@ static void worked(void)
     }
     expect_number("K's elements, seat 1", sent_by(1), 7);
     expect_number("K's elements, seat 3", sent_by(3), 4);
-    uint8_t view[1], lists[10] = {4, 0, 5, 0}, coins[10] = {2, 0, 3, 0, 1, 0, 5, 0, 7, 0};
-    uint64_t sent = POOL_VALUE(pool_bench(plan, plan_len, 0, lists, 4, coins, 10, view, 0));
+    uint8_t view[1], figures[BYTES(2)], coins[BYTES(5)];
+    put_list(figures, (const unsigned[]){4, 5}, 2);
+    put_list(coins, (const unsigned[]){2, 3, 1, 5, 7}, 5);
+    uint64_t sent = POOL_VALUE(pool_bench(plan, plan_len, 0, figures, sizeof figures, coins, sizeof coins, view, 0));
     expect_number("what the bench counts", sent, sent_by(1) + sent_by(2) + sent_by(3));
 }
 
 static void refusals(void)
 {
     plan_len = plan_k(plan);
-    expect("a price over the limit", charge(1000001, 12), 31, 0);
-    expect("a price of 2^31", charge(1u << 31, 12), 31, 0);
-    expect("the highest number", charge(UINT32_MAX, 12), 31, 0);
-    expect("31 comes before 19", charge(1000001, 11), 31, 0);
+    expect("a price over the limit", charge(1000001, BYTES(3)), 31, 0);
+    expect("a price of 2^31", charge(1u << 31, BYTES(3)), 31, 0);
+    expect("the highest number", charge(UINT32_MAX, BYTES(3)), 31, 0);
+    expect("31 comes before 19", charge(1000001, BYTES(3) - 1), 31, 0);
     for (size_t room = 0; room <= ROOM; room++)
-        if (room != 12)
+        if (room != BYTES(3))
             expect("another length", charge(278, room), 19, 0);
     plan[5] = 16;
-    expect("a plan's own refusal comes first", charge(1000001, 11), 3, 0);
+    expect("a plan's own refusal comes first", charge(1000001, BYTES(3) - 1), 3, 0);
     plan_len = plan_k(plan);
     plan[4] = 9;
-    expect("another version", charge(0, 12), 2, 0);
+    expect("another version", charge(0, BYTES(3)), 2, 0);
     plan_len = plan_k(plan);
     gate(plan, 2, 5, 0, 2);
-    expect("a gate's rule, with its place", charge(1000001, 12), 7, 2);
+    expect("a gate's rule, with its place", charge(1000001, BYTES(3)), 7, 2);
     plan_len = plan_k(plan);
     out(plan, 4, 0, 4, 3);
-    expect("an out's rule", charge(1000001, 12), 8, 0);
+    expect("an out's rule", charge(1000001, BYTES(3)), 8, 0);
     for (plan_len = 0; plan_len < plan_k(plan); plan_len++)
-        expect("a plan cut off", charge(1000001, 11), plan_len < 18 ? 1 : 6, 0);
+        expect("a plan cut off", charge(1000001, BYTES(3) - 1), plan_len < 18 ? 1 : 6, 0);
 }
 
 /* K among more parties: those above 2t + 1 deal no product. */
@@ -152,7 +153,7 @@ static void few_dealers(void)
             plan_len = plan_k(plan);
             plan[5] = (uint8_t)n;
             plan[6] = (uint8_t)t;
-            put(plan + 8, 17);
+            put_field(plan + 8, 17);
             uint64_t sent[SEATS];
             for (unsigned i = 0; i < n; i++)
                 sent[i] = (i < 2 ? n : 0) + (i < 2 * t + 1 ? n : 0) + 1;

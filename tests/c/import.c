@@ -184,30 +184,30 @@ static void comparator(unsigned bits, unsigned values)
 static void put_bits(uint8_t *figures, unsigned bits, unsigned a, unsigned b)
 {
     for (unsigned i = 0; i < bits; i++) {
-        put(figures + 2 * i, a >> i & 1);
-        put(figures + 2 * (bits + i), b >> i & 1);
+        put(figures + BYTES(i), a >> i & 1);
+        put(figures + BYTES(bits + i), b >> i & 1);
     }
 }
 
 /* Runs the imported plan on the bench: party 1's result. */
-static unsigned compared(size_t plan_len, unsigned bits, unsigned a, unsigned b)
+static int64_t compared(size_t plan_len, unsigned bits, unsigned a, unsigned b)
 {
-    uint8_t figures[64];
+    uint8_t figures[BYTES(32)];
     put_bits(figures, bits, a, b);
-    return result_on_bench(plan_len, 1, figures, 4 * bits);
+    return result_on_bench(plan_len, 1, figures, BYTES(2 * bits));
 }
 
 /* One party alone has no coalition: its own call gives its result. */
 static unsigned alone(size_t plan_len, unsigned bits, unsigned a, unsigned b)
 {
-    static uint8_t figures[64], seat[8192], mail[8192], sent[8192];
+    static uint8_t figures[BYTES(32)], seat[BYTES(4096)], mail[BYTES(4096)], sent[BYTES(4096)];
     put_bits(figures, bits, a, b);
     size_t seat_len = (size_t)POOL_VALUE(pool_seat_size(plan, plan_len, 1, 0, POOL_SEAT_STATE)), mail_len = 0;
     unsigned calls = (unsigned)POOL_VALUE(pool_calls(plan, plan_len));
     memset(seat, 0, seat_len);
     for (unsigned k = 0; k < calls; k++) {
         size_t sent_len = (size_t)POOL_VALUE(pool_seat_size(plan, plan_len, 1, (uint16_t)k, POOL_SEAT_OUT));
-        if (pool_seat_call(plan, plan_len, 1, figures, 4 * bits, sent, 0, seat, seat_len, mail, mail_len, sent, sent_len))
+        if (pool_seat_call(plan, plan_len, 1, figures, BYTES(2 * bits), sent, 0, seat, seat_len, mail, mail_len, sent, sent_len))
             return 99;
         memcpy(mail, sent, mail_len = sent_len);
     }

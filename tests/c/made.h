@@ -32,17 +32,17 @@ static inline void expect_size(const char *what, uint64_t answer, size_t size)
     expect(what, POOL_VALUE(answer) == size ? 0 : 1, 0, 0);
 }
 
-/* Runs the plan on the bench with random coins: the last result of a party; 65536 where the run is refused. */
-static inline unsigned result_on_bench(size_t plan_len, unsigned party, const uint8_t *figures, size_t figures_len)
+/* Runs the plan on the bench with random coins: the last result of a party; -1 where the run is refused. */
+static inline int64_t result_on_bench(size_t plan_len, unsigned party, const uint8_t *figures, size_t figures_len)
 {
-    static uint8_t coins[65536], view[65536];
+    static uint8_t coins[BYTES(32768)], view[BYTES(32768)];
     uint16_t set = (uint16_t)(1u << (party - 1));
     size_t coins_len = (size_t)POOL_VALUE(pool_run_size(plan, plan_len, set, POOL_RUN_COINS));
     size_t view_len = (size_t)POOL_VALUE(pool_run_size(plan, plan_len, set, POOL_RUN_VIEW));
-    for (size_t i = 0; i < coins_len / 2; i++)
-        put(coins + 2 * i, below(get(plan + 8)));
+    for (size_t i = 0; i < coins_len; i += BYTES(1))
+        put(coins + i, below(get_field(plan + 8)));
     uint64_t answer = pool_bench(plan, plan_len, set, figures, figures_len, coins, coins_len, view, view_len);
-    return POOL_REFUSAL(answer) ? 65536 : get(view + view_len - 2);
+    return POOL_REFUSAL(answer) ? -1 : (int64_t)get(view + view_len - BYTES(1));
 }
 
 #endif

@@ -3,7 +3,7 @@
 
 #include "plans.h"
 
-enum { P = 5, COINS = 5, SETTINGS = 3125, MOST = 64 };
+enum { P = 5, COINS = 5, SETTINGS = 3125, MOST = BYTES(32) };
 
 static uint8_t plan[64];
 static size_t plan_len;
@@ -21,14 +21,14 @@ static void hold(const char *what, int ok)
 static void list(uint8_t *to, unsigned setting, unsigned count)
 {
     for (unsigned i = 0; i < count; i++, setting /= P)
-        put(to + 2 * i, setting % P);
+        put(to + BYTES(i), setting % P);
 }
 
 static unsigned setting_of(const uint8_t *from)
 {
     unsigned setting = 0;
     for (unsigned i = COINS; i-- > 0;)
-        setting = setting * P + from[2 * i];
+        setting = setting * P + get(from + BYTES(i));
     return setting;
 }
 
@@ -36,18 +36,18 @@ static unsigned setting_of(const uint8_t *from)
 static void settings(unsigned set, const uint8_t *first, const uint8_t *second, const unsigned *own, unsigned owned)
 {
     static uint8_t seen[SETTINGS];
-    uint8_t coins[2 * COINS], matched[2 * COINS], view[MOST], other[MOST];
+    uint8_t coins[BYTES(COINS)], matched[BYTES(COINS)], view[MOST], other[MOST];
     size_t len = (size_t)POOL_VALUE(pool_run_size(plan, plan_len, (uint16_t)set, POOL_RUN_VIEW));
     int kept = 1, same = 1, once = 1, taken = 1;
     memset(seen, 0, sizeof seen);
     for (unsigned setting = 0; setting < SETTINGS; setting++) {
         list(coins, setting, COINS);
-        taken &= pool_match(plan, plan_len, (uint16_t)set, first, 4, second, 4, coins, sizeof coins, matched, sizeof matched) == 0;
-        taken &= POOL_REFUSAL(pool_bench(plan, plan_len, (uint16_t)set, first, 4, coins, sizeof coins, view, len)) == 0;
-        taken &= POOL_REFUSAL(pool_bench(plan, plan_len, (uint16_t)set, second, 4, matched, sizeof matched, other, len)) == 0;
+        taken &= pool_match(plan, plan_len, (uint16_t)set, first, BYTES(2), second, BYTES(2), coins, sizeof coins, matched, sizeof matched) == 0;
+        taken &= POOL_REFUSAL(pool_bench(plan, plan_len, (uint16_t)set, first, BYTES(2), coins, sizeof coins, view, len)) == 0;
+        taken &= POOL_REFUSAL(pool_bench(plan, plan_len, (uint16_t)set, second, BYTES(2), matched, sizeof matched, other, len)) == 0;
         same &= memcmp(view, other, len) == 0;
         for (unsigned i = 0; i < owned; i++)
-            kept &= memcmp(coins + 2 * own[i], matched + 2 * own[i], 2) == 0;
+            kept &= get(coins + BYTES(own[i])) == get(matched + BYTES(own[i]));
         once &= !seen[setting_of(matched)]++;
     }
     hold("every setting is matched", taken);
@@ -64,14 +64,14 @@ int main(void)
     static const unsigned owned[] = {0, 2, 2, 1};
     unsigned pairs = 0, moved = 0;
     plan_len = plan_k(plan);
-    put(plan + 8, P);
+    put_field(plan + 8, P);
     for (unsigned member = 0; member <= 3; member++) {
         for (unsigned both = 0; both < 625; both++) {
-            uint8_t first[4], second[4], coins[2 * COINS] = {0}, matched[2 * COINS];
+            uint8_t first[BYTES(2)], second[BYTES(2)], coins[BYTES(COINS)] = {0}, matched[BYTES(COINS)];
             unsigned set = member ? 1u << (member - 1) : 0;
             list(first, both % 25, 2);
             list(second, both / 25, 2);
-            if (pool_match(plan, plan_len, (uint16_t)set, first, 4, second, 4, coins, sizeof coins, matched, sizeof matched) != 0)
+            if (pool_match(plan, plan_len, (uint16_t)set, first, sizeof first, second, sizeof second, coins, sizeof coins, matched, sizeof matched) != 0)
                 continue;
             pairs++;
             moved += memcmp(coins, matched, sizeof coins) != 0;

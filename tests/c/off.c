@@ -50,18 +50,17 @@ static void spoil(unsigned j, unsigned seat)
 /* Seat n's last call with these shares; a refused one keeps its buffers. */
 static void last_call(const char *what, unsigned number, unsigned place, const unsigned value[OWN])
 {
-    uint8_t state[2 * (1 + GATES)], before[2 * (1 + GATES)], mail[2 * OWN * MOST], o[2 * OWN], kept[2 * OWN], want[2 * OWN], none[1];
+    uint8_t state[BYTES(1 + GATES)], before[BYTES(1 + GATES)], mail[BYTES(OWN * MOST)], o[BYTES(OWN)], kept[BYTES(OWN)], want[BYTES(OWN)], none[1];
     put(state, LAST_CALL);
-    put(state + 2, draw(p));
+    put(state + BYTES(1), draw(p));
     memcpy(before, state, sizeof state);
     memset(o, 9, sizeof o);
     memcpy(kept, o, sizeof o);
     for (unsigned i = 0; i < n; i++)
         for (unsigned j = 0; j < OWN; j++)
-            put(mail + 2 * (OWN * i + j), shares[j][i]);
-    expect(what, pool_seat_call(plan, plan_len, (uint16_t)n, none, 0, none, 0, state, sizeof state, mail, 2 * OWN * n, o, sizeof o), number, place);
-    for (unsigned j = 0; j < OWN; j++)
-        put(want + 2 * j, value[j]);
+            put(mail + BYTES(OWN * i + j), shares[j][i]);
+    expect(what, pool_seat_call(plan, plan_len, (uint16_t)n, none, 0, none, 0, state, sizeof state, mail, BYTES(OWN * n), o, sizeof o), number, place);
+    put_list(want, value, OWN);
     expect_bytes("the buffer", o, number ? kept : want, sizeof o);
     put(before, number ? LAST_CALL : LAST_CALL + 1);
     expect_bytes("the state", state, before, sizeof state);

@@ -4,7 +4,7 @@
 
 #include "plans.h"
 
-enum { PLANS = 500, ORDERS = 20, MOST_SEATS = 7, MOST_GATES = 14, MOST_OUTS = 4, MOST_CALLS = MOST_GATES + 3, LONGEST = 512, MOST_VIEW = 4096 };
+enum { PLANS = 500, ORDERS = 20, MOST_SEATS = 7, MOST_GATES = 14, MOST_OUTS = 4, MOST_CALLS = MOST_GATES + 3, LONGEST = BYTES(256), MOST_VIEW = BYTES(2048) };
 
 static uint8_t plan[256];
 static size_t plan_len;
@@ -13,7 +13,7 @@ static uint8_t figures[LONGEST], coins[LONGEST * 8];
 
 /* A seat: what it was given, its state, how many calls it has made and what each of these wrote, its mail and its results. */
 static struct seat {
-    uint8_t figures[LONGEST], coins[LONGEST * 8], state[2 * (MOST_GATES + 1)], wrote[MOST_CALLS][LONGEST], view[MOST_VIEW];
+    uint8_t figures[LONGEST], coins[LONGEST * 8], state[BYTES(MOST_GATES + 1)], wrote[MOST_CALLS][LONGEST], view[MOST_VIEW];
     size_t figures_len, coins_len, wrote_len[MOST_CALLS], view_len;
     unsigned made;
 } seat[MOST_SEATS + 1];
@@ -54,12 +54,12 @@ static void make_plan(void)
 /* Figures and coins at random, as the bench takes them; each seat's own stand in front of the view of the seat alone. */
 static void deal_lists(void)
 {
-    unsigned p = get(plan + 8);
+    unsigned p = get_field(plan + 8);
     size_t figures_len = (size_t)POOL_VALUE(pool_run_size(plan, plan_len, 0, POOL_RUN_FIGURES));
     size_t coins_len = (size_t)POOL_VALUE(pool_run_size(plan, plan_len, 0, POOL_RUN_COINS));
-    for (size_t i = 0; i < figures_len; i += 2)
+    for (size_t i = 0; i < figures_len; i += BYTES(1))
         put(figures + i, below(p));
-    for (size_t i = 0; i < coins_len; i += 2)
+    for (size_t i = 0; i < coins_len; i += BYTES(1))
         put(coins + i, below(p));
     for (unsigned s = 1; s <= seats; s++) {
         struct seat *one = &seat[s];

@@ -30,15 +30,50 @@ static inline void expect_bytes(const char *what, const uint8_t *got, const uint
     }
 }
 
+static inline void put_bytes(uint8_t *at, unsigned width, unsigned v)
+{
+    for (unsigned i = 0; i < width; i++)
+        at[i] = (uint8_t)(v >> (8 * i));
+}
+
+static inline unsigned get_bytes(const uint8_t *at, unsigned width)
+{
+    unsigned v = 0;
+    while (width-- > 0)
+        v = v << 8 | at[width];
+    return v;
+}
+
+/* A list's numbers: the bytes of so many, one written, one read, and a whole list written. */
+#define BYTES(count) (POOL_NUMBER_BYTES * (count))
+
 static inline void put(uint8_t *at, unsigned v)
 {
-    at[0] = v & 0xff;
-    at[1] = v >> 8;
+    put_bytes(at, POOL_NUMBER_BYTES, v);
 }
 
 static inline unsigned get(const uint8_t *at)
 {
-    return at[0] + 256u * at[1];
+    return get_bytes(at, POOL_NUMBER_BYTES);
+}
+
+static inline void put_list(uint8_t *at, const unsigned *numbers, unsigned count)
+{
+    for (unsigned i = 0; i < count; i++)
+        put(at + BYTES(i), numbers[i]);
+}
+
+/* A plan file's numbers, of two bytes whatever lists have: one written, and one read. */
+enum { FIELD = 2 };
+
+static inline void put_field(uint8_t *at, unsigned v)
+{
+    put_bytes(at, FIELD, v);
+}
+
+static inline unsigned get_field(const uint8_t *at)
+{
+    return get_bytes(at, FIELD);
 }
 
 /* A number below bound, the next of a fixed row. */
@@ -59,11 +94,11 @@ static inline void contents(uint8_t *plan, unsigned n, unsigned t, unsigned p, u
     plan[5] = n;
     plan[6] = t;
     plan[7] = 0;
-    put(plan + 8, p);
-    put(plan + 10, 18);
-    put(plan + 12, gates);
-    put(plan + 14, 18 + 6 * gates);
-    put(plan + 16, outs);
+    put_field(plan + 8, p);
+    put_field(plan + 10, 18);
+    put_field(plan + 12, gates);
+    put_field(plan + 14, 18 + 6 * gates);
+    put_field(plan + 16, outs);
 }
 
 static inline void gate(uint8_t *plan, unsigned g, unsigned kind, unsigned a, unsigned b)
@@ -71,15 +106,15 @@ static inline void gate(uint8_t *plan, unsigned g, unsigned kind, unsigned a, un
     uint8_t *at = plan + 18 + 6 * g;
     at[0] = kind;
     at[1] = 0;
-    put(at + 2, a);
-    put(at + 4, b);
+    put_field(at + 2, a);
+    put_field(at + 4, b);
 }
 
 static inline void out(uint8_t *plan, unsigned gates, unsigned o, unsigned party, unsigned wire)
 {
     uint8_t *at = plan + 18 + 6 * gates + 3 * o;
     at[0] = party;
-    put(at + 1, wire);
+    put_field(at + 1, wire);
 }
 
 /* The version 1 plan as one of version 2, with these points. */
@@ -88,13 +123,13 @@ static inline size_t second_version(uint8_t *to, const uint8_t *plan, size_t len
     unsigned n = plan[5];
     memcpy(to, plan, 18);
     to[4] = 2;
-    put(to + 10, 20);
-    put(to + 14, get(plan + 14) + 2);
-    put(to + 18, (unsigned)len + 2);
+    put_field(to + 10, 20);
+    put_field(to + 14, get_field(plan + 14) + 2);
+    put_field(to + 18, (unsigned)len + 2);
     memcpy(to + 20, plan + 18, len - 18);
     for (unsigned i = 0; i < n; i++)
-        put(to + len + 2 + 2 * i, points[i]);
-    return len + 2 + 2 * n;
+        put_field(to + len + 2 + FIELD * i, points[i]);
+    return len + 2 + FIELD * n;
 }
 
 static inline void first_points(unsigned *points)

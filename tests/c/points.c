@@ -1,11 +1,11 @@
 /* Plans of version 2: with points 1 to n all is as in version 1, byte for byte; site codes as points; refusals 26 and 6. */
 #include "plans.h"
 
-enum { MOST_GATES = 24, MOST_OUTS = 6, MOST_PLAN = 20 + 6 * MOST_GATES + 3 * MOST_OUTS + 2 * 15, MOST_COINS = 2 * 15 * 14 * MOST_GATES, MOST_VIEW = 1 << 17 };
+enum { MOST_GATES = 24, MOST_OUTS = 6, MOST_PLAN = 20 + 6 * MOST_GATES + 3 * MOST_OUTS + FIELD * 15, MOST_COINS = BYTES(15 * 14 * MOST_GATES), MOST_VIEW = BYTES(1 << 16) };
 
 /* A plan, its figures and coins. */
 struct run {
-    uint8_t plan[MOST_PLAN], figures[2 * MOST_GATES], coins[MOST_COINS];
+    uint8_t plan[MOST_PLAN], figures[BYTES(MOST_GATES)], coins[MOST_COINS];
     size_t plan_len, figures_len, coins_len;
 };
 
@@ -29,10 +29,10 @@ static void any_plan(struct run *r)
     r->plan_len = 18 + 6 * gates + 3 * outs;
     r->figures_len = (size_t)POOL_VALUE(pool_run_size(r->plan, r->plan_len, 0, POOL_RUN_FIGURES));
     r->coins_len = (size_t)POOL_VALUE(pool_run_size(r->plan, r->plan_len, 0, POOL_RUN_COINS));
-    for (size_t i = 0; i < r->figures_len / 2; i++)
-        put(r->figures + 2 * i, below(p));
-    for (size_t i = 0; i < r->coins_len / 2; i++)
-        put(r->coins + 2 * i, below(p));
+    for (size_t i = 0; i < r->figures_len; i += BYTES(1))
+        put(r->figures + i, below(p));
+    for (size_t i = 0; i < r->coins_len; i += BYTES(1))
+        put(r->coins + i, below(p));
 }
 
 /* A set of at most t seats. */
@@ -59,7 +59,7 @@ static size_t own_lists(const struct run *r, unsigned seat, uint8_t *to)
 /* Calls 0 of both versions: what is sent, the states, the answers. */
 static void same_call(const struct run *r, const uint8_t *other, size_t other_len, unsigned seat)
 {
-    static uint8_t own[MOST_VIEW], sent[2][MOST_VIEW], state[2][2 * (MOST_GATES + 1)];
+    static uint8_t own[MOST_VIEW], sent[2][MOST_VIEW], state[2][BYTES(MOST_GATES + 1)];
     size_t figures = (size_t)POOL_VALUE(pool_seat_size(r->plan, r->plan_len, (uint16_t)seat, 0, POOL_SEAT_FIGURES));
     size_t all = own_lists(r, seat, own), out_len = (size_t)POOL_VALUE(pool_seat_size(r->plan, r->plan_len, (uint16_t)seat, 0, POOL_SEAT_OUT));
     size_t state_len = (size_t)POOL_VALUE(pool_seat_size(r->plan, r->plan_len, (uint16_t)seat, 0, POOL_SEAT_STATE));
@@ -74,7 +74,7 @@ static void same_call(const struct run *r, const uint8_t *other, size_t other_le
 /* Answers, views and matched coins of one plan in both versions. */
 static void same_run(const struct run *r, const uint8_t *other, size_t other_len)
 {
-    static uint8_t view[2][MOST_VIEW], matched[2][MOST_COINS], figures[2 * MOST_GATES];
+    static uint8_t view[2][MOST_VIEW], matched[2][MOST_COINS], figures[BYTES(MOST_GATES)];
     uint16_t set = any_set(r->plan);
     size_t len = (size_t)POOL_VALUE(pool_run_size(r->plan, r->plan_len, set, POOL_RUN_VIEW));
     hold("a size", pool_run_size(other, other_len, set, POOL_RUN_VIEW) == pool_run_size(r->plan, r->plan_len, set, POOL_RUN_VIEW));
@@ -86,7 +86,7 @@ static void same_run(const struct run *r, const uint8_t *other, size_t other_len
     expect_bytes("a view", view[0], view[1], len);
     memcpy(figures, r->figures, sizeof figures);
     if (below(2) && r->figures_len)
-        put(figures + 2 * below((unsigned)r->figures_len / 2), below(get(r->plan + 8)));
+        put(figures + BYTES(below((unsigned)r->figures_len / BYTES(1))), below(get_field(r->plan + 8)));
     first = pool_match(r->plan, r->plan_len, set, r->figures, r->figures_len, figures, r->figures_len, r->coins, r->coins_len, matched[0], r->coins_len);
     second = pool_match(other, other_len, set, r->figures, r->figures_len, figures, r->figures_len, r->coins, r->coins_len, matched[1], r->coins_len);
     hold("the matching's answer", first == second);
@@ -97,8 +97,8 @@ static void same_run(const struct run *r, const uint8_t *other, size_t other_len
 /* Other points: the results stay, and the matched run has the same view. */
 static void other_points(const struct run *r, const uint8_t *other, size_t other_len)
 {
-    static uint8_t view[2][MOST_VIEW], matched[MOST_COINS], figures[2 * MOST_GATES];
-    unsigned p = get(r->plan + 8), outs = get(r->plan + 16), outs_at = get(r->plan + 14);
+    static uint8_t view[2][MOST_VIEW], matched[MOST_COINS], figures[BYTES(MOST_GATES)];
+    unsigned p = get_field(r->plan + 8), outs = get_field(r->plan + 16), outs_at = get_field(r->plan + 14);
     for (unsigned seat = 1; seat <= r->plan[5] && r->plan[6] > 0; seat++) {
         uint16_t set = (uint16_t)(1u << (seat - 1));
         unsigned results = 0;
@@ -107,12 +107,12 @@ static void other_points(const struct run *r, const uint8_t *other, size_t other
         size_t len = (size_t)POOL_VALUE(pool_run_size(r->plan, r->plan_len, set, POOL_RUN_VIEW));
         pool_bench(r->plan, r->plan_len, set, r->figures, r->figures_len, r->coins, r->coins_len, view[0], len);
         hold("other points are not refused", POOL_REFUSAL(pool_bench(other, other_len, set, r->figures, r->figures_len, r->coins, r->coins_len, view[1], len)) == 0);
-        expect_bytes("the results", view[0] + len - 2 * results, view[1] + len - 2 * results, 2 * results);
+        expect_bytes("the results", view[0] + len - BYTES(results), view[1] + len - BYTES(results), BYTES(results));
     }
     uint16_t set = any_set(r->plan);
     size_t len = (size_t)POOL_VALUE(pool_run_size(other, other_len, set, POOL_RUN_VIEW));
-    for (size_t i = 0; i < r->figures_len / 2; i++)
-        put(figures + 2 * i, below(p));
+    for (size_t i = 0; i < r->figures_len; i += BYTES(1))
+        put(figures + i, below(p));
     uint64_t answer = pool_match(other, other_len, set, r->figures, r->figures_len, figures, r->figures_len, r->coins, r->coins_len, matched, r->coins_len);
     if (POOL_REFUSAL(answer))
         return;
@@ -134,7 +134,7 @@ static void many_plans(unsigned count)
         same_run(&r, other, len);
         if (r.plan[6] > 0)
             same_call(&r, other, len, 1 + below(r.plan[5]));
-        any_points(points, r.plan[5], get(r.plan + 8));
+        any_points(points, r.plan[5], get_field(r.plan + 8));
         len = second_version(other, r.plan, r.plan_len, points);
         expect("other points", pool_plan_check(other, len), 0, 0);
         other_points(&r, other, len);
@@ -146,28 +146,29 @@ static size_t codes(uint8_t *plan, unsigned a, unsigned b, unsigned c)
 {
     uint8_t first[64];
     size_t len = plan_k(first);
-    put(first + 8, 101);
+    put_field(first + 8, 101);
     return second_version(plan, first, len, (const unsigned[]){a, b, c});
 }
 
-static void listed(const char *what, const uint8_t *bytes, const unsigned *want, size_t count)
+static void listed(const char *what, const uint8_t *bytes, const unsigned *want, unsigned count)
 {
-    uint8_t list[64];
-    for (size_t i = 0; i < count; i++)
-        put(list + 2 * i, want[i]);
-    expect_bytes(what, bytes, list, 2 * count);
+    uint8_t list[BYTES(32)];
+    put_list(list, want, count);
+    expect_bytes(what, bytes, list, BYTES(count));
 }
 
 static void site_codes(void)
 {
-    uint8_t plan[80], view[64], matched[10];
+    uint8_t plan[80], figures[BYTES(2)], second[BYTES(2)], coins[BYTES(5)], matched[BYTES(5)], view[BYTES(10)];
     size_t len = codes(plan, 7, 40, 3);
-    static const uint8_t figures[] = {4, 0, 5, 0}, second[] = {8, 0, 2, 0}, coins[] = {2, 0, 3, 0, 1, 0, 5, 0, 7, 0};
-    hold("sent", POOL_VALUE(pool_bench(plan, len, 4, figures, 4, coins, 10, view, 20)) == 18);
+    put_list(figures, (const unsigned[]){4, 5}, 2);
+    put_list(second, (const unsigned[]){8, 2}, 2);
+    put_list(coins, (const unsigned[]){2, 3, 1, 5, 7}, 5);
+    hold("sent", POOL_VALUE(pool_bench(plan, len, 4, figures, sizeof figures, coins, sizeof coins, view, sizeof view)) == 18);
     listed("seat 3's view", view, (const unsigned[]){7, 10, 14, 67, 11, 60, 16, 36, 35, 24}, 10);
-    expect("matched", pool_match(plan, len, 4, figures, 4, second, 4, coins, 10, matched, 10), 0, 0);
+    expect("matched", pool_match(plan, len, 4, figures, sizeof figures, second, sizeof second, coins, sizeof coins, matched, sizeof matched), 0, 0);
     listed("matched coins", matched, (const unsigned[]){68, 4, 64, 17, 7}, 5);
-    pool_bench(plan, len, 4, second, 4, matched, 10, view, 20);
+    pool_bench(plan, len, 4, second, sizeof second, matched, sizeof matched, view, sizeof view);
     listed("seat 3's view of the matched run", view, (const unsigned[]){7, 10, 14, 67, 11, 60, 16, 36, 35, 24}, 10);
 }
 

@@ -1,18 +1,19 @@
 /* Drives the three seats of plan K through all their calls with mail carried by hand, and tries the refusals that C can provoke. */
 #include "plans.h"
 
-enum { SEATS = 3, GATES = 4, CALLS = 4, LONGEST = 64 };
+enum { SEATS = 3, GATES = 4, CALLS = 4, LONGEST = BYTES(32) };
 
 static uint8_t plan[64];
 static size_t plan_len;
 
 /* P1's figures and coins, seat by seat: the coins of seat 1 are 2 (its input) and 1, of seat 2 are 3 and 5, of seat 3 is 7. */
-static const uint8_t figures[SEATS][2] = {{4, 0}, {5, 0}, {0, 0}};
-static const size_t figure_bytes[SEATS] = {2, 2, 0};
-static const uint8_t coins[SEATS][4] = {{2, 0, 1, 0}, {3, 0, 5, 0}, {7, 0, 0, 0}};
-static const size_t coin_bytes[SEATS] = {4, 4, 2};
+static const unsigned figure_numbers[SEATS][1] = {{4}, {5}};
+static const unsigned coin_numbers[SEATS][2] = {{2, 1}, {3, 5}, {7}};
+static uint8_t figures[SEATS][BYTES(1)], coins[SEATS][BYTES(2)];
+static const size_t figure_bytes[SEATS] = {BYTES(1), BYTES(1), 0};
+static const size_t coin_bytes[SEATS] = {BYTES(2), BYTES(2), BYTES(1)};
 
-static uint8_t state[SEATS][2 * (GATES + 1)];
+static uint8_t state[SEATS][BYTES(GATES + 1)];
 static uint8_t mail[SEATS][LONGEST];
 static size_t mail_bytes[SEATS];
 
@@ -50,17 +51,16 @@ static void step(unsigned k, uint8_t written[SEATS][LONGEST])
     memcpy(mail_bytes, next_bytes, sizeof mail_bytes);
 }
 
-static void expect_mail(const char *what, unsigned seat, const uint8_t *want, size_t count)
+static void expect_mail(const char *what, unsigned seat, const unsigned *want, unsigned count)
 {
-    uint8_t bytes[LONGEST] = {0};
-    for (size_t i = 0; i < count; i++)
-        bytes[2 * i] = want[i];
-    if (mail_bytes[seat - 1] != 2 * count) {
+    uint8_t bytes[LONGEST];
+    put_list(bytes, want, count);
+    if (mail_bytes[seat - 1] != BYTES(count)) {
         failed++;
         printf("%s: %zu bytes of mail\n", what, mail_bytes[seat - 1]);
         return;
     }
-    expect_bytes(what, mail[seat - 1], bytes, 2 * count);
+    expect_bytes(what, mail[seat - 1], bytes, BYTES(count));
 }
 
 /* The whole run: document 01's rounds for seat 3, and its result. */
@@ -70,19 +70,22 @@ static void run(void)
     memset(state, 0, sizeof state);
     memset(mail_bytes, 0, sizeof mail_bytes);
     step(0, written);
-    expect_mail("round 0", 3, (const uint8_t[]){10, 3}, 2);
+    expect_mail("round 0", 3, (const unsigned[]){10, 3}, 2);
     step(1, written);
-    expect_mail("round 1", 3, (const uint8_t[]){7, 4, 7}, 3);
+    expect_mail("round 1", 3, (const unsigned[]){7, 4, 7}, 3);
     step(2, written);
-    expect_mail("round 2", 3, (const uint8_t[]){10, 7, 4}, 3);
-    uint8_t before[2 * (GATES + 1)], o[2] = {9, 9};
-    const uint8_t off[6] = {10, 0, 7, 0, 5, 0};
+    expect_mail("round 2", 3, (const unsigned[]){10, 7, 4}, 3);
+    uint8_t before[BYTES(GATES + 1)], o[BYTES(1)], kept[BYTES(1)], off[BYTES(3)], result[BYTES(1)];
+    put_list(off, (const unsigned[]){10, 7, 5}, 3);
     memcpy(before, state[2], sizeof before);
-    expect("seat 3's share off the polynomial", call(3, off, sizeof off, o, 2), 20, 3);
+    memset(o, 9, sizeof o);
+    memset(kept, 9, sizeof kept);
+    expect("seat 3's share off the polynomial", call(3, off, sizeof off, o, sizeof o), 20, 3);
     expect_bytes("a refused call keeps the state", state[2], before, sizeof before);
-    expect_bytes("a refused call keeps the buffer", o, (const uint8_t[]){9, 9}, 2);
+    expect_bytes("a refused call keeps the buffer", o, kept, sizeof o);
     step(3, written);
-    expect_bytes("the result", written[2], (const uint8_t[]){2, 0}, 2);
+    put(result, 2);
+    expect_bytes("the result", written[2], result, sizeof result);
     for (unsigned seat = 1; seat <= SEATS; seat++)
         expect("a finished seat", call(seat, mail[0], 0, o, 0), 16, 0);
 }
@@ -91,26 +94,31 @@ static void run(void)
 static void refusals(void)
 {
     static uint8_t o[LONGEST], none[1];
-    uint8_t bad[4] = {11, 0, 1, 0}, fresh[2 * (GATES + 1)] = {0};
+    uint8_t bad[BYTES(2)], fresh[BYTES(GATES + 1)] = {0};
     size_t out_len = size(1, 0, POOL_SEAT_OUT);
+    put_list(bad, (const unsigned[]){11, 1}, 2);
     memset(state, 0, sizeof state);
     expect("seat 0", pool_seat_call(plan, plan_len, 0, none, 0, none, 0, state[0], sizeof fresh, none, 0, o, 0), 9, 0);
     expect("seat 4", pool_seat_call(plan, plan_len, 4, none, 0, none, 0, state[0], sizeof fresh, none, 0, o, 0), 9, 0);
-    expect("an odd byte of figures", pool_seat_call(plan, plan_len, 1, figures[0], 1, coins[0], 4, state[0], sizeof fresh, none, 0, o, out_len), 10, 0);
-    expect("a figure of p", pool_seat_call(plan, plan_len, 1, bad, 2, coins[0], 4, state[0], sizeof fresh, none, 0, o, out_len), 11, 0);
-    expect("too few coins", pool_seat_call(plan, plan_len, 1, figures[0], 2, coins[0], 2, state[0], sizeof fresh, none, 0, o, out_len), 12, 0);
-    expect("a coin of p", pool_seat_call(plan, plan_len, 1, figures[0], 2, bad, 4, state[0], sizeof fresh, none, 0, o, out_len), 13, 0);
-    expect("a short state", pool_seat_call(plan, plan_len, 1, figures[0], 2, coins[0], 4, state[0], sizeof fresh - 1, none, 0, o, out_len), 14, 0);
-    state[0][2] = 11;
+    size_t one = BYTES(1), two = BYTES(2);
+    for (size_t over = 1; over < BYTES(1); over++) {
+        expect("bytes left over in figures", pool_seat_call(plan, plan_len, 1, bad, over, coins[0], two, state[0], sizeof fresh, none, 0, o, out_len), 10, 0);
+        expect("and after them", pool_seat_call(plan, plan_len, 1, bad, one + over, coins[0], two, state[0], sizeof fresh, none, 0, o, out_len), 10, 0);
+    }
+    expect("a figure of p", pool_seat_call(plan, plan_len, 1, bad, one, coins[0], two, state[0], sizeof fresh, none, 0, o, out_len), 11, 0);
+    expect("too few coins", pool_seat_call(plan, plan_len, 1, figures[0], one, coins[0], one, state[0], sizeof fresh, none, 0, o, out_len), 12, 0);
+    expect("a coin of p", pool_seat_call(plan, plan_len, 1, figures[0], one, bad, two, state[0], sizeof fresh, none, 0, o, out_len), 13, 0);
+    expect("a short state", pool_seat_call(plan, plan_len, 1, figures[0], one, coins[0], two, state[0], sizeof fresh - 1, none, 0, o, out_len), 14, 0);
+    put(state[0] + BYTES(1), 11);
     expect("a share of p", call(1, none, 0, o, out_len), 15, 0);
-    state[0][2] = 0;
-    state[0][0] = CALLS + 1;
+    put(state[0] + BYTES(1), 0);
+    put(state[0], CALLS + 1);
     expect("a call number above M + 3", call(1, none, 0, o, out_len), 15, 0);
-    state[0][0] = 0;
-    expect("mail for call 0", call(1, bad, 2, o, out_len), 17, 0);
-    state[0][0] = 1;
-    expect("mail of p", call(1, bad, 4, o, 6), 18, 0);
-    state[0][0] = 0;
+    put(state[0], 0);
+    expect("mail for call 0", call(1, bad, one, o, out_len), 17, 0);
+    put(state[0], 1);
+    expect("mail of p", call(1, bad, two, o, BYTES(SEATS)), 18, 0);
+    put(state[0], 0);
     expect("a long buffer", call(1, none, 0, o, out_len + 1), 19, 0);
     expect_bytes("the state is as it was", state[0], fresh, sizeof fresh);
     expect_bytes("the buffer is as it was", o, (const uint8_t[LONGEST]){0}, LONGEST);
@@ -119,6 +127,10 @@ static void refusals(void)
 int main(void)
 {
     plan_len = plan_k(plan);
+    for (unsigned s = 0; s < SEATS; s++) {
+        put_list(figures[s], figure_numbers[s], 1);
+        put_list(coins[s], coin_numbers[s], 2);
+    }
     expect("the calls of a seat", pool_calls(plan, plan_len) == (uint64_t)CALLS << 8 ? 0 : 255, 0, 0);
     run();
     refusals();

@@ -39,7 +39,7 @@ static size_t compiles(const char *what, const char *from, unsigned n, unsigned 
     expect_size(what, sheet_size(from, n, t, p, seat), size);
     expect(what, sheet(from, n, t, p, seat, size), 0, 0);
     expect(what, pool_plan_check(plan, size), 0, 0);
-    expect(what, plan[size - 3] == seat && get(plan + 12) == gates ? 0 : 1, 0, 0);
+    expect(what, plan[size - 3] == seat && get_field(plan + 12) == gates ? 0 : 1, 0, 0);
     return size;
 }
 
@@ -250,7 +250,7 @@ static size_t put_figures(uint8_t *figures, const char *from)
     for (const char *at = from; *at; at++)
         if (*at >= 'a' && *at <= 'd' && strchr(from, *at) == at) {
             put(figures + len, (unsigned)*figure_of[*at - 'a']);
-            len += 2;
+            len += BYTES(1);
         }
     return len;
 }
@@ -265,7 +265,7 @@ static void runs(void)
         expect(from, sheet(from, 3, 1, p, seat, size), 0, 0);
         for (unsigned k = 0; k < 100; k++) {
             int64_t values[FORMULA_COUNT];
-            uint8_t figures[8];
+            uint8_t figures[BYTES(4)];
             for (unsigned j = 0; j < 4; j++)
                 *figure_of[j] = below(8) ? below(p) : p - 1;
             work_out(values);

@@ -10,7 +10,8 @@
 
 enum { GATES = 1024, OUTS = 64, PAGE = 4096, PAINT = 0xa5 };
 
-static uint8_t plan[18 + 6 * GATES + 3 * OUTS], figures[4 * GATES], coins[400000], buffer[1000000], state[4 * GATES], mail[40000], written[40000];
+static uint8_t plan[18 + 6 * GATES + 3 * OUTS], figures[BYTES(2 * GATES)], coins[BYTES(200000)], buffer[BYTES(500000)];
+static uint8_t state[BYTES(2 * GATES)], mail[BYTES(20000)], written[BYTES(20000)];
 static size_t plan_len;
 
 /* n inputs of party 1, then multiplies, or adds where there is no majority; all outs go to party 1. */

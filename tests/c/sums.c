@@ -42,7 +42,7 @@ static void hold(const char *what, int held)
 static void list(uint8_t *to, const uint8_t *numbers, size_t count)
 {
     for (size_t i = 0; i < count; i++)
-        put(to + 2 * i, numbers[i]);
+        put(to + BYTES(i), numbers[i]);
 }
 
 /* n = 4, t = 2, p = 5; the lecture's polynomials 2, 1 + X^2, 1 + 2X, 3X + 2X^2, and its two alternatives for plants 1 and 4. */
@@ -53,7 +53,7 @@ static void lecture(void)
     static const uint8_t matched[2][8] = {{0, 0, 0, 2, 2, 4, 3, 2}, {0, 0, 0, 0, 2, 1, 3, 2}};
     /* seat 1's figure, coins, mail of both rounds and result, then seat 4's */
     static const uint8_t view[24] = {2, 0, 0, 2, 2, 3, 0, 2, 1, 1, 2, 4, 0, 3, 2, 2, 2, 4, 4, 2, 1, 1, 2, 4};
-    uint8_t f[8], s[8], c[16], m[16], want[48], v[48];
+    uint8_t f[BYTES(4)], s[BYTES(4)], c[BYTES(8)], m[BYTES(8)], want[BYTES(24)], v[BYTES(24)];
     sum_of(4, 2, 5);
     expect("001's plan", pool_plan_check(plan, plan_len), 0, 0);
     list(f, first, 4);
@@ -63,7 +63,7 @@ static void lecture(void)
     hold("its run", POOL_REFUSAL(pool_bench(plan, plan_len, 9, f, sizeof f, c, sizeof c, v, sizeof v)) == 0);
     expect_bytes("its view", v, want, sizeof v);
     for (unsigned k = 0; k < 2; k++) {
-        uint8_t again[48];
+        uint8_t again[BYTES(24)];
         list(s, others[k], 4);
         expect("its matching", pool_match(plan, plan_len, 9, f, sizeof f, s, sizeof s, c, sizeof c, m, sizeof m), 0, 0);
         list(want, matched[k], 8);
@@ -77,17 +77,17 @@ static void lecture(void)
 /* Seats apart, all calls: every seat gets the sum. */
 static void apart(unsigned n, const uint8_t *figures, const uint8_t *coins, unsigned t, unsigned total)
 {
-    static uint8_t state[MOST][2 * (GATES + 1)], mail[MOST][2 * MOST], next[MOST][2 * MOST], written[2 * MOST];
+    static uint8_t state[MOST][BYTES(GATES + 1)], mail[MOST][BYTES(MOST)], next[MOST][BYTES(MOST)], written[BYTES(MOST)];
     unsigned gates = 2 * n - 1;
     int taken = 1, right = 1;
     memset(state, 0, sizeof state);
     for (unsigned k = 0; k < 3; k++) {
         for (unsigned i = 0; i < n; i++) {
-            size_t out_len = k < 2 ? 2 * n : 2;
-            taken &= pool_seat_call(plan, plan_len, (uint16_t)(i + 1), figures + 2 * i, 2, coins + 2 * t * i, 2 * t, state[i], 2 * (gates + 1), mail[i],
-                                    k ? 2 * n : 0, written, out_len) == 0;
+            size_t out_len = k < 2 ? BYTES(n) : BYTES(1);
+            taken &= pool_seat_call(plan, plan_len, (uint16_t)(i + 1), figures + BYTES(i), BYTES(1), coins + BYTES(t * i), BYTES(t), state[i], BYTES(gates + 1), mail[i],
+                                    k ? BYTES(n) : 0, written, out_len) == 0;
             for (unsigned to = 0; k < 2 && to < n; to++)
-                memcpy(next[to] + 2 * i, written + 2 * to, 2);
+                memcpy(next[to] + BYTES(i), written + BYTES(to), BYTES(1));
             right &= k < 2 || get(written) == total;
         }
         memcpy(mail, next, sizeof mail);
@@ -99,17 +99,17 @@ static void apart(unsigned n, const uint8_t *figures, const uint8_t *coins, unsi
 /* The largest sets of every n: the sum of all runs, and its matching keeps the view of all but one seat. */
 static void largest(unsigned n)
 {
-    static uint8_t figures[2 * MOST], second[2 * MOST], coins[2 * NUMBERS], matched[2 * NUMBERS], view[2 * NUMBERS], other[2 * NUMBERS];
+    static uint8_t figures[BYTES(MOST)], second[BYTES(MOST)], coins[BYTES(NUMBERS)], matched[BYTES(NUMBERS)], view[BYTES(NUMBERS)], other[BYTES(NUMBERS)];
     unsigned t = n - 1, total = 0, alone = below(n), set = ((1u << n) - 1) & ~(1u << alone);
     sum_of(n, t, P);
     size_t figures_len = run_size(set, POOL_RUN_FIGURES), coins_len = run_size(set, POOL_RUN_COINS), view_len = run_size(set, POOL_RUN_VIEW);
-    hold("a figure for each seat", figures_len == 2 * n);
-    hold("t coins for each", coins_len == 2 * (size_t)n * t);
+    hold("a figure for each seat", figures_len == BYTES(n));
+    hold("t coins for each", coins_len == BYTES((size_t)n * t));
     for (unsigned i = 0; i < n; i++) {
-        put(figures + 2 * i, below(P));
-        total = (total + get(figures + 2 * i)) % P;
+        put(figures + BYTES(i), below(P));
+        total = (total + get(figures + BYTES(i))) % P;
     }
-    for (size_t i = 0; i < coins_len; i += 2)
+    for (size_t i = 0; i < coins_len; i += BYTES(1))
         put(coins + i, below(P));
     apart(n, figures, coins, t, total);
     hold("the run", POOL_REFUSAL(pool_bench(plan, plan_len, (uint16_t)set, figures, figures_len, coins, coins_len, view, view_len)) == 0);
@@ -121,12 +121,12 @@ static void largest(unsigned n)
     for (unsigned o = 0; o < n; o++)
         out(plan, 2 * n - 1, o, alone + 1, 2 * n - 2);
     view_len = run_size(set, POOL_RUN_VIEW);
-    put(second + 2 * alone, (get(figures + 2 * alone) + 1) % P);
+    put(second + BYTES(alone), (get(figures + BYTES(alone)) + 1) % P);
     hold("the first run", POOL_REFUSAL(pool_bench(plan, plan_len, (uint16_t)set, figures, figures_len, coins, coins_len, view, view_len)) == 0);
     expect("the matching", pool_match(plan, plan_len, (uint16_t)set, figures, figures_len, second, figures_len, coins, coins_len, matched, coins_len), 0, 0);
     hold("the matched run", POOL_REFUSAL(pool_bench(plan, plan_len, (uint16_t)set, second, figures_len, matched, coins_len, other, view_len)) == 0);
     expect_bytes("the same view", other, view, view_len);
-    hold("its last coin moves", n == 1 || memcmp(coins + 2 * (t * (alone + 1) - 1), matched + 2 * (t * (alone + 1) - 1), 2) != 0);
+    hold("its last coin moves", n == 1 || get(coins + BYTES(t * (alone + 1) - 1)) != get(matched + BYTES(t * (alone + 1) - 1)));
     expect("all seats are too many", POOL_REFUSAL(pool_run_size(plan, plan_len, (uint16_t)((1u << n) - 1), POOL_RUN_VIEW)), 9, 0);
 }
 

@@ -2,6 +2,9 @@
 //! grid of pieces goes by value from the function that deals it to the one that sums its columns. It takes a plan of inputs and multiplies that
 //! passes, full lists of figures and coins, and a set of at most t seats, and checks nothing.
 
+/// The bytes of a number in a list, as include/pool.h has them.
+pub const NUMBER_BYTES: usize = (env!("NUMBER_BYTES").as_bytes()[0] - b'0') as usize;
+
 /// What is worked out once for a plan.
 struct Plan<'a> {
     bytes: &'a [u8],
@@ -16,8 +19,18 @@ struct Plan<'a> {
     opening: [u64; 15],
 }
 
+/// Number i of a list.
 fn number(list: &[u8], i: usize) -> u64 {
-    u64::from(list[2 * i]) + 256 * u64::from(list[2 * i + 1])
+    let mut x = 0;
+    for j in 0..NUMBER_BYTES {
+        x += u64::from(list[NUMBER_BYTES * i + j]) << (8 * j);
+    }
+    x
+}
+
+/// A number of the plan file, which has two bytes.
+fn field(plan: &[u8], at: usize) -> u64 {
+    u64::from(plan[at]) + 256 * u64::from(plan[at + 1])
 }
 
 /// 2^36 / p, by which remainders are worked.
@@ -59,7 +72,7 @@ fn weights(p: u64, m: usize) -> [u64; 15] {
 
 impl Plan<'_> {
     fn new(bytes: &[u8]) -> Plan<'_> {
-        let (n, t, p) = (usize::from(bytes[5]), usize::from(bytes[6]), number(bytes, 4));
+        let (n, t, p) = (usize::from(bytes[5]), usize::from(bytes[6]), field(bytes, 8));
         let mut powers = [0; 120];
         for (row, x) in powers.chunks_exact_mut(8).zip(1..=n as u64) {
             let mut power = 1;
@@ -73,8 +86,8 @@ impl Plan<'_> {
             n,
             t,
             dealers: 2 * t + 1,
-            gates: number(bytes, 6) as usize,
-            outs: number(bytes, 8) as usize,
+            gates: field(bytes, 12) as usize,
+            outs: field(bytes, 16) as usize,
             p,
             powers,
             weights: weights(p, 2 * t + 1),
@@ -88,7 +101,7 @@ impl Plan<'_> {
 
     /// The gate's first or second number.
     fn operand(&self, g: usize, which: usize) -> usize {
-        number(&self.bytes[20 + 6 * g..], which) as usize
+        field(self.bytes, 20 + 6 * g + 2 * which) as usize
     }
 
     /// The coins that a gate takes.
@@ -102,7 +115,7 @@ impl Plan<'_> {
 
     fn out(&self, o: usize) -> (usize, usize) {
         let at = 18 + 6 * self.gates + 3 * o;
-        (usize::from(self.bytes[at]), number(&self.bytes[at + 1..], 0) as usize)
+        (usize::from(self.bytes[at]), field(self.bytes, at + 1) as usize)
     }
 }
 
@@ -191,8 +204,8 @@ struct View<'a>(&'a mut [u8]);
 
 impl View<'_> {
     fn put(&mut self, v: u64) {
-        let (two, rest) = std::mem::take(&mut self.0).split_at_mut(2);
-        two.copy_from_slice(&(v as u16).to_le_bytes());
+        let (next, rest) = std::mem::take(&mut self.0).split_at_mut(NUMBER_BYTES);
+        next.copy_from_slice(&v.to_le_bytes()[..NUMBER_BYTES]);
         self.0 = rest;
     }
 

@@ -3,6 +3,7 @@
 
 mod before;
 
+use before::NUMBER_BYTES;
 use std::time::{Duration, Instant};
 
 extern "C" {
@@ -50,9 +51,9 @@ fn elements(seed: &mut u64, bytes: usize) -> Vec<u8> {
         *seed ^= *seed << 13;
         *seed ^= *seed >> 7;
         *seed ^= *seed << 17;
-        (*seed % u64::from(P)) as u16
+        *seed % u64::from(P)
     };
-    (0..bytes / 2).flat_map(|_| next().to_le_bytes()).collect()
+    (0..bytes / NUMBER_BYTES).flat_map(|_| next().to_le_bytes().into_iter().take(NUMBER_BYTES)).collect()
 }
 
 fn shortest(best: &mut Duration, work: impl FnOnce()) {

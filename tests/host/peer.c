@@ -27,9 +27,10 @@
 #include <sys/socket.h>
 #include <unistd.h>
 
+#include "record.h"
 #include "tls.h"
 
-enum { TOKEN = 16, REQUEST = 1 + DIGEST + TOKEN + 2, LIFE_S = 60 };
+enum { REQUEST = 1 + DIGEST + TOKEN + SHORT, LIFE_S = 60 };
 
 static _Noreturn void end(const char *format, va_list args)
 {
@@ -133,8 +134,7 @@ static void put_request(uint8_t *to, const struct description *d, const char *ke
     to[4] = (uint8_t)letter;
     memcpy(to + 5, d->run, DIGEST);
     put_token(to + 5 + DIGEST, key);
-    to[4 + REQUEST - 2] = (uint8_t)number;
-    to[4 + REQUEST - 1] = (uint8_t)(number >> 8);
+    put_short(to + 4 + REQUEST - SHORT, number);
 }
 
 static void read_exactly(SSL *ssl, uint8_t *to, size_t len)

@@ -17,7 +17,7 @@ use lib.Dec.{eqb, ltb}
 use lib.ListN.{length, getD, take, length-append}
 use lib.Seq.{take-all}
 use Rattle.numbers.specs.Tables.{tab, countWhere, total}
-use Rattle.numbers.specs.Bytes.{width, numbers, allBelow}
+use Rattle.numbers.specs.Bytes.{width, limit, numbers, allBelow}
 use Rattle.numbers.proofs.Tables.{tab-map}
 use Rattle.numbers.proofs.Counts.{countWhere-append, countWhere-le-length}
 use Rattle.numbers.proofs.Below.{allBelow-at}
@@ -87,17 +87,28 @@ digits-next n b h (suc k) x l = step (ltb x 10) (h k (x / 10) (omega arith))
     step true m = omega arith
     step false m = omega (arith, length-append (digits k (x / 10)) ((48 + x % 10) ∷ []), m)
 
-digits-small : (k x : ℕ) → x < 100000 → length (digits k x) ≤ 5
-digits-small k x l = digits-next 4 10000 (digits-next 3 1000 (digits-next 2 100 (digits-next 1 10 digits-one))) k x (omega arith)
+-- n more digits
+tenfold : ℕ → ℕ → ℕ
+tenfold zero b = b
+tenfold (suc n) b = tenfold n (10 * b)
+
+digits-more : (n m b : ℕ) → ((k y : ℕ) → y < b → length (digits k y) ≤ m) → (k x : ℕ) → x < tenfold n b → length (digits k x) ≤ n + m
+unfolding tenfold
+digits-more zero m b h k x l = omega (arith, h k x l)
+digits-more (suc n) m b h k x l = omega (arith, digits-more n (suc m) (10 * b) (digits-next m b h) k x l)
+
+digits-small : (k x : ℕ) → x < 10000000000 → length (digits k x) ≤ 10
+unfolding tenfold
+digits-small k x l = digits-more 9 1 10 digits-one k x l
 
 abbrev Short : List ℕ → Type 0
-Short xs = All (λ x. x < 100000) xs
+Short xs = All (λ x. x < 10000000000) xs
 
-fields-small : (xs : List ℕ) → Short xs → length (flatMap field xs) ≤ 6 * length xs
+fields-small : (xs : List ℕ) → Short xs → length (flatMap field xs) ≤ 11 * length xs
 unfolding flatMap field decimal
 fields-small [] a = omega arith
 fields-small (x ∷ xs) a =
-    let l : length (field x) ≤ 6 = omega (arith, digits-small 20 x (a .0)) in
+    let l : length (field x) ≤ 11 = omega (arith, digits-small 20 x (a .0)) in
     omega (arith, length-append (field x) (flatMap field xs), l, fields-small xs (a .1))
 
 fields-most : (xs : List ℕ) → length (flatMap field xs) ≤ 21 * length xs
@@ -107,7 +118,7 @@ fields-most (x ∷ xs) =
     let l : length (field x) ≤ 21 = omega (arith, digits-most 20 x) in
     omega (arith, length-append (field x) (flatMap field xs), l, fields-most xs)
 
-line-small : (word xs : List ℕ) → Short xs → length (line word xs) ≤ length word + 6 * length xs + 1
+line-small : (word xs : List ℕ) → Short xs → length (line word xs) ≤ length word + 11 * length xs + 1
 unfolding line
 line-small word xs a = omega (arith, length-append word (flatMap field xs ++ (10 ∷ [])), length-append (flatMap field xs) (10 ∷ []), fields-small xs a)
 
@@ -115,16 +126,16 @@ line-most : (word xs : List ℕ) → length (line word xs) ≤ length word + 21 
 unfolding line
 line-most word xs = omega (arith, length-append word (flatMap field xs ++ (10 ∷ [])), length-append (flatMap field xs) (10 ∷ []), fields-most xs)
 
-numbers-short : (p : ℕ) (xs : List ℕ) → p ≤ 65536 → allBelow p xs ≡ true → Short xs
-numbers-short p xs l h = at-all (λ x. x < 100000) xs (λ i m. omega (arith, allBelow-at p xs i h m))
+numbers-short : (p : ℕ) (xs : List ℕ) → p ≤ limit → allBelow p xs ≡ true → Short xs
+numbers-short p xs l h = at-all (λ x. x < 10000000000) xs (λ i m. omega (arith, allBelow-at p xs i h m))
 
 flat-most : (most : ℕ) (f : ℕ → List ℕ) (is : List ℕ) → All (λ i. length (f i) ≤ most) is → length (flatMap f is) ≤ most * length is
 unfolding flatMap
 flat-most most f [] a = omega arith
 flat-most most f (i ∷ is) a = omega (arith, length-append (f i) (flatMap f is), a .0, flat-most most f is (a .1), mul-suc most (length is))
 
--- lines of so many numbers and twelve bytes
-rounds-bound : (f : ℕ → List ℕ) (c u : ℕ → ℕ) (n : ℕ) → ((k : ℕ) → k < n → length (f (u k)) ≤ 12 + 6 * c k) → length (flatMap f (tab u n)) ≤ 12 * n + 6 * total (tab c n)
+-- lines of so many numbers and 17 bytes
+rounds-bound : (f : ℕ → List ℕ) (c u : ℕ → ℕ) (n : ℕ) → ((k : ℕ) → k < n → length (f (u k)) ≤ 17 + 11 * c k) → length (flatMap f (tab u n)) ≤ 17 * n + 11 * total (tab c n)
 unfolding flatMap tab total
 rounds-bound f c u zero h = omega arith
 rounds-bound f c u (suc n) h =
@@ -179,7 +190,7 @@ module _ (bytes xs cs : List ℕ) (passes : planCheck bytes ≡ Passed) (inputs 
   tabled : Tabled (planOf bytes) [] []
   tabled = tabled-none (planOf bytes) [] (plain-no-7 (planOf bytes) (plain bytes passes))
 
-  prime-few : plan .p ≤ 65536
+  prime-few : plan .p ≤ limit
   prime-few = sized bytes passes .few
 
   gates-few : length (plan .gates) ≤ 1024
@@ -205,12 +216,12 @@ module _ (bytes xs cs : List ℕ) (passes : planCheck bytes ≡ Passed) (inputs 
 
   -- of at most c coins a dealing, and d pieces
   module _ (c d : ℕ) (few-coins : h .t ≤ c) (few-pieces : dealerCount plan * kindCount plan 5 ≤ d) (i : ℕ) (from1 : 1 ≤ i) (upto : i ≤ partyCount plan) where
-    view-line : length (viewLine plan xs cs i) ≤ 6192 + 6144 * c
+    view-line : length (viewLine plan xs cs i) ≤ 11280 + 11264 * c
     unfolding viewLine viewWord ownInputs ownCoins ownInputCount ownCoinCount
     view-line =
         let s : Short (i ∷ (ownInputs plan i xs ++ ownCoins plan i cs)) = (
           omega (arith, upto, plan-n k, k .n-high),
-          all-append (λ x. x < 100000) (ownInputs plan i xs) (ownCoins plan i cs)
+          all-append (λ x. x < 10000000000) (ownInputs plan i xs) (ownCoins plan i cs)
               (numbers-short (plan .p) (ownInputs plan i xs) prime-few (own-below plan above i (inputOwners plan) xs (inputs .small)))
               (numbers-short (plan .p) (ownCoins plan i cs) prime-few (own-below plan above i (coinOwners plan) cs (settings .small))),
         ) in
@@ -224,7 +235,7 @@ module _ (bytes xs cs : List ℕ) (passes : planCheck bytes ≡ Passed) (inputs 
           own-coins-most i c few-coins,
         )
 
-    round-line : (r : ℕ) → r < lastCall plan → length (roundLine plan xs cs i r) ≤ 12 + 6 * received plan i (stepAt plan r)
+    round-line : (r : ℕ) → r < lastCall plan → length (roundLine plan xs cs i r) ≤ 17 + 11 * received plan i (stepAt plan r)
     unfolding roundLine roundWord mailCount
     round-line r l =
         let mail : List ℕ = mailTo i (after plan xs cs [] (suc r)) in
@@ -237,14 +248,14 @@ module _ (bytes xs cs : List ℕ) (passes : planCheck bytes ≡ Passed) (inputs 
         let o : partyCount plan * ownOutCount plan i ≤ 960 = mul-le-mul {n₁ = partyCount plan} {m₁ = ownOutCount plan i} {n₂ = 15} {m₂ = 64} (omega (arith, plan-n k, k .n-high)) (own-outs-few i) in
         omega (arith, few-pieces, o, kind-few 1, mail-total plan (plain bytes passes) i)
 
-    rounds-most : length (flatMap (roundLine plan xs cs i) (tab (λ r. r) (lastCall plan))) ≤ 24216 + 6 * d
+    rounds-most : length (flatMap (roundLine plan xs cs i) (tab (λ r. r) (lastCall plan))) ≤ 39266 + 11 * d
     rounds-most =
         let f : ℕ → ℕ = λ r. received plan i (stepAt plan r) in
         let all : total (map (received plan i) (steps plan)) ≡ total (tab f (lastCall plan)) =
         ap total (ap (map (received plan i)) (steps-tab plan ok xs cs [] [] (settings .count) tabled) ∙ tab-map (received plan i) (stepAt plan) (lastCall plan)) in
         omega (arith, calls-few, mail-most, all, rounds-bound (roundLine plan xs cs i) f (λ r. r) (lastCall plan) round-line)
 
-    member-lines : length (memberLines plan xs cs i) ≤ 30408 + 6144 * c + 6 * d
+    member-lines : length (memberLines plan xs cs i) ≤ 50546 + 11264 * c + 11 * d
     unfolding memberLines
     member-lines = omega (arith, view-line, rounds-most, length-append (viewLine plan xs cs i) (flatMap (roundLine plan xs cs i) (tab (λ r. r) (lastCall plan))))
 
@@ -262,8 +273,8 @@ module _ (bytes xs cs : List ℕ) (passes : planCheck bytes ≡ Passed) (inputs 
 
   -- of at most c members too
   run-lines-by :
-      (set c d most : ℕ) → h .t ≤ c → dealerCount plan * kindCount plan 5 ≤ d → 30408 + 6144 * c + 6 * d ≤ most → most * c ≤ 1690000 → setFits (h .n) (h .t) set ≡ true
-      → length (runLines plan set xs cs) ≤ 1700000
+      (set c d most : ℕ) → h .t ≤ c → dealerCount plan * kindCount plan 5 ≤ d → 50546 + 11264 * c + 11 * d ≤ most → most * c ≤ 2990000 → setFits (h .n) (h .t) set ≡ true
+      → length (runLines plan set xs cs) ≤ 3000000
   unfolding runLines planLine planWord sentWord
   run-lines-by set c d most few-coins few-pieces each all fits =
       let ms : List ℕ = flatMap (memberLines plan xs cs) (members set) in
@@ -288,15 +299,15 @@ module _ (bytes xs cs : List ℕ) (passes : planCheck bytes ≡ Passed) (inputs 
       )
 
   -- without multiply gates up to 14 members, with them up to 7
-  run-lines : (set : ℕ) → setFits (h .n) (h .t) set ≡ true → length (runLines plan set xs cs) ≤ 1700000
+  run-lines : (set : ℕ) → setFits (h .n) (h .t) set ≡ true → length (runLines plan set xs cs) ≤ 3000000
   run-lines set fits =
       ⊎-elim
       (λ (z : kindCount plan 5 ≡ 0).
       let none : dealerCount plan * kindCount plan 5 ≤ 0 = rw (z, mul-zero (dealerCount plan)) (omega arith) in
-      run-lines-by set 14 0 116424 (omega (arith, k .threshold, k .n-high)) none (omega arith) (omega arith) fits)
+      run-lines-by set 14 0 208242 (omega (arith, k .threshold, k .n-high)) none (omega arith) (omega arith) fits)
       (λ (two : 2 * h .t < h .n).
       let some : dealerCount plan * kindCount plan 5 ≤ 15360 = mul-le-mul {n₁ = dealerCount plan} {m₁ = kindCount plan 5} {n₂ = 15} {m₂ = 1024} (omega (arith, plan-dealers k, k .n-high)) (kind-few 5) in
-      run-lines-by set 7 15360 165576 (omega (arith, k .n-high)) some (omega arith) (omega arith) fits)
+      run-lines-by set 7 15360 298354 (omega (arith, k .n-high)) some (omega arith) (omega arith) fits)
       (planned-or bytes h k)
 
 -- ---- the text
@@ -312,14 +323,14 @@ module _ (bytes : List ℕ) (set : ℕ) (figures coins : List ℕ) (room : ℕ) 
   given : Given (planOf bytes) figures coins
   given = passed-given bytes set figures coins room _ refl (both .1)
 
-  passed-lines : length (runLines (planOf bytes) set (numbers figures) (numbers coins)) ≤ 1700000
+  passed-lines : length (runLines (planOf bytes) set (numbers figures) (numbers coins)) ≤ 3000000
   passed-lines =
       run-lines bytes (numbers figures) (numbers coins) plan-passes
       (record { count = omega (arith, numbers-length figures, given .inputs-count); small = given .inputs-below })
       (record { count = omega (arith, numbers-length coins, given .coins-count); small = given .coins-below }) set
       (passed-set bytes set figures coins room _ refl (both .1) (headerOf bytes) (contents bytes plan-passes))
 
-answer-lines : (c : Checked) (plan : Plan) (set : ℕ) (xs cs : List ℕ) → (c ≡ Passed → length (runLines plan set xs cs) ≤ 1700000) → length (answerLines c plan set xs cs) ≤ 1700000
+answer-lines : (c : Checked) (plan : Plan) (set : ℕ) (xs cs : List ℕ) → (c ≡ Passed → length (runLines plan set xs cs) ≤ 3000000) → length (answerLines c plan set xs cs) ≤ 3000000
 unfolding answerLines refusedWord
 answer-lines Passed plan set xs cs h = h refl
 answer-lines (Refused r) plan set xs cs h = omega (arith, line-most refusedWord (numberOf r ∷ placeOf r ∷ []))
@@ -329,7 +340,7 @@ unfolding report benchOf refusedWord
 fitting bs = step (unreadable bs)
   where
     step : (b : Bool)
-        → length (cond b (line refusedWord (1 ∷ 0 ∷ [])) (answerLines (benchOf bs) (planOf (planPart bs)) (setPart bs) (numbers (figuresPart bs)) (numbers (coinsPart bs)))) ≤ 1700000
+        → length (cond b (line refusedWord (1 ∷ 0 ∷ [])) (answerLines (benchOf bs) (planOf (planPart bs)) (setPart bs) (numbers (figuresPart bs)) (numbers (coinsPart bs)))) ≤ 3000000
     step true = omega (arith, line-most refusedWord (1 ∷ 0 ∷ []))
     step false =
         answer-lines (benchOf bs) (planOf (planPart bs)) (setPart bs) (numbers (figuresPart bs)) (numbers (coinsPart bs))

@@ -7,7 +7,7 @@ use Rattle.bench_lines.specs.Report.{report}
 
 -- no text has more bytes
 abbrev pub longest : ℕ
-longest = 1700000
+longest = 3000000
 
 abbrev pub Fitting : Type 0
 Fitting = (bs : List ℕ) → length (report bs) ≤ longest

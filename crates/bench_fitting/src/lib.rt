@@ -1,4 +1,4 @@
-// The bench program's text, whole: a buffer of 1,700,000 bytes holds every report.
+// The bench program's text, whole: a buffer of 3,000,000 bytes holds every report.
 ghost use Prim.Native.Nat.{_≤_};
 ghost use lib.ListN.{length};
 ghost use Rattle.bench_lines.specs.Report.{report};

@@ -1,11 +1,11 @@
 -- The bench program's text (document 01, "The bench program reads standard input").
 use Prim.Native.Nat.{ℕ, suc, _+_, _*_, _%_}
-use mathlib.Core.Bool.{Bool, cond, _||_}
+use mathlib.Core.Bool.{Bool, cond, _||_, not}
 use mathlib.Core.List.{List, [], _∷_, _++_, flatMap}
 use lib.Dec.{eqb, ltb}
 use lib.ListN.{length, take, drop, getD}
 use Rattle.numbers.specs.Tables.{tab}
-use Rattle.numbers.specs.Bytes.{wordAt, width, numbers}
+use Rattle.numbers.specs.Bytes.{wordAt, width, numbersOf, numbers, bytesOf}
 use Rattle.plan.specs.declared.Output.{Output}
 use Rattle.plan.specs.declared.Checked.{Checked}
 use Rattle.plan.specs.declared.Checked.the-variants.{Passed, Refused}
@@ -83,16 +83,25 @@ setPart bs = wordAt bs (2 + wordAt bs 0)
 unfoldable pub listPart : List ℕ → List ℕ
 listPart bs = drop (4 + wordAt bs 0) bs
 
+-- the bytes of a number after the set: four where the plan's byte 4 is 3, else two (document 02, R-6)
+unfoldable pub inputWidth : List ℕ → ℕ
+inputWidth plan = cond (eqb (getD plan 4 0) 3) 4 2
+
+-- such numbers as a list that is lent to the bench call
+unfoldable pub lent : List ℕ → List ℕ → List ℕ
+lent plan list = bytesOf (numbersOf (inputWidth plan) list)
+
 -- the first numbers, as many as the plan has input gates, are the figures, and the rest are coins
 unfoldable pub figuresPart : List ℕ → List ℕ
-figuresPart bs = take (width * inputCount (planOf (planPart bs))) (listPart bs)
+figuresPart bs = take (width * inputCount (planOf (planPart bs))) (lent (planPart bs) (listPart bs))
 
 unfoldable pub coinsPart : List ℕ → List ℕ
-coinsPart bs = drop (width * inputCount (planOf (planPart bs))) (listPart bs)
+coinsPart bs = drop (width * inputCount (planOf (planPart bs))) (lent (planPart bs) (listPart bs))
 
--- over 32,768 bytes, too short for its plan and set, or with an odd byte after the set
+-- over 32,768 bytes, too short for its plan and set, or with bytes left over after the last number
 unfoldable pub unreadable : List ℕ → Bool
-unreadable bs = ltb 32768 (length bs) || (ltb (length bs) (4 + wordAt bs 0) || eqb (length (listPart bs) % 2) 1)
+unreadable bs =
+    ltb 32768 (length bs) || (ltb (length bs) (4 + wordAt bs 0) || not (eqb (length (listPart bs) % inputWidth (planPart bs)) 0))
 
 unfoldable pub benchOf : List ℕ → Checked
 benchOf bs =

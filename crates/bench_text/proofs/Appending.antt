@@ -17,7 +17,7 @@ use mir.Val.{Fits}
 use lib.Dec.{ltb}
 use lib.ListN.{length, take, drop, set, getD, length-append, length-set, drop-of-length-le}
 use lib.Seq.{take-all, take-append-le, take-suc-set, length-take-le, drop-cons, take-nil}
-use Rattle.numbers.specs.Bytes.{numbers}
+use Rattle.numbers.specs.Bytes.{width, numbers}
 use Rattle.numbers.proofs.Bytes.{numbers-length}
 use Rattle.bench_text.specs.Decimals.{digits, decimal, field, line}
 use Rattle.bench_text.specs.Texts.{Put}
@@ -190,12 +190,12 @@ module _ (xs : List ℕ) (from count at : ℕ) (old : List ℕ) where
 pub fields-on :
     (bs : List ℕ) (from count at : ℕ) (old new : List ℕ) (next k v : ℕ) (new′ : List ℕ) (next′ : ℕ)
     → Left (flatMap field (take count (drop from (numbers bs)))) at old new next (fieldsFrom (numbers bs) from count k)
-    → Put (field v) next new new′ next′ → v ≡ getD (numbers bs) (from + k) 0 → k < count → from + k < length bs / 2
+    → Put (field v) next new new′ next′ → v ≡ getD (numbers bs) (from + k) 0 → k < count → from + k < length bs / width
     → Left (flatMap field (take count (drop from (numbers bs)))) at old new′ next′ (fieldsFrom (numbers bs) from count (k + 1))
 fields-on bs from count at old new next k v new′ next′ h w e l m =
     fields-next (numbers bs) from count at old new next k h v new′ next′ l (omega (arith, numbers-length bs)) e w
 
-pub numbers-end : (bs : List ℕ) (i : ℕ) → length bs / 2 ≤ i → length (numbers bs) ≤ i
+pub numbers-end : (bs : List ℕ) (i : ℕ) → length bs / width ≤ i → length (numbers bs) ≤ i
 numbers-end bs i l = omega (arith, numbers-length bs)
 
 -- ---- numbers that are lent as they are

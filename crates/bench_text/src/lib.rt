@@ -63,7 +63,7 @@ fn put_fields(text: &mut [u8], at: usize, list: &[u8], from: usize, count: usize
     let mut next = at;
     let mut k: usize = 0;
     while k < count {
-        if list.len() / 2 <= from + k {
+        if list.len() / numbers::WIDTH <= from + k {
             return next;
         }
         next = put_field(text, next, numbers::read(list, from + k));

@@ -17,6 +17,7 @@ use lib.Seq.{length-take-le, take-all}
 use mir.Syntax.{w64}
 use mir.Val.{Fits}
 use Rattle.numbers.specs.Tables.{tab, total}
+use Rattle.numbers.specs.Bytes.{width, bytesOf}
 use Rattle.numbers.proofs.Fills.{fill-none, fill-next}
 use Rattle.plan.specs.declared.Header.{Header}
 use Rattle.plan.specs.declared.Reading.{Reading}
@@ -35,7 +36,7 @@ use Rattle.plan.proofs.Valid.{valid, plain}
 use Rattle.plan_counts.specs.declared.Tally.{Tally}
 use Rattle.plan_counts.specs.Counts.{Tallied}
 use Rattle.seat_messages.specs.Calls.{unlessRefused}
-use Rattle.charge_laws.specs.Charges.{elementsBy, elements, billFor, billOf, chargeOf, partsOf, partBytes}
+use Rattle.charge_laws.specs.Charges.{elementsBy, elements, billFor, billOf, chargeOf, partsOf}
 use Rattle.charge_laws.proofs.Elements.{elements-tab, elements-long, plain-elements, elements-sent}
 use Rattle.charge_laws.proofs.Parts.{bill-fits, parts-long}
 use Rattle.charge_call.specs.declared.Charged.{Charged}
@@ -132,13 +133,13 @@ module _ (bs : List ℕ) (h : Header) (p : Planned bs h) where
       unfolding chargeOf
       charge-is = ep ∙ ap₂ partsOf bill-is ee
 
-      pub bytes-room : (out : List ℕ) → length out ≡ 4 * h .n → length out ≡ 4 * length parts
+      pub bytes-room : (out : List ℕ) → length out ≡ width * h .n → length out ≡ width * length parts
       bytes-room out e =
           let sum : 1 ≤ total es = rw (← sent-sum es ee sent is) (sent-some sent is) in
-          e ∙ ap (λ (n : ℕ). 4 * n) (sym (ap length ep ∙ parts-long bill es sum ∙ ap length ee ∙ elements-long (planOf bs) ∙ plan-n p))
+          e ∙ ap (λ (n : ℕ). width * n) (sym (ap length ep ∙ parts-long bill es sum ∙ ap length ee ∙ elements-long (planOf bs) ∙ plan-n p))
 
-      pub bytes-are : (new : List ℕ) → new ≡ partBytes parts → new ≡ partBytes (chargeOf (planOf bs) price)
-      bytes-are new e = e ∙ ap partBytes charge-is
+      pub bytes-are : (new : List ℕ) → new ≡ bytesOf parts → new ≡ bytesOf (chargeOf (planOf bs) price)
+      bytes-are new e = e ∙ ap bytesOf charge-is
 
   -- ---- room for 15 parties
   pub room-part : (room : List ℕ) → length room ≡ 15 → length (take (h .n) room) ≡ h .n
@@ -207,7 +208,7 @@ module _ (bs : List ℕ) (price : ℕ) (out : List ℕ) where
     pub charge-planned : Planned bs h
     charge-planned = planned-read bs r h a e
 
-    pub room-fits : Fits w64 (4 * h .n)
+    pub room-fits : Fits w64 (width * h .n)
     room-fits = record { fits = omega (arith, charge-planned .n-high) }
 
     past-plan : chargeAnswer bs price (length out) ≡ firstOf (priceChecks bs price (length out))
@@ -226,18 +227,18 @@ module _ (bs : List ℕ) (price : ℕ) (out : List ℕ) where
       kept-dear = kept (chargeAnswer bs price (length out)) refusal.Price _ out dear
 
     module _ (l : price ≤ 1000000) where
-      past-price : chargeAnswer bs price (length out) ≡ need refusal.BufferLength (eqb (length out) (4 * h .n))
+      past-price : chargeAnswer bs price (length out) ≡ need refusal.BufferLength (eqb (length out) (width * h .n))
       unfolding priceChecks firstOf andThen need
-      past-price = past-plan ∙ rw (le-leb price 1000000 l, plan-n charge-planned) (by (eqb (length out) (4 * h .n)))
+      past-price = past-plan ∙ rw (le-leb price 1000000 l, plan-n charge-planned) (by (eqb (length out) (width * h .n)))
         where
           by : (t : Bool) → andThen (cond t Passed (Refused refusal.BufferLength)) Passed ≡ cond t Passed (Refused refusal.BufferLength)
           by true = refl
           by false = refl
 
-      module _ (ne : length out ≡ 4 * h .n → ⊥) where
+      module _ (ne : length out ≡ width * h .n → ⊥) where
         short : chargeAnswer bs price (length out) ≡ Refused refusal.BufferLength
         unfolding need
-        short = past-price ∙ rw (ne-eqb (length out) (4 * h .n) ne)
+        short = past-price ∙ rw (ne-eqb (length out) (width * h .n) ne)
 
         pub charge-short : charged.Refused refusal.BufferLength ≡ chargedOf (chargeAnswer bs price (length out)) (billOf (planOf bs) price)
         charge-short = charged-refused (chargeAnswer bs price (length out)) (billOf (planOf bs) price) refusal.BufferLength short
@@ -246,16 +247,16 @@ module _ (bs : List ℕ) (price : ℕ) (out : List ℕ) where
         unfolding chargeAfter
         kept-short = kept (chargeAnswer bs price (length out)) refusal.BufferLength _ out short
 
-      module _ (eq : length out ≡ 4 * h .n) where
+      module _ (eq : length out ≡ width * h .n) where
         passed : chargeAnswer bs price (length out) ≡ Passed
         unfolding need
-        passed = past-price ∙ rw (eq-eqb (length out) (4 * h .n) eq)
+        passed = past-price ∙ rw (eq-eqb (length out) (width * h .n) eq)
 
         pub charge-billed : (bill : ℕ) → bill ≡ billOf (planOf bs) price → charged.Bill bill ≡ chargedOf (chargeAnswer bs price (length out)) (billOf (planOf bs) price)
         unfolding chargedOf
         charge-billed bill e = rw (passed, e)
 
-        pub charge-written : (new : List ℕ) → new ≡ partBytes (chargeOf (planOf bs) price) → new ≡ chargeAfter bs price out
+        pub charge-written : (new : List ℕ) → new ≡ bytesOf (chargeOf (planOf bs) price) → new ≡ chargeAfter bs price out
         unfolding chargeAfter unlessRefused
         charge-written new e = rw passed e
 

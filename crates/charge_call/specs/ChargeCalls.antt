@@ -3,6 +3,7 @@ use Prim.Native.Nat.{ℕ, _*_}
 use mathlib.Core.List.{List, [], _∷_, _++_}
 use lib.Dec.{eqb, leb}
 use lib.ListN.{length}
+use Rattle.numbers.specs.Bytes.{width, bytesOf}
 use Rattle.plan.specs.declared.Checked.{Checked}
 use Rattle.plan.specs.declared.Checked.the-variants.{Passed, Refused}
 use Rattle.plan.specs.declared.Refusal.the-variants as refusal
@@ -10,15 +11,15 @@ use Rattle.plan.specs.Refusals.{firstOf, need}
 use Rattle.plan.specs.Plans.{partyCount}
 use Rattle.plan.specs.File.{planChecks, planOf}
 use Rattle.seat_messages.specs.Calls.{unlessRefused}
-use Rattle.charge_laws.specs.Charges.{chargeOf, partBytes}
+use Rattle.charge_laws.specs.Charges.{chargeOf}
 use Rattle.charge_call.specs.declared.Charged.{Charged}
 use Rattle.charge_call.specs.declared.Charged.the-variants as charged
 
--- 31, then 19: the price of 1,000 elements is at most 1,000,000 cents, and a part has four bytes
+-- 31, then 19: the price of 1,000 elements is at most 1,000,000 cents, and the buffer is a list of a part for each party
 unfoldable pub priceChecks : List ℕ → ℕ → ℕ → List Checked
 priceChecks bs price room =
     need refusal.Price (leb price 1000000)
-    ∷ need refusal.BufferLength (eqb room (4 * partyCount (planOf bs)))
+    ∷ need refusal.BufferLength (eqb room (width * partyCount (planOf bs)))
     ∷ []
 
 unfoldable pub chargeAnswer : List ℕ → ℕ → ℕ → Checked
@@ -31,4 +32,4 @@ chargedOf (Refused r) bill = charged.Refused r
 
 -- the lent buffer afterwards: the parts by party, ascending
 unfoldable pub chargeAfter : List ℕ → ℕ → List ℕ → List ℕ
-chargeAfter bs price out = unlessRefused (chargeAnswer bs price (length out)) (partBytes (chargeOf (planOf bs) price)) out
+chargeAfter bs price out = unlessRefused (chargeAnswer bs price (length out)) (bytesOf (chargeOf (planOf bs) price)) out

@@ -8,9 +8,10 @@ ghost use mathlib.Core.Bool.{cond};
 ghost use Prim.Native.Nat.{_*_, _<_, _≤_};
 ghost use lib.Dec.{leb};
 ghost use lib.ListN.{length};
+ghost use Rattle.numbers.specs.Bytes.{width, bytesOf};
 ghost use Rattle.plan.specs.File.{planOf};
 ghost use Rattle.plan.specs.Planned.{Planned};
-ghost use Rattle.charge_laws.specs.Charges.{elementsBy, elements, billFor, billOf, chargeOf, partBytes};
+ghost use Rattle.charge_laws.specs.Charges.{elementsBy, elements, billFor, billOf, chargeOf};
 ghost use Rattle.charge_call.specs.ChargeCalls.{chargeAnswer, chargedOf, chargeAfter};
 
 // What the charge answers: the bill in cents, or the first refusal.
@@ -81,9 +82,9 @@ fn write_charge(
     out: &mut [u8],
 ) -> u64
     requires { ⌜ Planned (now plan) h ⌝ }
-    requires { ⌜ record { price : price ≤ 1000000; es : length (now es) ≡ h .n; parts : length (now parts) ≡ h .n; rests : length (now rests) ≡ h .n; out : length (now out) ≡ 4 * h .n } ⌝ }
+    requires { ⌜ record { price : price ≤ 1000000; es : length (now es) ≡ h .n; parts : length (now parts) ≡ h .n; rests : length (now rests) ≡ h .n; out : length (now out) ≡ width * h .n } ⌝ }
     ensures bill { λ r. ⌜ r ≡ billOf (planOf (now (plan .entry))) price ⌝ }
-    ensures out { λ _. ⌜ now (out .exit) ≡ partBytes (chargeOf (planOf (now (plan .entry))) price) ⌝ }
+    ensures out { λ _. ⌜ now (out .exit) ≡ bytesOf (chargeOf (planOf (now (plan .entry))) price) ⌝ }
 {
     put_elements(plan, h, es);
     let sent = plan_sizes::sent_count(plan, h) as u64;
@@ -95,9 +96,9 @@ fn write_charge(
 
 fn write_all(plan: &[u8], h: Header, price: u32, out: &mut [u8]) -> u64
     requires { ⌜ Planned (now plan) h ⌝ }
-    requires { ⌜ record { price : price ≤ 1000000; out : length (now out) ≡ 4 * h .n } ⌝ }
+    requires { ⌜ record { price : price ≤ 1000000; out : length (now out) ≡ width * h .n } ⌝ }
     ensures bill { λ r. ⌜ r ≡ billOf (planOf (now (plan .entry))) price ⌝ }
-    ensures out { λ _. ⌜ now (out .exit) ≡ partBytes (chargeOf (planOf (now (plan .entry))) price) ⌝ }
+    ensures out { λ _. ⌜ now (out .exit) ≡ bytesOf (chargeOf (planOf (now (plan .entry))) price) ⌝ }
 {
     let n = h.n;
     let mut es = [0u64; 15];
@@ -114,7 +115,7 @@ fn write_all(plan: &[u8], h: Header, price: u32, out: &mut [u8]) -> u64
     )
 }
 
-// The charge for a run of a plan at a price for 1,000 elements: writes the parts by party, four bytes each, and answers the bill; or answers
+// The charge for a run of a plan at a price for 1,000 elements: writes the list of parts by party and answers the bill; or answers
 // the first of refusals 1 to 8, 31 and 19 that falls on it, and writes nothing.
 pub fn charge(plan: &[u8], price: u32, out: &mut [u8]) -> Charged
     ensures answer { λ r. ⌜ r ≡ chargedOf (chargeAnswer (now (plan .entry)) price (length (now (out .entry)))) (billOf (planOf (now (plan .entry))) price) ⌝ }
@@ -127,7 +128,7 @@ pub fn charge(plan: &[u8], price: u32, out: &mut [u8]) -> Charged
     if 1000000 < price {
         return Charged::Refused(Refusal::Price);
     }
-    if out.len() != 4 * h.n {
+    if out.len() != numbers::WIDTH * h.n {
         return Charged::Refused(Refusal::BufferLength);
     }
     Charged::Bill(write_all(plan, h, price, out))

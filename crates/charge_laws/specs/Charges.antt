@@ -1,7 +1,7 @@
 -- The line charge (document 02, R-14): what each party sends, the carrier's bill in cents, and each party's part of it.
 use Prim.Native.Nat.{ℕ, zero, suc, _+_, _-_, _*_, _/_, _%_}
 use mathlib.Core.Bool.{cond}
-use mathlib.Core.List.{List, [], _∷_, map, flatMap}
+use mathlib.Core.List.{List, map}
 use lib.Dec.{ltb}
 use lib.ListN.{length, getD, set}
 use Rattle.numbers.specs.Tables.{tab, total}
@@ -71,10 +71,3 @@ billOf plan price = billFor (sentCount plan) price
 
 unfoldable pub chargeOf : Plan → ℕ → List ℕ
 chargeOf plan price = partsOf (billOf plan price) (elements plan)
-
--- ---- the parts as bytes: four each, the low byte first, whatever other lists have
-unfoldable pub fourBytes : ℕ → List ℕ
-fourBytes x = x % 256 ∷ x / 256 % 256 ∷ x / 65536 % 256 ∷ x / 16777216 % 256 ∷ []
-
-unfoldable pub partBytes : List ℕ → List ℕ
-partBytes xs = flatMap fourBytes xs

@@ -1,11 +1,11 @@
 -- The loops over the parts.
---     putting       parts as bytes
+--     putting       parts as a list
 --     summing       a sum
 --     seeking       the greatest
 --     dividing      parts rounded down, with what that leaves over
 -- Assumes nothing.
-use mathlib.Core.Path.{_≡_, refl, sym, ap, ap₂, _∙_}
-use mathlib.Core.List.{List, [], _∷_, _++_, flatMap}
+use mathlib.Core.Path.{_≡_, refl, sym, ap, _∙_}
+use mathlib.Core.List.{List, [], _∷_}
 use Prim.Native.Nat.{ℕ, suc, _+_, _-_, _*_, _/_, _%_, _<_, _≤_}
 use native.Mathlib.Nat.{mul-le-mul}
 use native.Mathlib.Numerals.{add-one}
@@ -13,79 +13,21 @@ use native.Mathlib.Omega.{arith}
 use borrow.Author.Needs.{needs}
 use borrow.Author.Tests.{lt-ltb, le-ltb}
 use lib.ListN.{length, getD, take, drop, set, length-set, take-append-drop}
-use lib.Seq.{sets, length-sets, take-suc, take-all, length-take-le}
+use lib.Seq.{take-suc, take-all}
 use mir.Syntax.{w64}
 use mir.Val.{Fits}
 use Rattle.numbers.specs.Tables.{tab, total}
-use Rattle.numbers.proofs.Rows.{flat-snoc, flat-length, sets-append, sets-all}
-use Rattle.numbers.proofs.Fills.{Filled, fill-none, fill-next, filled}
-use Rattle.charge_laws.specs.Charges.{floorAt, remainderAt, greaterAt, greatestFrom, greatest, fourBytes, partBytes}
+use Rattle.numbers.specs.Bytes.{width, bytesOf}
+use Rattle.numbers.proofs.Tables.{list-tab}
+use Rattle.numbers.proofs.Fills.{Filled, fill-none, fill-next, filled, Stored, stored-all, storing}
+use Rattle.charge_laws.specs.Charges.{floorAt, remainderAt, greaterAt, greatestFrom, greatest}
 use Rattle.charge_laws.proofs.Totals.{total-append, entry-total, greater-in}
 
--- ---- a part as bytes
-module _ (s : List ℕ) (i : ℕ) (l : 4 * i + 4 ≤ length s) where
-  pub second-in : (v : ℕ) → 4 * i + 1 < length (set s (4 * i) v)
-  second-in v = rw length-set (omega arith)
+-- ---- the parts as a list
+pub parts-put : (parts d₀ d : List ℕ) (i : ℕ) → Stored (λ k. getD parts k 0) (length parts) d₀ d i → length parts ≤ i → length d₀ ≡ width * length parts → d ≡ bytesOf parts
+parts-put parts d₀ d i h l e = stored-all (λ k. getD parts k 0) (length parts) d₀ d i h l e ∙ ap bytesOf (sym (list-tab parts 0))
 
-  pub third-in : (v w : ℕ) → 4 * i + 2 < length (set (set s (4 * i) v) (4 * i + 1) w)
-  third-in v w = rw (length-set, length-set) (omega arith)
-
-  pub fourth-in : (v w x : ℕ) → 4 * i + 3 < length (set (set (set s (4 * i) v) (4 * i + 1) w) (4 * i + 2) x)
-  fourth-in v w x = rw (length-set, length-set, length-set) (omega arith)
-
-pub part-put : (s : List ℕ) (i v : ℕ)
-    → set (set (set (set s (4 * i) (v % 256)) (4 * i + 1) (v / 256 % 256)) (4 * i + 2) (v / 65536 % 256)) (4 * i + 3) (v / 16777216 % 256) ≡ sets s (4 * i) (fourBytes v)
-unfolding fourBytes
-part-put s i v =
-    let a : 4 * i + 1 ≡ suc (4 * i) = omega arith in
-    let b : 4 * i + 2 ≡ suc (suc (4 * i)) = omega arith in
-    let c : 4 * i + 3 ≡ suc (suc (suc (4 * i))) = omega arith in
-    rw (a, b, c) refl
-
--- the first i parts stand
-pub record Put (parts d₀ d : List ℕ) (i : ℕ) : Type 0 where
-  pub within : i ≤ length parts
-  pub room : length d₀ ≡ 4 * length parts
-  pub long : length d ≡ length d₀
-  pub is : d ≡ sets d₀ 0 (partBytes (take i parts))
-
-four : (x : ℕ) → length (fourBytes x) ≡ 4
-unfolding fourBytes
-four x = refl
-
-part-bytes : (xs : List ℕ) → length (partBytes xs) ≡ 4 * length xs
-unfolding partBytes
-part-bytes xs = flat-length fourBytes 4 four xs
-
-pub put-none : (parts d : List ℕ) → length d ≡ 4 * length parts → Put parts d d 0
-unfolding partBytes flatMap
-put-none parts d e = record { within = omega arith; room = e; long = refl; is = refl }
-
-module _ (parts d₀ d : List ℕ) (i : ℕ) (h : Put parts d₀ d i) where
-  pub put-room : i < length parts → 4 * i + 4 ≤ length d
-  put-room l = omega (arith, h .room, h .long)
-
-  pub put-next : (e : List ℕ) → i < length parts → e ≡ sets d (4 * i) (fourBytes (getD parts i 0)) → Put parts d₀ e (i + 1)
-  put-next e l to =
-      let snoc : partBytes (take (i + 1) parts) ≡ partBytes (take i parts) ++ fourBytes (getD parts i 0)
-      = unfold partBytes in (rw add-one (ap (flatMap fourBytes) (take-suc parts i 0 l) ∙ flat-snoc fourBytes (take i parts) (getD parts i 0))) in
-      let at : 4 * i ≡ 0 + length (partBytes (take i parts)) = omega (arith, part-bytes (take i parts), length-take-le i parts (h .within)) in
-      record {
-        within = omega arith;
-        room = h .room;
-        long = ap length to ∙ length-sets d (4 * i) (fourBytes (getD parts i 0)) ∙ h .long;
-        is =
-            to ∙ ap₂ (λ (l : List ℕ) (n : ℕ). sets l n (fourBytes (getD parts i 0))) (h .is) at
-            ∙ sym (sets-append d₀ 0 (partBytes (take i parts)) (fourBytes (getD parts i 0))) ∙ ap (sets d₀ 0) (sym snoc);
-      }
-
-  pub put-long : length d ≡ length d₀
-  put-long = h .long
-
-  pub put-all : length parts ≤ i → d ≡ partBytes parts
-  put-all l = h .is ∙ rw (take-all i parts l) (sets-all d₀ (partBytes parts) (part-bytes parts ∙ sym (h .room)))
-
-pub ruleset putting = (needs, second-in, third-in, fourth-in, part-put, put-none, put-room, put-next, put-long, put-all)
+pub ruleset putting = (storing, parts-put)
 
 -- ---- a sum: k is that of the first i
 pub record Summed (xs : List ℕ) (k i : ℕ) : Type 0 where

@@ -1,10 +1,10 @@
-// A bill's parts (document 02, R-14): rounded down, then the cents left over, and the parts as bytes.
+// A bill's parts (document 02, R-14): rounded down, then the cents left over, and the parts as a list that is lent.
 ghost use mathlib.Core.Path.{_≡_};
 ghost use Prim.Native.Nat.{_+_, _*_, _<_, _≤_};
 ghost use lib.ListN.{length};
-ghost use lib.Seq.{sets};
 ghost use Rattle.numbers.specs.Tables.{tab, total};
-ghost use Rattle.charge_laws.specs.Charges.{floorAt, remainderAt, leftOver, greaterAt, greatest, give, sharesFirst, partsOf, fourBytes, partBytes};
+ghost use Rattle.numbers.specs.Bytes.{width, bytesOf};
+ghost use Rattle.charge_laws.specs.Charges.{floorAt, remainderAt, leftOver, greaterAt, greatest, give, sharesFirst, partsOf};
 
 // ---- rounded down
 
@@ -91,27 +91,15 @@ pub fn share(bill: u64, sent: u64, es: &[u64], parts: &mut [u64], rests: &mut [u
     give(bill - floors, parts, rests);
 }
 
-// ---- as bytes
-
-// Part i: four bytes, the low one first.
-fn put_part(out: &mut [u8], i: usize, v: u64)
-    requires { ⌜ 4 * i + 4 ≤ length (now out) ⌝ }
-    ensures { λ _. ⌜ now (out .exit) ≡ sets (now (out .entry)) (4 * i) (fourBytes v) ⌝ }
-{
-    let at = 4 * i;
-    out[at] = (v % 256) as u8;
-    out[at + 1] = (v / 256 % 256) as u8;
-    out[at + 2] = (v / 65536 % 256) as u8;
-    out[at + 3] = (v / 16777216 % 256) as u8;
-}
+// ---- as a list
 
 pub fn put_parts(parts: &[u64], out: &mut [u8])
-    requires { ⌜ length (now out) ≡ 4 * length (now parts) ⌝ }
-    ensures { λ _. ⌜ now (out .exit) ≡ partBytes (now (parts .entry)) ⌝ }
+    requires { ⌜ length (now out) ≡ width * length (now parts) ⌝ }
+    ensures { λ _. ⌜ now (out .exit) ≡ bytesOf (now (parts .entry)) ⌝ }
 {
     let mut i: usize = 0;
     while i < parts.len() {
-        put_part(out, i, parts[i]);
+        numbers::write(out, i, parts[i]);
         i += 1;
     }
 }

@@ -44,7 +44,7 @@ pub zero-bytes : (n : ℕ) → bytesOf (replicate n 0) ≡ replicate (width * n)
 unfolding bytesOf bytesFrom
 zero-bytes zero = refl
 zero-bytes (suc n) =
-    let e : 2 * suc n ≡ suc (suc (2 * n)) = omega arith in
+    let e : width * suc n ≡ suc (suc (suc (suc (width * n)))) = omega arith in
     rw (e, zero-bytes n)
 
 -- ---- a part of what was joined

@@ -6,11 +6,12 @@ use mathlib.Core.Logic.{_⊎_}
 use mathlib.Core.List.{List, [], _∷_}
 use lib.ListN.{length, getD, replicate}
 use Rattle.numbers.specs.Tables.{total}
+use Rattle.numbers.specs.Bytes.{limit, bytesOf}
 use Rattle.plan.specs.declared.Checked.the-variants.{Passed}
 use Rattle.plan.specs.Refusals.{codeOf}
 use Rattle.plan.specs.Plans.{Plan, partyCount, sentCount}
 use Rattle.plan.specs.File.{planOf}
-use Rattle.charge_laws.specs.Charges.{elements, floorAt, remainderAt, billOf, chargeOf, partBytes}
+use Rattle.charge_laws.specs.Charges.{elements, floorAt, remainderAt, billOf, chargeOf}
 use Rattle.charge_call.specs.ChargeCalls.{chargeAnswer, chargeAfter}
 use Rattle.demands.specs.Sums.{likeK}
 
@@ -40,12 +41,12 @@ pub record Charged (plan : Plan) (price : ℕ) : Type 0 where
   pub least : 1000 * billOf plan price < sentCount plan * price + 1000
   pub shared : Shared (billOf plan price) (elements plan) (chargeOf plan price)
 
--- where nothing is refused, the buffer holds a part for each party, whole in its four bytes
+-- where nothing is refused, the buffer is the list of a part for each party, each whole in its bytes
 pub record ChargedBytes (bytes : List ℕ) (price : ℕ) (out : List ℕ) : Type 0 where
   pub charged : Charged (planOf bytes) price
-  pub written : chargeAfter bytes price out ≡ partBytes (chargeOf (planOf bytes) price)
+  pub written : chargeAfter bytes price out ≡ bytesOf (chargeOf (planOf bytes) price)
   pub parts : length (chargeOf (planOf bytes) price) ≡ partyCount (planOf bytes)
-  pub whole : (i : ℕ) → getD (chargeOf (planOf bytes) price) i 0 < 4294967296
+  pub whole : (i : ℕ) → getD (chargeOf (planOf bytes) price) i 0 < limit
 
 abbrev pub ChargedRight : Type 0
 ChargedRight = (bytes : List ℕ) (price : ℕ) (out : List ℕ) → chargeAnswer bytes price (length out) ≡ Passed → ChargedBytes bytes price out

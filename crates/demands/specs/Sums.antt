@@ -3,7 +3,7 @@ use Prim.Native.Nat.{ℕ, _+_, _*_}
 use mathlib.Core.Path.{_≡_}
 use mathlib.Core.Bool.{true}
 use mathlib.Core.List.{List, [], _∷_, _++_, map}
-use Rattle.numbers.specs.Bytes.{bytesOf, allBelow}
+use Rattle.numbers.specs.Bytes.{width, bytesOf, allBelow}
 use Rattle.sharing_laws.specs.Interp.{weights, interpolate, delta}
 use Rattle.plan.specs.Refusals.{codeOf, firstOf}
 use Rattle.plan.specs.Plans.{Plan, pointOf}
@@ -88,7 +88,7 @@ benchOf set xs room = codeOf (benchAnswer (likeK 3 1 11 0) set (bytesOf xs) (byt
 
 -- the answer to seat 3's last call in P1's run, with this mail
 unfoldable pub lastCallOf : List ℕ → ℕ
-lastCallOf mail = codeOf (callAnswer (likeK 3 1 11 0) 3 [] (bytesOf (7 ∷ [])) (bytesOf (3 ∷ 10 ∷ 3 ∷ 5 ∷ 4 ∷ [])) (bytesOf mail) 2)
+lastCallOf mail = codeOf (callAnswer (likeK 3 1 11 0) 3 [] (bytesOf (7 ∷ [])) (bytesOf (3 ∷ 10 ∷ 3 ∷ 5 ∷ 4 ∷ [])) (bytesOf mail) width)
 
 -- P5's second list
 abbrev pub inputs5 : List ℕ

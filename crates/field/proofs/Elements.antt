@@ -2,7 +2,7 @@
 use mathlib.Core.Path.{_≡_, refl, sym, ap, _∙_}
 use mathlib.Core.Bool.{Bool, true, false, _&&_, cond}
 use Prim.Native.Nat.{ℕ, _+_, _-_, _*_, _/_, _%_, _^_, _≤_, _<_}
-use native.Mathlib.Nat.{mul-assoc, mul-comm, mul-right-comm, mul-add, add-mul, mul-le-mul-left, mul-le-mul-right, mod-lt, mod-eq-of-lt, div-add-mod', add-mul-mod-self-right, div-lt-self}
+use native.Mathlib.Nat.{mod-lt, div-lt-self}
 use native.Mathlib.Omega.{arith}
 use borrow.Author.Needs.{needs}
 use borrow.Author.Tests.{ltb-true, lt-ltb, le-ltb}
@@ -12,7 +12,7 @@ use Rattle.field.specs.declared.Made.{Made}
 use Rattle.field.specs.declared.Made.the-variants as made
 use Rattle.field.specs.Mod.{add, mul, sub}
 use Rattle.field.specs.Prime.{isPrime, Prime, inv}
-use Rattle.field.specs.Field.{fieldLimit, madeOf, Is, reciprocal, Reducible}
+use Rattle.field.specs.Field.{fieldLimit, madeOf, Is}
 use Rattle.field.proofs.Solve.{sub-down, sub-over, #, quote, solve}
 use Rattle.field.proofs.Primes.{prime-sound}
 use Rattle.field.proofs.Inverse.{inv-canon, inv-step, inv-small}
@@ -84,58 +84,7 @@ is-sub-over p a b h k = record { eq = sym (sub-over p a b h k); lt = omega arith
 pub product-fits : (p a b : ℕ) → p < fieldLimit → a < p → b < p → a * b < 2 ^ 64
 product-fits p a b small l r = omega (arith, word a b (omega arith) (omega arith))
 
-pub is-reciprocal : (p : ℕ) → 68719476736 / p ≡ reciprocal p
-unfolding reciprocal
-is-reciprocal p = refl
-
--- the quotient by the reciprocal: 2^36 = m·p + s and x·m = q·2^36 + u, so x·2^36 = q·p·2^36 + u·p + x·s, where u·p and x·s are each below p·2^36
-module _ (p m x : ℕ) (r : Reducible p m x) where
-  sum-small : x ≤ 68719476736
-  sum-small = omega (arith, r .sum, word p p (r .small) (r .small))
-
-  reciprocal-parts : m * p + 68719476736 % p ≡ 68719476736
-  unfolding reciprocal
-  reciprocal-parts = rw (r .by) (div-add-mod' 68719476736 p)
-
-  parts : x * 68719476736 ≡ x * m / 68719476736 * p * 68719476736 + x * m % 68719476736 * p + x * (68719476736 % p)
-  parts =
-      ap (λ (n : ℕ). x * n) (sym reciprocal-parts)
-      ∙ mul-add x (m * p) (68719476736 % p)
-      ∙ ap (λ (n : ℕ). n + x * (68719476736 % p))
-      (sym (mul-assoc x m p)
-      ∙ ap (λ (n : ℕ). n * p) (sym (div-add-mod' (x * m) 68719476736))
-      ∙ add-mul (x * m / 68719476736 * 68719476736) (x * m % 68719476736) p
-      ∙ ap (λ (n : ℕ). n + x * m % 68719476736 * p) (mul-right-comm (x * m / 68719476736) 68719476736 p))
-
-  pub quotient-low : x * m / 68719476736 * p ≤ x
-  quotient-low = omega (arith, parts)
-
-  quotient-near : x < x * m / 68719476736 * p + p + p
-  quotient-near =
-      let left : x * m % 68719476736 * p ≤ 68719476735 * p = mul-le-mul-right p (omega (arith, mod-lt (x * m) {m = 68719476736} (omega arith))) in
-      let right : x * (68719476736 % p) ≤ 68719476736 * (68719476736 % p) = mul-le-mul-right (68719476736 % p) sum-small in
-      omega (arith, parts, mod-lt 68719476736 {m = p} (omega (arith, r .above)), r .above)
-
-  pub quotient-fits : x * m / 68719476736 * p < 2 ^ 64
-  quotient-fits = omega (arith, quotient-low, sum-small)
-
-  pub scaled-fits : x * m < 2 ^ 64
-  scaled-fits =
-      let a : x * m ≤ 16 * (p * p) * m = mul-le-mul-right m (r .sum) in
-      let b : p * (m * p) ≤ p * 68719476736 = mul-le-mul-left p (omega (arith, reciprocal-parts)) in
-      let c : 16 * (p * p) * m ≡ 16 * (p * (m * p)) = mul-assoc 16 (p * p) m ∙ ap (λ (n : ℕ). 16 * n) (mul-assoc p p m ∙ ap (λ (n : ℕ). p * n) (mul-comm p m)) in
-      omega (arith, r .small)
-
-  rest-is : (q y : ℕ) → y < p → x ≡ y + q * p → Is p (x % p) y
-  rest-is q y l e = record { eq = sym (ap (λ (n : ℕ). n % p) e ∙ add-mul-mod-self-right y q p ∙ mod-eq-of-lt l); lt = l }
-
-  pub reduced-over : p ≤ x - x * m / 68719476736 * p → Is p (x % p) (x - x * m / 68719476736 * p - p)
-  reduced-over l = rest-is (x * m / 68719476736 + 1) _ (omega (arith, quotient-near)) (omega (arith, quotient-low, add-mul (x * m / 68719476736) 1 p))
-
-  pub reduced-under : x - x * m / 68719476736 * p < p → Is p (x % p) (x - x * m / 68719476736 * p)
-  reduced-under l = rest-is (x * m / 68719476736) _ l (omega (arith, quotient-low))
-
-pub ruleset methods = (needs, product-fits, is-reciprocal, scaled-fits, quotient-fits, quotient-low, reduced-over, reduced-under, is-element, is-add, is-mul, is-sub-down, is-sub-over, made-above, made-field, made-refused)
+pub ruleset methods = (needs, product-fits, is-element, is-add, is-mul, is-sub-down, is-sub-over, made-above, made-field, made-refused)
 
 -- for a caller: a method's result, where its arguments are results
 pub is-itself : (p a : ℕ) → a < p → Is p a a

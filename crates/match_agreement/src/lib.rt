@@ -58,7 +58,7 @@ fn check_coins(plan: &[u8], h: Header, coins: &[u8], room: usize) -> Checked
     if let Found::At(i) = numbers::first_over(coins, h.field.p) {
         return Checked::Refused(Refusal::CoinValue(i));
     }
-    if room != 2 * count {
+    if room != numbers::WIDTH * count {
         return Checked::Refused(Refusal::BufferLength);
     }
     Checked::Passed

@@ -22,7 +22,7 @@ use lib.Seq.{ext-getD, getD-take, getD-drop, getD-set-same, getD-set-other, set-
 use mir.Syntax.{w8}
 use mir.Val.{Fits}
 use Rattle.numbers.specs.Tables.{tab}
-use Rattle.numbers.specs.Bytes.{width, limit, numberAt, bytesFrom, wordAt, numbers, bytesOf, holdsCount, stored}
+use Rattle.numbers.specs.Bytes.{width, limit, numberAt, bytesFrom, wordAt, numbersOf, numbers, bytesOf, holdsCount, stored}
 use Rattle.numbers.proofs.Tables.{tab-cons, tab-ext, length-tab, getD-tab}
 
 -- every entry is below p
@@ -107,22 +107,22 @@ number-bytes (suc w) bs at l h =
 
 -- ---- the numbers of bytes
 pub numbers-length : (bs : List ℕ) → length (numbers bs) ≡ length bs / width
-unfolding numbers
+unfolding numbers numbersOf
 numbers-length bs = length-tab (λ i. numberAt width bs (width * i)) (length bs / width)
 
 pub getD-numbers : (bs : List ℕ) (i : ℕ) → i < length bs / width → getD (numbers bs) i 0 ≡ numberAt width bs (width * i)
-unfolding numbers
+unfolding numbers numbersOf
 getD-numbers bs i l = getD-tab (λ k. numberAt width bs (width * k)) (length bs / width) i 0 l
 
 pub getD-numbers-past : (bs : List ℕ) (i : ℕ) → length bs / width ≤ i → getD (numbers bs) i 0 ≡ 0
 getD-numbers-past bs i l = List·getD-eq-default (numbers bs) 0 (omega (arith, numbers-length bs))
 
 pub numbers-nil : numbers [] ≡ []
-unfolding numbers tab
+unfolding numbers numbersOf tab
 numbers-nil = refl
 
 pub numbers-cons : (cs bs : List ℕ) → length cs ≡ width → numbers (cs ++ bs) ≡ numberAt width cs 0 ∷ numbers bs
-unfolding numbers
+unfolding numbers numbersOf
 numbers-cons cs bs e =
     let n : length (cs ++ bs) / width ≡ suc (length bs / width) = omega (arith, length-append cs bs) in
     ap (tab (λ i. numberAt width (cs ++ bs) (width * i))) n

@@ -1,7 +1,7 @@
 -- What each way through the code says of its definition.
 --     coding       what closes the needs of every function
 -- Assumes nothing.
-use mathlib.Core.Path.{_≡_, refl, sym, _∙_}
+use mathlib.Core.Path.{_≡_, refl, sym, ap, _∙_}
 use mathlib.Core.Bool.{Bool, true, false}
 use mathlib.Core.List.{List}
 use Prim.Native.Nat.{ℕ, suc, _+_, _*_, _/_, _%_, _<_, _≤_}
@@ -9,10 +9,10 @@ use native.Mathlib.Omega.{arith}
 use borrow.Author.Needs.{needs}
 use borrow.Author.Tests.{eqb-true, eqb-false, eq-eqb, ne-eqb, lt-ltb, le-ltb}
 use lib.Dec.{eqb, ltb}
-use lib.ListN.{length, getD, drop, set, length-set, List·getD-eq-default}
-use Rattle.numbers.specs.Bytes.{bytesFrom, wordAt, numbers, holdsCount, stored, firstOver, allBelow}
+use lib.ListN.{length, getD, drop, set, List·getD-eq-default}
+use Rattle.numbers.specs.Bytes.{width, numberAt, bytesFrom, wordAt, numbers, holdsCount, stored, firstOver, allBelow}
 use Rattle.numbers.specs.declared.Found.the-variants.{At, Nothing}
-use Rattle.numbers.proofs.Bytes.{numbers-length, getD-numbers, getD-numbers-past, word-past, word-number, stored-in, stored-past}
+use Rattle.numbers.proofs.Bytes.{numbers-length, getD-numbers, getD-numbers-past, word-past, stored-in, stored-past}
 use Rattle.numbers.proofs.Searches.{Seeking, begin, found, passed, nothing}
 use Rattle.numbers.proofs.Below.{allBelow-next, allBelow-over, allBelow-end}
 
@@ -27,52 +27,64 @@ word-some s at x y e f = rw (e, f)
 pub word-none : (s : List ℕ) (at : ℕ) → length s ≤ at → 0 ≡ wordAt s at
 word-none s at l = sym (word-past s at l)
 
-pub number-some : (s : List ℕ) (i x : ℕ) → i < length s / 2 → x ≡ wordAt s (2 * i) → x ≡ getD (numbers s) i 0
-number-some s i x l e = e ∙ word-number s (2 * i) ∙ sym (getD-numbers s i l)
+pub number-some :
+    (s : List ℕ) (i a b c d : ℕ) → i < length s / width → a ≡ getD s (width * i) 0 → b ≡ getD s (width * i + 1) 0 → c ≡ getD s (width * i + 2) 0 → d ≡ getD s (width * i + 3) 0
+    → a + 256 * b + 65536 * c + 16777216 * d ≡ getD (numbers s) i 0
+unfolding numberAt
+number-some s i a b c d l ea eb ec ed =
+    let at : ℕ → ℕ = λ k. getD s k 0 in
+    let x : width * i + 1 ≡ suc (width * i) = omega arith in
+    let y : width * i + 2 ≡ suc (suc (width * i)) = omega arith in
+    let z : width * i + 3 ≡ suc (suc (suc (width * i))) = omega arith in
+    let sum : a + 256 * b + 65536 * c + 16777216 * d ≡ numberAt width s (width * i) = omega (arith, eb ∙ ap at x, ec ∙ ap at y, ed ∙ ap at z) in
+    sum ∙ sym (getD-numbers s i l)
 
-pub number-none : (s : List ℕ) (i : ℕ) → length s / 2 ≤ i → 0 ≡ getD (numbers s) i 0
+pub number-none : (s : List ℕ) (i : ℕ) → length s / width ≤ i → 0 ≡ getD (numbers s) i 0
 number-none s i l = sym (getD-numbers-past s i l)
 
 -- ---- a write
-pub write-some : (s : List ℕ) (i v : ℕ) → i < length s / 2 → set (set s (2 * i) (v % 256)) (2 * i + 1) (v / 256 % 256) ≡ stored s i v
+pub write-some :
+    (s : List ℕ) (i v a b c d : ℕ) → i < length s / width → a ≡ v % 256 → b ≡ v / 256 % 256 → c ≡ v / 256 / 256 % 256 → d ≡ v / 256 / 256 / 256 % 256
+    → set (set (set (set s (width * i) a) (width * i + 1) b) (width * i + 2) c) (width * i + 3) d ≡ stored s i v
 unfolding bytesFrom
-write-some s i v l = let e : 2 * i + 1 ≡ suc (2 * i) = omega arith in rw e (stored-in s i v (omega arith))
+write-some s i v a b c d l ea eb ec ed =
+    let x : width * i + 1 ≡ suc (width * i) = omega arith in
+    let y : width * i + 2 ≡ suc (suc (width * i)) = omega arith in
+    let z : width * i + 3 ≡ suc (suc (suc (width * i))) = omega arith in
+    rw (x, y, z, ea, eb, ec, ed) (stored-in s i v (omega arith))
 
-pub high-in : (s : List ℕ) (i v : ℕ) → i < length s / 2 → 2 * i + 1 < length (set s (2 * i) v)
-high-in s i v l = rw length-set (omega arith)
-
-pub write-none : (s : List ℕ) (i v : ℕ) → length s / 2 ≤ i → s ≡ stored s i v
+pub write-none : (s : List ℕ) (i v : ℕ) → length s / width ≤ i → s ≡ stored s i v
 write-none s i v l = stored-past s i v (omega arith)
 
 -- ---- a count
-pub count-odd : (s : List ℕ) (k : ℕ) → (length s % 2 ≡ 0 → ⊥) → false ≡ holdsCount k s
+pub count-left : (s : List ℕ) (k : ℕ) → (length s % width ≡ 0 → ⊥) → false ≡ holdsCount k s
 unfolding holdsCount
-count-odd s k h = sym (ne-eqb (length s) (2 * k) (λ e. h (omega arith)))
+count-left s k h = sym (ne-eqb (length s) (width * k) (λ e. h (omega arith)))
 
 same-test : (a b c d : ℕ) → (a ≡ b → c ≡ d) → (c ≡ d → a ≡ b) → (t : Bool) → eqb a b ≡ t → eqb a b ≡ eqb c d
 same-test a b c d there back true e = e ∙ sym (eq-eqb c d (there (eqb-true a b e)))
 same-test a b c d there back false e = e ∙ sym (ne-eqb c d (λ q. eqb-false a b e (back q)))
 
-pub count-even : (s : List ℕ) (k : ℕ) → length s % 2 ≡ 0 → eqb (length s / 2) k ≡ holdsCount k s
+pub count-whole : (s : List ℕ) (k : ℕ) → length s % width ≡ 0 → eqb (length s / width) k ≡ holdsCount k s
 unfolding holdsCount
-count-even s k h = same-test (length s / 2) k (length s) (2 * k) (λ e. omega arith) (λ e. omega arith) (eqb (length s / 2) k) refl
+count-whole s k h = same-test (length s / width) k (length s) (width * k) (λ e. omega arith) (λ e. omega arith) (eqb (length s / width) k) refl
 
 -- ---- the search for a number that isn't below p
 -- number i is below p
 abbrev pub isBelow : List ℕ → ℕ → ℕ → Bool
 isBelow s p i = ltb (getD (numbers s) i 0) p
 
-module _ (s : List ℕ) (p i x : ℕ) (h : Seeking (isBelow s p) (length s / 2) i) (l : i < length s / 2) (e : x ≡ getD (numbers s) i 0) where
+module _ (s : List ℕ) (p i x : ℕ) (h : Seeking (isBelow s p) (length s / width) i) (l : i < length s / width) (e : x ≡ getD (numbers s) i 0) where
   pub over-found : p ≤ x → At i ≡ firstOver p (numbers s)
   unfolding firstOver
-  over-found o = rw numbers-length (found (isBelow s p) (length s / 2) i h l (rw (← e) (le-ltb x p o)))
+  over-found o = rw numbers-length (found (isBelow s p) (length s / width) i h l (rw (← e) (le-ltb x p o)))
 
-  pub over-passed : x < p → Seeking (isBelow s p) (length s / 2) (i + 1)
-  over-passed o = passed (isBelow s p) (length s / 2) i h l (rw (← e) (lt-ltb x p o))
+  pub over-passed : x < p → Seeking (isBelow s p) (length s / width) (i + 1)
+  over-passed o = passed (isBelow s p) (length s / width) i h l (rw (← e) (lt-ltb x p o))
 
-pub over-nothing : (s : List ℕ) (p i : ℕ) → Seeking (isBelow s p) (length s / 2) i → length s / 2 ≤ i → Nothing ≡ firstOver p (numbers s)
+pub over-nothing : (s : List ℕ) (p i : ℕ) → Seeking (isBelow s p) (length s / width) i → length s / width ≤ i → Nothing ≡ firstOver p (numbers s)
 unfolding firstOver
-over-nothing s p i h l = rw numbers-length (nothing (isBelow s p) (length s / 2) i h l)
+over-nothing s p i h l = rw numbers-length (nothing (isBelow s p) (length s / width) i h l)
 
 -- ---- whether all from a place on are below p
 -- the invariant of the loop at i: what is left to test is what there is to test
@@ -83,13 +95,13 @@ pub test-begin : (s : List ℕ) (from p : ℕ) → Testing s from p from
 test-begin s from p = record { rest = refl }
 
 module _ (s : List ℕ) (from p i : ℕ) (h : Testing s from p i) where
-  pub test-over : (x : ℕ) → i < length s / 2 → x ≡ getD (numbers s) i 0 → p ≤ x → false ≡ allBelow p (drop from (numbers s))
+  pub test-over : (x : ℕ) → i < length s / width → x ≡ getD (numbers s) i 0 → p ≤ x → false ≡ allBelow p (drop from (numbers s))
   test-over x l e o = allBelow-over p (numbers s) i (rw numbers-length l) (omega arith) ∙ h .rest
 
-  pub test-passed : (x : ℕ) → i < length s / 2 → x ≡ getD (numbers s) i 0 → x < p → Testing s from p (i + 1)
+  pub test-passed : (x : ℕ) → i < length s / width → x ≡ getD (numbers s) i 0 → x < p → Testing s from p (i + 1)
   test-passed x l e o = record { rest = allBelow-next p (numbers s) i (rw numbers-length l) (omega arith) ∙ h .rest }
 
-  pub test-end : length s / 2 ≤ i → true ≡ allBelow p (drop from (numbers s))
+  pub test-end : length s / width ≤ i → true ≡ allBelow p (drop from (numbers s))
   test-end l = allBelow-end p (numbers s) i (rw numbers-length l) ∙ h .rest
 
-pub ruleset coding = (needs, byte-none, word-some, word-none, number-some, number-none, write-some, high-in, write-none, count-odd, count-even, over-found, over-passed, begin, over-nothing, test-begin, test-over, test-passed, test-end)
+pub ruleset coding = (needs, byte-none, word-some, word-none, number-some, number-none, write-some, write-none, count-left, count-whole, over-found, over-passed, begin, over-nothing, test-begin, test-over, test-passed, test-end)

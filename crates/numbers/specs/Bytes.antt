@@ -22,17 +22,21 @@ bytesFrom (suc w) x = x % 256 ∷ bytesFrom w (x / 256)
 unfoldable pub wordAt : List ℕ → ℕ → ℕ
 wordAt bs at = getD bs at 0 + 256 * getD bs (at + 1) 0
 
--- bytes that one number of a list takes
+-- bytes that one number of a list takes (document 02, R-6)
 abbrev pub width : ℕ
-width = 2
+width = 4
 
 -- above every number of a list
 abbrev pub limit : ℕ
-limit = 65536
+limit = 4294967296
 
--- the numbers of a list that is lent as bytes; bytes left over at the end are none
+-- the numbers of w bytes each that bytes hold; bytes left over at the end are none
+unfoldable pub numbersOf : ℕ → List ℕ → List ℕ
+numbersOf w bs = tab (λ i. numberAt w bs (w * i)) (length bs / w)
+
+-- the numbers of a list that is lent as bytes
 unfoldable pub numbers : List ℕ → List ℕ
-numbers bs = tab (λ i. numberAt width bs (width * i)) (length bs / width)
+numbers bs = numbersOf width bs
 
 -- a list of numbers as bytes
 unfoldable pub bytesOf : List ℕ → List ℕ

@@ -1,10 +1,13 @@
-// Lists of numbers that are lent as bytes: two bytes a number, the low byte first. A read past the end is 0, and a write
+// Lists of numbers that are lent as bytes: four bytes a number, the low byte first. A read past the end is 0, and a write
 // there changes nothing.
 ghost use mathlib.Core.Path.{_≡_};
 ghost use mathlib.Core.Bool.{cond};
-ghost use Prim.Native.Nat.{_/_, _<_, _≤_};
+ghost use Prim.Native.Nat.{_/_, _%_, _<_, _≤_};
 ghost use lib.ListN.{length, getD, drop};
-ghost use Rattle.numbers.specs.Bytes.{wordAt, limit, numbers, holdsCount, stored, firstOver, allBelow};
+ghost use Rattle.numbers.specs.Bytes.{wordAt, width, limit, numbers, holdsCount, stored, firstOver, allBelow};
+
+// The bytes of a list's number.
+pub const WIDTH: usize = 4;
 
 // What a search answers.
 pub enum Found {
@@ -30,7 +33,7 @@ pub fn byte(s: &[u8], at: usize) -> u64
 
 // The two-byte number at an offset.
 pub fn word(s: &[u8], at: usize) -> u64
-    ensures { λ r. ⌜ record { eq : r ≡ wordAt (now (s .entry)) at; lt : r < limit } ⌝ }
+    ensures { λ r. ⌜ record { eq : r ≡ wordAt (now (s .entry)) at; lt : r < 65536 } ⌝ }
 {
     if at < s.len() {
         let low = byte(s, at);
@@ -42,50 +45,58 @@ pub fn word(s: &[u8], at: usize) -> u64
 
 // Number i of a list that has it: no test is made.
 pub fn number(s: &[u8], i: usize) -> u64
-    requires { ⌜ i < length (now s) / 2 ⌝ }
+    requires { ⌜ i < length (now s) / width ⌝ }
     ensures { λ r. ⌜ record { eq : r ≡ getD (numbers (now (s .entry))) i 0; lt : r < limit } ⌝ }
 {
-    wide(s[2 * i]) + 256 * wide(s[2 * i + 1])
+    let at = WIDTH * i;
+    wide(s[at]) + 256 * wide(s[at + 1]) + 65536 * wide(s[at + 2]) + 16777216 * wide(s[at + 3])
 }
 
 // Number i of a list.
 pub fn read(s: &[u8], i: usize) -> u64
     ensures { λ r. ⌜ record { eq : r ≡ getD (numbers (now (s .entry))) i 0; lt : r < limit } ⌝ }
 {
-    if i < s.len() / 2 {
+    if i < s.len() / WIDTH {
         return number(s, i);
     }
     0
 }
 
-// Sets number i of a list to v, of which the two low bytes are kept.
+fn low(v: u64) -> u8
+    ensures { λ r. ⌜ r ≡ v % 256 ⌝ }
+{
+    (v % 256) as u8
+}
+
+// Sets number i of a list to v, of which the four low bytes are kept.
 pub fn write(s: &mut [u8], i: usize, v: u64)
     ensures { λ _. ⌜ now (s .exit) ≡ stored (now (s .entry)) i v ⌝ }
 {
-    if s.len() / 2 <= i {
+    if s.len() / WIDTH <= i {
         return;
     }
-    let low = (v % 256) as u8;
-    let high = (v / 256 % 256) as u8;
-    s[2 * i] = low;
-    s[2 * i + 1] = high;
+    let at = WIDTH * i;
+    s[at] = low(v);
+    s[at + 1] = low(v / 256);
+    s[at + 2] = low(v / 256 / 256);
+    s[at + 3] = low(v / 256 / 256 / 256);
 }
 
 // Whether these bytes are a list of k numbers.
 pub fn count_is(s: &[u8], k: usize) -> bool
     ensures { λ r. ⌜ r ≡ holdsCount k (now (s .entry)) ⌝ }
 {
-    if s.len() % 2 != 0 {
+    if s.len() % WIDTH != 0 {
         return false;
     }
-    s.len() / 2 == k
+    s.len() / WIDTH == k
 }
 
 // The first number of a list that is p or more.
 pub fn first_over(s: &[u8], p: u64) -> Found
     ensures { λ r. ⌜ r ≡ firstOver p (numbers (now (s .entry))) ⌝ }
 {
-    let n = s.len() / 2;
+    let n = s.len() / WIDTH;
     let mut i: usize = 0;
     while i < n {
         if p <= read(s, i) {
@@ -100,7 +111,7 @@ pub fn first_over(s: &[u8], p: u64) -> Found
 pub fn all_below(s: &[u8], from: usize, p: u64) -> bool
     ensures { λ r. ⌜ r ≡ allBelow p (drop from (numbers (now (s .entry)))) ⌝ }
 {
-    let n = s.len() / 2;
+    let n = s.len() / WIDTH;
     let mut i: usize = from;
     while i < n {
         if read(s, i) >= p {

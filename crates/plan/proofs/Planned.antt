@@ -19,7 +19,6 @@ use Rattle.numbers.proofs.Tables.{length-tab, getD-tab}
 use Rattle.numbers.proofs.Searches.{nothing-passes}
 use Rattle.numbers.proofs.Truth.{both-true}
 use Rattle.field.specs.Prime.{isPrime}
-use Rattle.field.specs.Field.{fieldLimit}
 use Rattle.plan.specs.declared.Gate.the-variants.{Input}
 use Rattle.plan.specs.declared.Header.{Header}
 use Rattle.plan.specs.declared.Reading.{Reading}
@@ -29,7 +28,7 @@ use Rattle.plan.specs.declared.Refusal.the-variants as refusal
 use Rattle.plan.specs.declared.Checked.the-variants.{Passed, Refused}
 use Rattle.plan.specs.Refusals.{firstOf}
 use Rattle.plan.specs.Plans.{multiplying, partyCount, dealerCount}
-use Rattle.plan.specs.File.{versionAt, nAt, tAt, pAt, gateCountAt, outCountAt, layoutOf, outPlace, pointPlace, between, partiesOk, thresholdOk, modulusOk, gateAt, outAt, majorityOk, pointAt, gateKept, outKept, majorityKept, pointKept, pointsPlaced, layoutOk, majorityCheck, pointsCheck, planChecks, planCheck, planOf, headerOf}
+use Rattle.plan.specs.File.{modulusLimit, versionAt, nAt, tAt, pAt, gateCountAt, outCountAt, layoutOf, outPlace, pointPlace, between, partiesOk, thresholdOk, modulusOk, gateAt, outAt, majorityOk, pointAt, gateKept, outKept, majorityKept, pointKept, pointsPlaced, layoutOk, majorityCheck, pointsCheck, planChecks, planCheck, planOf, headerOf}
 use Rattle.plan.specs.Planned.{Planned, ReadAs}
 use Rattle.plan.proofs.Refusals.{passed-both, passed-need, passed-found}
 use Rattle.plan.proofs.Gates.{out-place}
@@ -82,13 +81,13 @@ passing-majority bs q g l m =
 -- ---- its bounds
 module _ (n p : ℕ) (h : modulusOk n p ≡ true) where
   pub modulus-prime : isPrime p ≡ true
-  modulus-prime = both-true (ltb p fieldLimit) (isPrime p) (both-true (ltb p fieldLimit && isPrime p) (ltb n p) h .0) .1
+  modulus-prime = both-true (ltb p modulusLimit) (isPrime p) (both-true (ltb p modulusLimit && isPrime p) (ltb n p) h .0) .1
 
   pub modulus-small : p < 65536
-  modulus-small = ltb-true p fieldLimit (both-true (ltb p fieldLimit) (isPrime p) (both-true (ltb p fieldLimit && isPrime p) (ltb n p) h .0) .0)
+  modulus-small = ltb-true p modulusLimit (both-true (ltb p modulusLimit) (isPrime p) (both-true (ltb p modulusLimit && isPrime p) (ltb n p) h .0) .0)
 
   pub modulus-above : n < p
-  modulus-above = ltb-true n p (both-true (ltb p fieldLimit && isPrime p) (ltb n p) h .1)
+  modulus-above = ltb-true n p (both-true (ltb p modulusLimit && isPrime p) (ltb n p) h .1)
 
 pub between-true : (a b x : ℕ) → between a b x ≡ true → (a ≤ x) × (x ≤ b)
 unfolding between

@@ -215,7 +215,7 @@ none-or-majority plan valid = none-or (plan .t + plan .t < partyCount plan) (pla
 -- ---- as the code asks it
 module _ (bs : List ℕ) (h : Header) (k : Planned bs h) where
   pub planned-ready : Ready (h .field .p)
-  planned-ready = record { prime = rw (← plan-p k) (valid bs (k .passes) .prime); small = k .p-high }
+  planned-ready = record { prime = rw (← plan-p k) (valid bs (k .passes) .prime); small = omega (arith, k .p-high) }
 
   pub gate-kept : (g : ℕ) (gate : Gate) → g < h .gates → gate ≡ gateAt bs g → gateOk (h .n) (h .field .p) g gate ≡ true
   gate-kept g gate l e =

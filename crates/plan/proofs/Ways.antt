@@ -36,7 +36,7 @@ use Rattle.plan.specs.declared.Refusal.the-variants as refusal
 use Rattle.plan.specs.Refusals.{firstOf, andThen, need, unlessFound}
 use Rattle.plan.specs.Plans.{multiplying}
 use Rattle.plan.proofs.Refusals.{andThen-passed, andThen-refused, andThen-end, firstOf-append}
-use Rattle.plan.specs.File.{magic, sameBytes, between, partiesOk, thresholdOk, modulusOk, fieldAbove, layoutFor, layoutOf, gatePlace, outPlace, pointPlace, gateAt, outAt, pointAt, gateOk, outOk, majorityOk, gateKept, outKept, majorityKept, foundNone, pointApart, pointKept, pointsPlaced, layoutOk, majorityCheck, pointsCheck, planChecks, planCheck, headerOf, readingOf, outcomeOf, readPlan}
+use Rattle.plan.specs.File.{magic, sameBytes, between, partiesOk, thresholdOk, modulusLimit, modulusOk, fieldAbove, layoutFor, layoutOf, gatePlace, outPlace, pointPlace, gateAt, outAt, pointAt, gateOk, outOk, majorityOk, gateKept, outKept, majorityKept, foundNone, pointApart, pointKept, pointsPlaced, layoutOk, majorityCheck, pointsCheck, planChecks, planCheck, headerOf, readingOf, outcomeOf, readPlan}
 use Rattle.plan.specs.Planned.{ReadAs}
 use Rattle.plan.proofs.Gates.{head-second, gate-place, out-place, point-place, no-points-place}
 
@@ -429,15 +429,21 @@ reading-refused c h r e = rw e
 -- the field of a prime above n
 pub above-low : (n p : ℕ) → p ≤ n → made.Refused ≡ fieldAbove n p
 unfolding fieldAbove
-above-low n p l = rw (le-ltb n p l) (pick (ltb p fieldLimit && isPrime p))
+above-low n p l = rw (le-ltb n p l) (pick (ltb p modulusLimit && isPrime p))
   where
     pick : (b : Bool) → made.Refused ≡ cond (b && false) (made.Field (record { p = p })) made.Refused
     pick true = refl
     pick false = refl
 
-pub above-made : (n p : ℕ) (m : Made) → n < p → m ≡ madeOf p → m ≡ fieldAbove n p
+pub above-high : (n p : ℕ) → modulusLimit ≤ p → made.Refused ≡ fieldAbove n p
+unfolding fieldAbove
+above-high n p l = rw (le-ltb p modulusLimit l)
+
+pub above-made : (n p : ℕ) (m : Made) → n < p → p < modulusLimit → m ≡ madeOf p → m ≡ fieldAbove n p
 unfolding fieldAbove madeOf
-above-made n p m l e = rw (lt-ltb n p l) (e ∙ pick (ltb p fieldLimit && isPrime p))
+above-made n p m l k e =
+    let f : p < fieldLimit = omega arith in
+    rw (lt-ltb n p l, lt-ltb p modulusLimit k) (rw (lt-ltb p fieldLimit f) at e ∙ pick (isPrime p))
   where
     pick : (b : Bool) → cond b (made.Field (record { p = p })) made.Refused ≡ cond (b && true) (made.Field (record { p = p })) made.Refused
     pick true = refl
@@ -534,4 +540,4 @@ pub header-of-passed : (s : List ℕ) (h : Header) → readPlan s ≡ reading.Pa
 unfolding readPlan
 header-of-passed s h e = of-passed (planCheck s) (headerOf s) h e .1
 
-pub ruleset reads = (needs, reading-passed, reading-refused, above-low, above-made, reading-no-field, reading-on, read-contents, read-further, outcome-passed, outcome-refused, read-outcome)
+pub ruleset reads = (needs, reading-passed, reading-refused, above-low, above-high, above-made, reading-no-field, reading-on, read-contents, read-further, outcome-passed, outcome-refused, read-outcome)

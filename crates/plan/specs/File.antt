@@ -11,7 +11,6 @@ use Rattle.numbers.specs.declared.Found.the-variants.{At, Nothing}
 use Rattle.field.specs.declared.Made.{Made}
 use Rattle.field.specs.declared.Made.the-variants as made
 use Rattle.field.specs.Prime.{isPrime}
-use Rattle.field.specs.Field.{fieldLimit}
 use Rattle.plan.specs.declared.Gate.{Gate}
 use Rattle.plan.specs.declared.Gate.the-variants.{Input, Add, Scale, Offset, Multiply, Random, Spend}
 use Rattle.plan.specs.declared.Rule.the-variants.{Reduction}
@@ -163,9 +162,13 @@ partiesOk n = between 1 15 n
 abbrev pub thresholdOk : ℕ → ℕ → Bool
 thresholdOk n t = ltb t n
 
+-- p has two bytes
+abbrev pub modulusLimit : ℕ
+modulusLimit = 65536
+
 -- a prime above n; on bytes p is below the limit
 abbrev pub modulusOk : ℕ → ℕ → Bool
-modulusOk n p = (ltb p fieldLimit && isPrime p) && ltb n p
+modulusOk n p = (ltb p modulusLimit && isPrime p) && ltb n p
 
 -- refusal 25: a gate multiplies, and 2t is not below n
 unfoldable pub majorityCheck : List ℕ → Checked

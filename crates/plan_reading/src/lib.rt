@@ -239,11 +239,14 @@ pub fn threshold_ok(n: usize, t: usize) -> bool
     t < n
 }
 
-// The field of a prime above n.
+// The field of a prime of two bytes above n.
 pub fn field_above(n: usize, p: u32) -> Made
     ensures { λ r. ⌜ r ≡ fieldAbove n p ⌝ }
 {
     if p as usize <= n {
+        return Made::Refused;
+    }
+    if 65536 <= p {
         return Made::Refused;
     }
     Field::new(p)

@@ -43,7 +43,7 @@ pub extern "C" fn pool_seat_size(plan: &[u8], seat: u16, call: u16, what: u16) -
     if h.n < i {
         return plan_codes::code(Checked::Refused(Refusal::Coalition));
     }
-    pool_answers::value(2 * pool_answers::seat_count(plan, h, i, call as usize, what))
+    pool_answers::value(numbers::WIDTH * pool_answers::seat_count(plan, h, i, call as usize, what))
 }
 
 // How many calls each party makes.
@@ -88,7 +88,7 @@ pub extern "C" fn pool_run_size(plan: &[u8], set: u16, what: u16) -> u64
     if !plan_coalition::set_ok(h, set) {
         return plan_codes::code(Checked::Refused(Refusal::Coalition));
     }
-    pool_answers::value(2 * pool_answers::run_count(plan, h, set, what))
+    pool_answers::value(numbers::WIDTH * pool_answers::run_count(plan, h, set, what))
 }
 
 // All parties in one machine: refusals 1 to 13 and 19.

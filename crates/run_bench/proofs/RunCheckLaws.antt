@@ -225,10 +225,10 @@ module _ (bs : List ℕ) (h : Header) (pl : Planned bs h) (set : ℕ) (inputs co
       past-given : firstOf (runChecks (planOf bs) set inputs coins room) ≡ need refusal.BufferLength (eqb room (width * viewCount (planOf bs) (members set)))
       past-given = past-set ∙ andThen-passed c _ e
 
-      pub run-room : (room ≡ 2 * k → ⊥) → Refused refusal.BufferLength ≡ firstOf (runChecks (planOf bs) set inputs coins room)
-      run-room n = sym (past-given ∙ need-false refusal.BufferLength (eqb room (width * viewCount (planOf bs) (members set))) (rw (← ek) (ne-eqb room (2 * k) n)))
+      pub run-room : (room ≡ width * k → ⊥) → Refused refusal.BufferLength ≡ firstOf (runChecks (planOf bs) set inputs coins room)
+      run-room n = sym (past-given ∙ need-false refusal.BufferLength (eqb room (width * viewCount (planOf bs) (members set))) (rw (← ek) (ne-eqb room (width * k) n)))
 
-      pub run-passed : room ≡ 2 * k → Passed ≡ firstOf (runChecks (planOf bs) set inputs coins room)
-      run-passed q = sym (past-given ∙ need-true refusal.BufferLength (eqb room (width * viewCount (planOf bs) (members set))) (rw (← ek) (eq-eqb room (2 * k) q)))
+      pub run-passed : room ≡ width * k → Passed ≡ firstOf (runChecks (planOf bs) set inputs coins room)
+      run-passed q = sym (past-given ∙ need-true refusal.BufferLength (eqb room (width * viewCount (planOf bs) (members set))) (rw (← ek) (eq-eqb room (width * k) q)))
 
 pub ruleset running = (needs, not-true, not-false, run-set, run-given, run-room, run-passed)

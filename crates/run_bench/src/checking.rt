@@ -74,7 +74,7 @@ pub fn check(plan: &[u8], h: Header, set: u16, inputs: &[u8], coins: &[u8], room
     let Checked::Passed = given else {
         return given;
     };
-    if room != 2 * view_count(plan, h, set) {
+    if room != numbers::WIDTH * view_count(plan, h, set) {
         return Checked::Refused(Refusal::BufferLength);
     }
     Checked::Passed

@@ -21,11 +21,11 @@ use Rattle.numbers.specs.Tables.{tab}
 use Rattle.numbers.specs.Bytes.{allBelow}
 use Rattle.numbers.proofs.Tables.{length-tab, getD-tab, tab-next, tab-zero, row-room}
 use Rattle.numbers.proofs.Below.{allBelow-take, allBelow-drop, allBelow-tab}
-use Rattle.field.specs.Field.{Below2, Is, reciprocal, Reducible, Ready}
+use Rattle.field.specs.Field.{Below2, Is, kept, reciprocal, Reducible, Ready}
 use Rattle.sharing_laws.specs.Interp.{weights, dot}
 use Rattle.field.proofs.Solve.{canon-lt}
 use Rattle.field.proofs.Inverse.{pos}
-use Rattle.sharing.proofs.Coding.{entry-below, dot-canon, plain-dot, Summed, sum-none, next-fits, sum-next, sum-reducible, sum-reduced}
+use Rattle.sharing.proofs.Coding.{entry-below, dot-canon, plain-dot, Summed, sum-none, sum-few, sum-more, sum-reducible, sum-whole}
 use Rattle.sharing_laws.proofs.Interpolation.{length-weights}
 use Rattle.sharing_laws.proofs.Alls.{map-tab}
 use Rattle.plan.specs.Plans.{Plan, dealerCount, dealerPoints}
@@ -145,7 +145,7 @@ module _
 -- ---- the loop over the dealers: d pieces of column j stand, and are summed
 pub record Columning (p : ℕ) (ws ps fs : List ℕ) (j : ℕ) (grid₀ grid : List (List ℕ)) (sum at d : ℕ) : Type 0 where
   pub place : at ≡ length ps * d
-  pub summed : Summed ws (piecesBy p (length ps) ps fs (length ws)) sum d
+  pub summed : Summed p ws (piecesBy p (length ps) ps fs (length ws)) sum d
   pub dealt : grid ≡ withColumn j (tab (pieceBy p (length ps) ps fs) d) grid₀
 
 module _ (p : ℕ) (ws ps fs : List ℕ) (j : ℕ) (grid₀ : List (List ℕ)) where
@@ -155,7 +155,7 @@ module _ (p : ℕ) (ws ps fs : List ℕ) (j : ℕ) (grid₀ : List (List ℕ)) w
   pub column-none : Columning p ws ps fs j grid₀ grid₀ 0 0 0
   column-none = record {
     place = sym (mul-zero (length ps));
-    summed = sum-none ws (piecesBy p (length ps) ps fs (length ws));
+    summed = sum-none p ws (piecesBy p (length ps) ps fs (length ws));
     dealt = sym (ap (λ (vs : List ℕ). withColumn j vs grid₀) (tab-zero (pieceBy p (length ps) ps fs)) ∙ with-none j grid₀);
   }
 
@@ -199,36 +199,32 @@ module _ (p : ℕ) (ws ps fs : List ℕ) (j : ℕ) (grid₀ : List (List ℕ)) w
       pub piece-below : Below2 p (getD ws d 0) x
       piece-below = record { above = r .prime .above; small = r .small; left = entry-below p ws d r hw; right = is .lt }
 
-      module _ (y : ℕ) (e : y ≡ getD ws d 0 * x) where
-        y-is : y ≡ getD ws d 0 * getD pieces d 0
-        y-is = e ∙ ap (λ (v : ℕ). getD ws d 0 * v) (x-is ∙ sym (piece-at d l))
+      pub column-next : (y : ℕ) → y ≡ kept p (sum + getD ws d 0 * x) → Columning p ws ps fs j grid₀ (set grid d (set (getD grid d []) j x)) y (at + length ps) (d + 1)
+      unfolding pieces
+      column-next y e = record {
+        place = omega (arith, h .place, add-one d, mul-suc (length ps) d);
+        summed = sum-more p ws pieces r sum d (h .summed) hw (pieces-below r) y (e ∙ ap (λ (v : ℕ). kept p (sum + getD ws d 0 * v)) (x-is ∙ sym (piece-at d l))) (omega (arith, pieces-long)) l;
+        dealt = rw (h .dealt, x-is) (with-more j (pieceBy p (length ps) ps fs) d grid₀);
+      }
 
-        pub column-fits : length ws ≤ 15 → sum + y < 2 ^ 64
-        unfolding pieces
-        column-fits m = next-fits ws pieces p r hw (pieces-below r) sum d (h .summed) y y-is (omega arith)
+    module _ (r : Ready p) where
+      pub column-low : length ws ≤ 15 → sum ≤ 4294967296 * p
+      unfolding pieces
+      column-low le = sum-few p ws pieces r sum d (h .summed) (omega arith)
 
-        pub column-next : Columning p ws ps fs j grid₀ (set grid d (set (getD grid d []) j x)) (sum + y) (at + length ps) (d + 1)
-        unfolding pieces
-        column-next = record {
-          place = omega (arith, h .place, add-one d, mul-suc (length ps) d);
-          summed = sum-next ws pieces p r hw (pieces-below r) sum d (h .summed) y y-is (omega (arith, pieces-long)) l;
-          dealt = rw (h .dealt, x-is) (with-more j (pieceBy p (length ps) ps fs) d grid₀);
-        }
-
-    module _ (r : Ready p) (hw : allBelow p ws ≡ true) where
       pub column-reducible : (m : ℕ) → m ≡ reciprocal p → length ws ≤ 15 → Reducible p m sum
       unfolding pieces
-      column-reducible m e le = sum-reducible ws pieces p r hw (pieces-below r) sum d (h .summed) m e (omega arith)
+      column-reducible m e le = sum-reducible p ws pieces r sum d (h .summed) m e (omega arith)
 
       pub column-summed : (y : ℕ) → length ws ≤ d → Is p (sum % p) y → Is p (columnSum p ws (piecesBy p (length ps) ps fs (length ws))) y
       unfolding pieces columnSum
-      column-summed y le e = rw (plain-dot p ws pieces) (sum-reduced ws pieces p r hw (pieces-below r) sum d (h .summed) y le e)
+      column-summed y le e = rw (plain-dot p ws pieces) (sum-whole p ws pieces r sum d (h .summed) y le e)
 
     pub column-dealt : length ws ≤ d → grid ≡ withColumn j (piecesBy p (length ps) ps fs (length ws)) grid₀
     unfolding piecesBy
     column-dealt le = let q : d ≡ length ws = omega (arith, h .summed .within) in h .dealt ∙ ap (λ (i : ℕ). withColumn j (tab (pieceBy p (length ps) ps fs) i) grid₀) q
 
-pub ruleset columning = (needs, entry-below, column-none, part-within, part-end-fits, part-start-fits, part-below, part-long, piece-below, column-fits, column-next, column-reducible, column-summed, column-dealt)
+pub ruleset columning = (needs, entry-below, column-none, part-within, part-end-fits, part-start-fits, part-below, part-long, piece-below, column-low, column-next, column-reducible, column-summed, column-dealt)
 
 -- ---- a loop over the points by their power rows: j entries of a row of 15 stand, and `at` is past j power rows
 pub record Rowing (k : ℕ) (f : ℕ → ℕ) (n : ℕ) (d : List ℕ) (at j : ℕ) : Type 0 where

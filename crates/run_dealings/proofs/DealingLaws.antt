@@ -17,12 +17,12 @@ use lib.Seq.{take-at, drop-at, take-take, length-take-le}
 use mir.Syntax.{w64}
 use mir.Val.{Fits}
 use Rattle.numbers.specs.Tables.{tab}
-use Rattle.numbers.specs.Bytes.{numbers, allBelow}
+use Rattle.numbers.specs.Bytes.{width, numbers, allBelow}
 use Rattle.numbers.proofs.Tables.{length-tab, getD-tab, tab-ext, tab-map, list-tab, row-room}
 use Rattle.numbers.proofs.Below.{allBelow-at, at-allBelow, allBelow-take, allBelow-drop, append-below}
 use Rattle.numbers.proofs.Bytes.{numbers-length}
 use Rattle.field.specs.Mod.{mul}
-use Rattle.field.specs.Field.{Is, Ready}
+use Rattle.field.specs.Field.{Is, isWide, Ready}
 use Rattle.field.proofs.Solve.{canon-lt, mul-canon}
 use Rattle.field.proofs.Inverse.{pos}
 use Rattle.sharing_laws.specs.Poly.{eval, padded}
@@ -140,7 +140,7 @@ module _ (t k : ℕ) (few : t < 16) (e : k ≡ terms t) (d : List ℕ) (long : l
       pub input-dealt : (n : ℕ) (points row : List ℕ) → take n row ≡ map (eval p (take k (ys ++ drop k d))) points → take n row ≡ map (eval p (x ∷ take t (drop at (numbers coins)))) points
       input-dealt n points row r = r ∙ ap (λ (f : List ℕ). map (eval p f) points) (ys-is ∙ is) ∙ values-padded p _ _ points
 
-pub one-dealing : (p t at : ℕ) (coins : List ℕ) → Coined p t 1 at (numbers coins) → at + t ≤ length coins / 2
+pub one-dealing : (p t at : ℕ) (coins : List ℕ) → Coined p t 1 at (numbers coins) → at + t ≤ length coins / width
 one-dealing p t at coins c = omega (arith, c .room, numbers-length coins)
 
 pub ruleset inputs = (needs, terms-within, one-dealing, front-counted, front-wide, whole-long, dealt-counted, dealt-small, dealt-powered, dealt-below, input-dealt)
@@ -157,7 +157,11 @@ module _ (t k : ℕ) (e : k ≡ terms t) where
   pub shares-by : (p i : ℕ) (row ws fs points : List ℕ) → take i row ≡ map (shareAt p k ws fs) points → take i row ≡ map (shareAt p (terms t) ws fs) points
   shares-by p i row ws fs points r = rw (← e) r
 
-pub ruleset sharing-by = (needs, above-one, terms-few, terms-many, powered-by, room-by, shares-by)
+-- the range of the prime, by its test
+pub in-range : (p : ℕ) (w v : Bool) → w ≡ isWide p → w ≡ v → v ≡ isWide p
+in-range p w v e f = sym f ∙ e
+
+pub ruleset sharing-by = (needs, in-range, above-one, terms-few, terms-many, powered-by, room-by, shares-by)
 
 -- what stands below p
 tab-below : (p : ℕ) (F : List ℕ → List ℕ) (f : ℕ → List ℕ) (n : ℕ) → ((i : ℕ) → i < n → allBelow p (F (f i)) ≡ true) → allBelow p (flatMap F (tab f n)) ≡ true
@@ -219,7 +223,7 @@ module _ (ws points : List ℕ) (lw : length ws ≤ length points) (lp : length 
   pub values-counted : length ws ≡ length (take (length ws) vs)
   values-counted = sym values-long
 
-  pub values-coins : (p t at : ℕ) (coins : List ℕ) → Coined p t (length ws) at (numbers coins) → at + t * length (take (length ws) vs) ≤ length coins / 2
+  pub values-coins : (p t at : ℕ) (coins : List ℕ) → Coined p t (length ws) at (numbers coins) → at + t * length (take (length ws) vs) ≤ length coins / width
   values-coins p t at coins c = rw values-long (omega (arith, c .room, numbers-length coins))
 
 -- k coefficients for each of the dealers

@@ -19,7 +19,7 @@ use lib.Seq.{getD-take, getD-drop, drop-drop}
 use mir.Syntax.{w64}
 use mir.Val.{Fits}
 use Rattle.numbers.specs.Tables.{tab}
-use Rattle.numbers.specs.Bytes.{numbers, allBelow}
+use Rattle.numbers.specs.Bytes.{width, numbers, allBelow}
 use Rattle.numbers.proofs.Tables.{length-tab, getD-tab, tab-cons, tab-replicate, row-room}
 use Rattle.numbers.proofs.Fills.{Filled, filling, filled}
 use Rattle.sharing_laws.specs.Poly.{padded}
@@ -63,8 +63,8 @@ module _ (v at t i : ℕ) where
     pub coefficient-none : (cs : List ℕ) → t < i → 0 ≡ getD (v ∷ take t (drop at cs)) i 0
     coefficient-none cs l = sym (List·getD-eq-default (v ∷ take t (drop at cs)) 0 {n = i} (omega (arith, length-take t (drop at cs))))
 
-    module _ (coins : List ℕ) (fits : at + t ≤ length coins / 2) (le : i ≤ t) where
-      pub coin-within : at + (i - 1) < length coins / 2
+    module _ (coins : List ℕ) (fits : at + t ≤ length coins / width) (le : i ≤ t) where
+      pub coin-within : at + (i - 1) < length coins / width
       coin-within = omega arith
 
       pub coin-fits : length coins < 2 ^ 64 → Fits w64 (at + (i - 1))
@@ -123,8 +123,8 @@ module _ (t k : ℕ) (vs coins : List ℕ) (at : ℕ) where
       pub share-wide : t < k → t < length (take (from + k - from) (drop from d))
       share-wide w = rw (piece-long (h .written) l) w
 
-      module _ (here : at + t * length vs ≤ length coins / 2) where
-        pub share-coins : place + t ≤ length coins / 2
+      module _ (here : at + t * length vs ≤ length coins / width) where
+        pub share-coins : place + t ≤ length coins / width
         share-coins = omega (arith, h .taken, row-room t i (length vs) l)
 
         pub share-place-fits : length coins < 2 ^ 64 → Fits w64 (place + t)

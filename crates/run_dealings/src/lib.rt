@@ -8,7 +8,7 @@ ghost use mathlib.Core.List.{_∷_, map, flatMap};
 ghost use Prim.Native.Nat.{_+_, _-_, _*_, _/_, _<_, _≤_};
 ghost use lib.ListN.{length, take, drop, getD, replicate};
 ghost use Rattle.numbers.specs.Bytes.{width, numbers, allBelow};
-ghost use Rattle.field.specs.Field.{Is, reciprocal, Ready};
+ghost use Rattle.field.specs.Field.{Is, isWide, reciprocal, Ready};
 ghost use Rattle.sharing_laws.specs.Poly.{eval, padded};
 ghost use Rattle.plan.specs.Plans.{coinOwnersAt};
 ghost use Rattle.plan.specs.File.{gateAt, planOf};
@@ -166,9 +166,10 @@ pub fn products(f: Field, n: usize, m: usize, a: usize, b: usize, table: &[u64])
 }
 
 // Column j of a grid, row the dealer and column the receiver: the receiver's pieces of these polynomials, by the powers of its point, each
-// weighed and summed where it is dealt. m is the reciprocal.
+// weighed and summed where it is dealt. `wide` says whether the prime is, and m is its reciprocal.
 fn column(
     f: Field,
+    wide: bool,
     m: u64,
     weights: &[u64],
     powers: &[u64],
@@ -177,6 +178,7 @@ fn column(
     grid: &mut [[u64; 15]; 15],
 ) -> u64
     requires { ⌜ Ready (f .p) ⌝ }
+    requires { ⌜ wide ≡ isWide (f .p) ⌝ }
     requires { ⌜ m ≡ reciprocal (f .p) ⌝ }
     requires { ⌜ (length (now weights) ≤ 15) × (allBelow (f .p) (now weights) ≡ true) ⌝ }
     requires { ⌜ (length (now powers) ≤ 16) × (allBelow (f .p) (now powers) ≡ true) ⌝ }
@@ -191,18 +193,19 @@ fn column(
     let mut d: usize = 0;
     while d < weights.len() {
         let e = at + k;
-        let piece = sharing::dot_by(f, m, powers, &polynomials[at..e]);
+        let piece = sharing::dot_by(f, wide, m, powers, &polynomials[at..e]);
         grid[d][j] = piece;
-        sum += f.product(weights[d], piece);
+        sum = f.add_product(wide, sum, weights[d], piece);
         at = e;
         d += 1;
     }
-    f.reduced(m, sum)
+    f.reduced(wide, m, sum)
 }
 
 // The columns of all receivers, by their power rows of k powers each, and every column's sum.
 fn columns(
     f: Field,
+    wide: bool,
     m: u64,
     k: usize,
     points: &[u64],
@@ -212,6 +215,7 @@ fn columns(
     grid: &mut [[u64; 15]; 15],
 ) -> [u64; 15]
     requires { ⌜ Ready (f .p) ⌝ }
+    requires { ⌜ wide ≡ isWide (f .p) ⌝ }
     requires { ⌜ m ≡ reciprocal (f .p) ⌝ }
     requires { ⌜ (k ≤ 16) × (length (now points) ≤ 15) ⌝ }
     requires { ⌜ Powered (f .p) k (now points) (now rows) ⌝ }
@@ -225,7 +229,7 @@ fn columns(
     let mut j: usize = 0;
     while j < points.len() {
         let e = at + k;
-        sums[j] = column(f, m, weights, &rows[at..e], polynomials, j, grid);
+        sums[j] = column(f, wide, m, weights, &rows[at..e], polynomials, j, grid);
         at = e;
         j += 1;
     }
@@ -233,6 +237,32 @@ fn columns(
 }
 
 // Every receiver's share: these polynomials are dealt into the grid, and each receiver's column is weighed and summed there.
+fn shares_by(
+    f: Field,
+    wide: bool,
+    t: usize,
+    points: &[u64],
+    rows: &[u64],
+    weights: &[u64],
+    polynomials: &[u64],
+) -> [u64; 15]
+    requires { ⌜ Ready (f .p) ⌝ }
+    requires { ⌜ wide ≡ isWide (f .p) ⌝ }
+    requires { ⌜ (t < 8) × (length (now points) ≤ 15) ⌝ }
+    requires { ⌜ Powered (f .p) (terms t) (now points) (now rows) ⌝ }
+    requires { ⌜ (length (now weights) ≤ 15) × (allBelow (f .p) (now weights) ≡ true) ⌝ }
+    requires { ⌜ (terms t * length (now weights) ≤ length (now polynomials)) × (allBelow (f .p) (now polynomials) ≡ true) ⌝ }
+    ensures { λ r. ⌜ take (length (now (points .entry))) r ≡ map (shareAt (f .p) (terms t) (now (weights .entry)) (now (polynomials .entry))) (now (points .entry)) ⌝ }
+{
+    let m = f.reciprocal();
+    let mut grid = [[0u64; 15]; 15];
+    if t < 4 {
+        return columns(f, wide, m, 4, points, rows, weights, polynomials, &mut grid);
+    }
+    columns(f, wide, m, 8, points, rows, weights, polynomials, &mut grid)
+}
+
+// The same, by the prime's range: `wide` is a constant in each call, as the count of coefficients is.
 fn shares(
     f: Field,
     t: usize,
@@ -248,12 +278,10 @@ fn shares(
     requires { ⌜ (terms t * length (now weights) ≤ length (now polynomials)) × (allBelow (f .p) (now polynomials) ≡ true) ⌝ }
     ensures { λ r. ⌜ take (length (now (points .entry))) r ≡ map (shareAt (f .p) (terms t) (now (weights .entry)) (now (polynomials .entry))) (now (points .entry)) ⌝ }
 {
-    let m = f.reciprocal();
-    let mut grid = [[0u64; 15]; 15];
-    if t < 4 {
-        return columns(f, m, 4, points, rows, weights, polynomials, &mut grid);
+    if f.is_wide() {
+        return shares_by(f, true, t, points, rows, weights, polynomials);
     }
-    columns(f, m, 8, points, rows, weights, polynomials, &mut grid)
+    shares_by(f, false, t, points, rows, weights, polynomials)
 }
 
 // A multiply gate's row: the dealers' products are dealt, and each receiver's pieces weighed and summed.
@@ -298,6 +326,7 @@ fn dealing(f: Field, points: &[u64], rows: &[u64], polynomial: &[u64]) -> [u64; 
     requires { ⌜ allBelow (f .p) (now polynomial) ≡ true ⌝ }
     ensures { λ r. ⌜ take (length (now (points .entry))) r ≡ map (eval (f .p) (now (polynomial .entry))) (now (points .entry)) ⌝ }
 {
+    let wide = f.is_wide();
     let m = f.reciprocal();
     let k = polynomial.len();
     let mut row = [0u64; 15];
@@ -305,7 +334,7 @@ fn dealing(f: Field, points: &[u64], rows: &[u64], polynomial: &[u64]) -> [u64; 
     let mut j: usize = 0;
     while j < points.len() {
         let e = at + k;
-        row[j] = sharing::dot_by(f, m, &rows[at..e], polynomial);
+        row[j] = sharing::dot_by(f, wide, m, &rows[at..e], polynomial);
         at = e;
         j += 1;
     }

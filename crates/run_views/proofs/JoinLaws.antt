@@ -121,7 +121,7 @@ module _ {bs : List ℕ} {h : Header} (pl : Planned bs h) (inputs coins table : 
         below = rw (← plan-p pl) (given .coins-below);
         running =
             record {
-              ready = record { prime = rw (← plan-p pl) (valid bs (pl .passes) .prime); small = pl .p-high };
+              ready = record { prime = rw (← plan-p pl) (valid bs (pl .passes) .prime); small = omega (arith, pl .p-high) };
               some = pl .n-low;
               few = pl .n-high;
               threshold = pl .threshold;

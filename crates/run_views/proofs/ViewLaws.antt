@@ -21,17 +21,18 @@ use lib.Seq.{take-at, drop-cons, drop-drop, getD-take, getD-drop, length-take-le
 use mir.Syntax.{w64}
 use mir.Val.{Fits}
 use Rattle.numbers.specs.Tables.{tab}
-use Rattle.numbers.specs.Bytes.{wordAt, numbers, allBelow}
+use Rattle.numbers.specs.Bytes.{wordAt, width, numbers, allBelow}
 use Rattle.numbers.proofs.Tables.{length-tab, getD-tab, is-tab, row-room}
 use Rattle.numbers.proofs.Below.{allBelow-at, allBelow-take, allBelow-drop}
 use Rattle.numbers.proofs.Bytes.{numbers-length}
 use Rattle.numbers.proofs.Truth.{both-true}
 use Rattle.field.specs.Mod.{mul}
-use Rattle.field.specs.Field.{Below2, Is, reciprocal, Reducible, Ready}
+use Rattle.field.specs.Field.{Below2, Is, kept, reciprocal, Reducible, Ready}
+use Rattle.field.proofs.Sums.{kept-same, kept-bound, bound-more}
 use Rattle.sharing_laws.specs.Interp.{dot}
 use Rattle.sharing_laws.specs.Sharing.{opened}
 use Rattle.sharing_openings.specs.Openable.{Openable}
-use Rattle.sharing.proofs.Coding.{entry-below, Summed, sum-none, sum-more, next-fits, sum-next, sum-reducible, sum-reduced}
+use Rattle.sharing.proofs.Coding.{entry-below, Summed, sum-none, sum-few, sum-more, sum-reducible, sum-whole}
 use Rattle.plan.specs.declared.Gate.{Gate}
 use Rattle.plan.specs.declared.Gate.the-variants.{Input, Add, Scale, Offset, Multiply, Random, Spend}
 use Rattle.plan.specs.declared.Output.{Output}
@@ -50,6 +51,7 @@ use Rattle.run_ideal.proofs.IdealLaws.{no-random, taken-next}
 use Rattle.run_dealings.specs.Rows.{powers}
 use Rattle.run_dealings.proofs.CoinLaws.{coins-input, coins-multiply, coins-random}
 use Rattle.run_tables.proofs.FillLaws.{taken-within}
+use Rattle.run_dealings.proofs.DealingLaws.{in-range}
 use Rattle.run_views.specs.Flat.{shareIn, rowIn, firstIn, outsIn, openedIn, pieceIn, piecesIn, stepsIn, Running, PowerRow}
 use Rattle.run_views.specs.Writing.{Wrote}
 use Rattle.run_dealings.proofs.PowerLaws.{length-powers, powers-below}
@@ -417,12 +419,12 @@ coins-tab t from cs l =
 
 pub coins-done :
     (t from : ℕ) (coins : List ℕ) (at : ℕ) (old new : List ℕ) (next j : ℕ) → Tabbing (λ k. getD (numbers coins) (from + k) 0) t at old new next j → t ≤ j → t ≤ 14
-    → from + t ≤ length coins / 2 → Wrote 14 (take t (drop from (numbers coins))) at old new next
+    → from + t ≤ length coins / width → Wrote 14 (take t (drop from (numbers coins))) at old new next
 coins-done t from coins at old new next j s l few room =
     rw (← coins-tab t from (numbers coins) (omega (arith, numbers-length coins))) (tab-done _ t at old new next j s 14 l few)
 
-module _ (t from j : ℕ) (coins : List ℕ) (room : from + t ≤ length coins / 2) (l : j < t) where
-  pub coin-within : from + j < length coins / 2
+module _ (t from j : ℕ) (coins : List ℕ) (room : from + t ≤ length coins / width) (l : j < t) where
+  pub coin-within : from + j < length coins / width
   coin-within = omega arith
 
   pub coin-fits : length coins < 2 ^ 64 → Fits w64 (from + j)
@@ -431,7 +433,7 @@ module _ (t from j : ℕ) (coins : List ℕ) (room : from + t ≤ length coins /
 pub ruleset copying = (needs, tab-none, tab-put, coins-done, coin-within, coin-fits)
 
 -- ---- the share of a dealing
-module _ (p t from s : ℕ) (ws coins : List ℕ) (room : from + t ≤ length coins / 2) where
+module _ (p t from s : ℕ) (ws coins : List ℕ) (room : from + t ≤ length coins / width) where
   abbrev cs : List ℕ
   cs = numbers coins
 
@@ -461,42 +463,41 @@ module _ (p t from s : ℕ) (ws coins : List ℕ) (room : from + t ≤ length co
     pub dealt-first-below : Below2 p (getD ws 0 0) s
     dealt-first-below = record { above = r .prime .above; small = r .small; left = entry-below p ws 0 r bw; right = l }
 
-    pub dealt-first : (z : ℕ) → z ≡ getD ws 0 0 * s → Summed ws (s ∷ take t (drop from (numbers coins))) z 1
+    pub dealt-first : (z : ℕ) → z ≡ kept p (0 + getD ws 0 0 * s) → Summed p ws (s ∷ take t (drop from (numbers coins))) z 1
     unfolding own
     dealt-first z e =
-        let q : z ≡ 0 + getD ws 0 0 * s = omega arith in
-        rw q (sum-more ws (s ∷ take t (drop from (numbers coins))) p 0 0 r bw (coefficients-below r b l) (omega (arith, coefficients-long)) (sum-none ws (s ∷ take t (drop from (numbers coins)))) (omega arith))
+        sum-more p ws (s ∷ take t (drop from (numbers coins))) r 0 0 (sum-none p ws (s ∷ take t (drop from (numbers coins)))) bw (coefficients-below r b l) z e (omega (arith, coefficients-long)) (omega arith)
 
-    module _ (sum j : ℕ) (v : Summed ws (s ∷ take t (drop from (numbers coins))) sum (j + 1)) where
+    module _ (sum j : ℕ) (v : Summed p ws (s ∷ take t (drop from (numbers coins))) sum (j + 1)) where
       pub dealt-place : j < t → j + 1 < length ws
       dealt-place m = omega arith
+
+      pub dealt-low : t ≤ 14 → sum ≤ 4294967296 * p
+      unfolding own
+      dealt-low few = sum-few p ws (s ∷ take t (drop from (numbers coins))) r sum (j + 1) v (omega arith)
 
       module _ (y : ℕ) (e : y ≡ getD (numbers coins) (from + j) 0) where
         pub dealt-below : Below2 p (getD ws (j + 1) 0) y
         dealt-below = record { above = r .prime .above; small = r .small; left = entry-below p ws (j + 1) r bw; right = rw e (entry-below p cs (from + j) r b) }
 
-        module _ (z : ℕ) (f : z ≡ getD ws (j + 1) 0 * y) (m : j < t) where
-          same-term : z ≡ getD ws (j + 1) 0 * getD (s ∷ take t (drop from (numbers coins))) (j + 1) 0
-          unfolding own
-          same-term = rw (f, e, ← next-coefficient j m)
-
-          pub dealt-fits : t ≤ 14 → sum + z < 2 ^ 64
-          unfolding own
-          dealt-fits few = next-fits ws (s ∷ take t (drop from (numbers coins))) p r bw (coefficients-below r b l) sum (j + 1) v z same-term (omega arith)
-
-          pub dealt-more : Summed ws (s ∷ take t (drop from (numbers coins))) (sum + z) (j + 1 + 1)
-          unfolding own
-          dealt-more = sum-next ws (s ∷ take t (drop from (numbers coins))) p r bw (coefficients-below r b l) sum (j + 1) v z same-term (omega (arith, coefficients-long)) (omega arith)
+        pub dealt-more : (z : ℕ) → z ≡ kept p (sum + getD ws (j + 1) 0 * y) → j < t → Summed p ws (s ∷ take t (drop from (numbers coins))) z (j + 1 + 1)
+        unfolding own
+        dealt-more z f m =
+            sum-more p ws (s ∷ take t (drop from (numbers coins))) r sum (j + 1) v bw (coefficients-below r b l) z
+            (f ∙ ap (λ (c : ℕ). kept p (sum + getD ws (j + 1) 0 * c)) (e ∙ sym (next-coefficient j m))) (omega (arith, coefficients-long)) (omega arith)
 
       pub dealt-reducible : (m : ℕ) → m ≡ reciprocal p → t ≤ 14 → Reducible p m sum
       unfolding own
-      dealt-reducible m e few = sum-reducible ws (s ∷ take t (drop from (numbers coins))) p r bw (coefficients-below r b l) sum (j + 1) v m e (omega arith)
+      dealt-reducible m e few = sum-reducible p ws (s ∷ take t (drop from (numbers coins))) r sum (j + 1) v m e (omega arith)
 
       pub dealt-done : (y : ℕ) → t ≤ j → Is p (sum % p) y → Is p (dot p ws (s ∷ take t (drop from (numbers coins)))) y
       unfolding own
-      dealt-done y m e = sum-reduced ws (s ∷ take t (drop from (numbers coins))) p r bw (coefficients-below r b l) sum (j + 1) v y (omega arith) e
+      dealt-done y m e = sum-whole p ws (s ∷ take t (drop from (numbers coins))) r sum (j + 1) v y (omega arith) e
 
-pub ruleset dealing = (needs, dealt-start, dealt-first-below, dealt-first, dealt-place, dealt-below, dealt-fits, dealt-more, dealt-reducible, dealt-done)
+pub nothing-low : (p : ℕ) → 0 ≤ 4294967296 * p
+nothing-low p = omega arith
+
+pub ruleset dealing = (needs, nothing-low, dealt-start, dealt-first-below, dealt-first, dealt-place, dealt-low, dealt-below, dealt-more, dealt-reducible, dealt-done)
 
 -- ---- a party's product
 pub share-under : (h : Header) (table : List ℕ) (i w x : ℕ) → Running h table → x ≡ shareIn (h .n) table i w → x < h .field .p
@@ -506,20 +507,21 @@ share-under h table i w x r e = omega (arith, entry-below (h .field .p) table (h
 pub running-field : (h : Header) (table : List ℕ) → Running h table → 1 < h .field .p
 running-field h table r = r .ready .prime .above
 
-module _ (p x y z : ℕ) (e : z ≡ x * y) where
+module _ (p x y z : ℕ) (e : z ≡ kept p (0 + x * y)) where
   pub product-reducible : (m : ℕ) → Ready p → m ≡ reciprocal p → x < p → y < p → Reducible p m z
   product-reducible m r by l k = record {
     above = r .prime .above;
     small = r .small;
     by = by;
-    sum = omega (arith, mul-le-mul {n₁ = x} {m₁ = y} {n₂ = p} {m₂ = p} (omega arith) (omega arith));
+    sum = omega (arith, e, kept-bound p (r .small) x y l k 0 0 (omega arith), bound-more p (r .small) 1 16 (omega arith));
   }
 
   pub product-of : (a b r : ℕ) → x ≡ a → y ≡ b → Is p (z % p) r → Is p (mul p a b) r
   unfolding mul
-  product-of a b r f g is = rw (e, f, g) at is
+  product-of a b r f g is =
+      record { eq = is .eq ∙ ap (λ (n : ℕ). n % p) e ∙ kept-same p (0 + x * y) .rest ∙ ap (λ (n : ℕ). n % p) (omega (arith, ap₂ (λ (u v : ℕ). u * v) f g)); lt = is .lt }
 
-pub ruleset shares-multiplied = (needs, share-under, running-field, product-reducible, product-of)
+pub ruleset shares-multiplied = (needs, nothing-low, share-under, running-field, product-reducible, product-of)
 
 -- ---- where the coins of gate g begin
 -- the coins before gate g are drawn: those of gate g begin at `from`
@@ -540,7 +542,7 @@ module _ (bs : List ℕ) (h : Header) (from g : ℕ) (w : Drawn bs from g) (pl :
     within = omega (arith, pl .gates-high);
   }
 
-  draw-room : (coins : List ℕ) → length (numbers coins) ≡ coinCount (planOf bs) → from + length (coinOwnersAt (planOf bs) (gateAt bs g)) ≤ length coins / 2
+  draw-room : (coins : List ℕ) → length (numbers coins) ≡ coinCount (planOf bs) → from + length (coinOwnersAt (planOf bs) (gateAt bs g)) ≤ length coins / width
   unfolding coinCount coinOwners
   draw-room coins full =
       omega (
@@ -560,11 +562,11 @@ module _ (t i m : ℕ) (from at : ℕ) (coins old : List ℕ) where
   pub block-not : m < i → Wrote 14 (cond (leb i m) (take t (drop (from + t * (i - 1)) (numbers coins))) []) at old old at
   block-not l = rw (lt-leb i m l) (wrote-none 14 at old)
 
-  module _ (low : 1 ≤ i) (l : i ≤ m) (room : from + t * m ≤ length coins / 2) where
+  module _ (low : 1 ≤ i) (l : i ≤ m) (room : from + t * m ≤ length coins / width) where
     block-near : t * (i - 1) + t ≤ t * m
     block-near = row-room t (i - 1) m (omega arith)
 
-    pub block-room : from + t * (i - 1) + t ≤ length coins / 2
+    pub block-room : from + t * (i - 1) + t ≤ length coins / width
     block-room = omega (arith, block-near)
 
     pub block-fits : length coins < 2 ^ 64 → Fits w64 (t * (i - 1))
@@ -606,15 +608,15 @@ module _ (t i from : ℕ) (cs : List ℕ) where
   own-by-dealing s room false e = sym (own-other i t s (drop from cs) (eqb-false i s e))
 
 module _ (bs : List ℕ) (h : Header) (pl : Planned bs h) (i g from at : ℕ) (coins old : List ℕ) (gate : Gate) (is : gate ≡ gateAt bs g)
-    (room : from + length (coinOwnersAt (planOf bs) (gateAt bs g)) ≤ length coins / 2) where
+    (room : from + length (coinOwnersAt (planOf bs) (gateAt bs g)) ≤ length coins / width) where
   pub coins-few : h .t ≤ 14
   coins-few = omega (arith, pl .threshold, pl .n-high)
 
-  room-as : (m : ℕ) → m ≡ length (coinOwnersAt (planOf bs) (gateAt bs g)) → from + m ≤ length coins / 2
+  room-as : (m : ℕ) → m ≡ length (coinOwnersAt (planOf bs) (gateAt bs g)) → from + m ≤ length coins / width
   room-as m e = omega arith
 
   module _ (s : ℕ) (e : gate ≡ Input s) where
-    pub input-room : from + h .t ≤ length coins / 2
+    pub input-room : from + h .t ≤ length coins / width
     input-room = room-as (h .t) (coins-input bs h pl g gate is s e)
 
     pub own-input : (new : List ℕ) (next : ℕ) → Wrote 14 (cond (eqb i s) (take (h .t) (drop from (numbers coins))) []) at old new next
@@ -623,7 +625,7 @@ module _ (bs : List ℕ) (h : Header) (pl : Planned bs h) (i g from at : ℕ) (c
         rw (← is, e, input-owners (planOf bs) s, plan-t pl, ← own-by-dealing (h .t) i from (numbers coins) s (omega (arith, input-room, numbers-length coins)) (eqb i s) refl) w
 
   -- at a gate where each of the parties 1 to m deals
-  by-blocks : (m k : ℕ) → 1 ≤ i → from + h .t * m ≤ length coins / 2 → m ≡ k → (x : Gate) → gate ≡ x → coinOwnersAt (planOf bs) x ≡ blocks (planOf bs .t) 0 k → (new : List ℕ) (next : ℕ)
+  by-blocks : (m k : ℕ) → 1 ≤ i → from + h .t * m ≤ length coins / width → m ≡ k → (x : Gate) → gate ≡ x → coinOwnersAt (planOf bs) x ≡ blocks (planOf bs .t) 0 k → (new : List ℕ) (next : ℕ)
       → Wrote 14 (cond (leb i m) (take (h .t) (drop (from + h .t * (i - 1)) (numbers coins))) []) at old new next
       → Wrote 14 (ownOf i (coinOwnersAt (planOf bs) (gateAt bs g)) (drop from (numbers coins))) at old new next
   by-blocks m k low here same x e owners new next w =
@@ -634,7 +636,7 @@ module _ (bs : List ℕ) (h : Header) (pl : Planned bs h) (i g from at : ℕ) (c
       ∙ ap (λ (y : Gate). ownOf i (coinOwnersAt (planOf bs) y) (drop from (numbers coins))) (sym e ∙ is)) w
 
   module _ (a b : ℕ) (e : gate ≡ Multiply a b) where
-    pub multiply-room : from + h .t * (h .t + h .t + 1) ≤ length coins / 2
+    pub multiply-room : from + h .t * (h .t + h .t + 1) ≤ length coins / width
     multiply-room = room-as (h .t * (h .t + h .t + 1)) (coins-multiply bs h pl g gate is a b e)
 
     pub own-multiply : (new : List ℕ) (next : ℕ) → 1 ≤ i → Wrote 14 (cond (leb i (h .t + h .t + 1)) (take (h .t) (drop (from + h .t * (i - 1)) (numbers coins))) []) at old new next
@@ -643,7 +645,7 @@ module _ (bs : List ℕ) (h : Header) (pl : Planned bs h) (i g from at : ℕ) (c
         by-blocks (h .t + h .t + 1) (dealerCount (planOf bs)) low multiply-room (sym (plan-dealers pl)) (Multiply a b) e (reduction-owners (planOf bs) a b (plain bs (pl .passes) .rule)) new next w
 
   module _ (e : gate ≡ Random) where
-    pub random-room : from + h .t * h .n ≤ length coins / 2
+    pub random-room : from + h .t * h .n ≤ length coins / width
     random-room = room-as (h .t * h .n) (coins-random bs h pl g gate is e)
 
     pub own-random : (new : List ℕ) (next : ℕ) → 1 ≤ i → Wrote 14 (cond (leb i (h .n)) (take (h .t) (drop (from + h .t * (i - 1)) (numbers coins))) []) at old new next
@@ -700,7 +702,7 @@ module _ (bs : List ℕ) (h : Header) (cs : List ℕ) (i at : ℕ) (old new : Li
 
 pub coins-room :
     (bs : List ℕ) (h : Header) (coins : List ℕ) (i at : ℕ) (old new : List ℕ) (next from g : ℕ) → Owning bs (numbers coins) i at old new next from g → Planned bs h → g < h .gates
-    → length (numbers coins) ≡ coinCount (planOf bs) → from + length (coinOwnersAt (planOf bs) (gateAt bs g)) ≤ length coins / 2
+    → length (numbers coins) ≡ coinCount (planOf bs) → from + length (coinOwnersAt (planOf bs) (gateAt bs g)) ≤ length coins / width
 coins-room bs h coins i at old new next from g s pl l full = draw-room bs h from g (s .drawn) pl l coins full
 
 pub ruleset owning = (needs, coins-none, coins-drawn, coins-end, coins-room)
@@ -738,14 +740,14 @@ module _
   pub pieces-end : 2 * h .t < h .n → h .t + h .t + 1 ≤ d → Wrote 15 (tab (pieceIn h table a b cs from ws) (h .t + h .t + 1)) at old new next
   pieces-end two l = tab-done (pieceIn h table a b cs from ws) (h .t + h .t + 1) at old new next d (s .tabbed) 15 l (omega (arith, r .few))
 
-  module _ (coins : List ℕ) (room : from + h .t * (h .t + h .t + 1) ≤ length coins / 2) (l : d < h .t + h .t + 1) where
-    pub piece-room : place + h .t ≤ length coins / 2
+  module _ (coins : List ℕ) (room : from + h .t * (h .t + h .t + 1) ≤ length coins / width) (l : d < h .t + h .t + 1) where
+    pub piece-room : place + h .t ≤ length coins / width
     piece-room = omega (arith, s .here, row-room (h .t) d (h .t + h .t + 1) l)
 
     pub piece-place-fits : length coins * 1 < 2 ^ 63 → Fits w64 (place + h .t)
     piece-place-fits f = record { fits = omega (arith, piece-room) }
 
-pub ruleset pieces = (needs, running-field, pieces-none, pieces-next, pieces-end, piece-room, piece-place-fits)
+pub ruleset pieces = (needs, in-range, running-field, pieces-none, pieces-next, pieces-end, piece-room, piece-place-fits)
 
 -- ---- the mail of a gate's steps
 module _ (bs : List ℕ) (h : Header) (table cs : List ℕ) (from : ℕ) (ws : List ℕ) (g : ℕ) (gate : Gate) (is : gate ≡ gateAt bs g) (at : ℕ) (old : List ℕ) where
@@ -815,7 +817,7 @@ module _
 -- the coins of gate g are there
 pub steps-room :
     (bs : List ℕ) (h : Header) (table coins ws : List ℕ) (at : ℕ) (old new : List ℕ) (next from g : ℕ) → Stepping bs h table (numbers coins) ws at old new next from g → Planned bs h
-    → g < h .gates → length (numbers coins) ≡ coinCount (planOf bs) → from + length (coinOwnersAt (planOf bs) (gateAt bs g)) ≤ length coins / 2
+    → g < h .gates → length (numbers coins) ≡ coinCount (planOf bs) → from + length (coinOwnersAt (planOf bs) (gateAt bs g)) ≤ length coins / width
 steps-room bs h table coins ws at old new next from g s pl l full = draw-room bs h from g (s .drawn) pl l coins full
 
 pub ruleset stepping = (needs, steps-none, steps-next, steps-end, steps-room)

@@ -29,12 +29,12 @@ length-storedFrom bs at [] = refl
 length-storedFrom bs at (x ∷ xs) = length-storedFrom (stored bs at x) (suc at) xs ∙ length-stored bs at x
 
 -- a buffer that is filled to its end
-storedFrom-end : (bs : List ℕ) (at : ℕ) (xs : List ℕ) → length bs ≡ 2 * (at + length xs) → storedFrom bs at xs ≡ take (2 * at) bs ++ bytesOf xs
+storedFrom-end : (bs : List ℕ) (at : ℕ) (xs : List ℕ) → length bs ≡ width * (at + length xs) → storedFrom bs at xs ≡ take (width * at) bs ++ bytesOf xs
 unfolding storedFrom bytesOf bytesFrom
-storedFrom-end bs at [] e = sym (append-nil (take (2 * at) bs) ∙ take-all (2 * at) bs (omega arith))
+storedFrom-end bs at [] e = sym (append-nil (take (width * at) bs) ∙ take-all (width * at) bs (omega arith))
 storedFrom-end bs at (x ∷ xs) e =
     storedFrom-end (stored bs at x) (suc at) xs (omega (arith, length-stored bs at x))
-    ∙ rw (← add-one at, take-stored bs at x (omega arith)) (append-assoc (take (2 * at) bs) (bytesOf (x ∷ [])) (bytesOf xs))
+    ∙ rw (← add-one at, take-stored bs at x (omega arith)) (append-assoc (take (width * at) bs) (bytesOf (x ∷ [])) (bytesOf xs))
 
 pub storedFrom-whole : (bs xs : List ℕ) → length bs ≡ width * length xs → storedFrom bs 0 xs ≡ bytesOf xs
 storedFrom-whole bs xs e = storedFrom-end bs 0 xs (omega arith)

@@ -13,7 +13,7 @@ ghost use lib.ListN.{length, take, drop};
 ghost use Rattle.numbers.specs.Tables.{tab};
 ghost use Rattle.numbers.specs.Bytes.{width, numbers, bytesOf, allBelow};
 ghost use Rattle.field.specs.Mod.{mul};
-ghost use Rattle.field.specs.Field.{Is, reciprocal, Ready};
+ghost use Rattle.field.specs.Field.{Is, isWide, reciprocal, Ready};
 ghost use Rattle.sharing_laws.specs.Interp.{dot};
 ghost use Rattle.plan.specs.Plans.{pointOf, isInputOf, inputWires, outWires, inputOwnersAt, coinOwnersAt, coinCount, ownOf, ownInputs, ownCoins};
 ghost use Rattle.plan.specs.File.{planOf, gateAt};
@@ -428,9 +428,20 @@ fn write_coins(plan: &[u8], h: Header, i: usize, coins: &[u8], at: usize, out: &
 
 // ---- pieces
 
-// The share of the dealing of s with the t coins from number `from` on, at the point whose powers are lent; m is the reciprocal.
-fn dealt(f: Field, m: u64, t: usize, powers: &[u64], s: u64, coins: &[u8], from: usize) -> u64
+// The share of the dealing of s with the t coins from number `from` on, at the point whose powers are lent; `wide` says
+// whether the prime is, and m is its reciprocal.
+fn dealt(
+    f: Field,
+    wide: bool,
+    m: u64,
+    t: usize,
+    powers: &[u64],
+    s: u64,
+    coins: &[u8],
+    from: usize,
+) -> u64
     requires { ⌜ Ready (f .p) ⌝ }
+    requires { ⌜ wide ≡ isWide (f .p) ⌝ }
     requires { ⌜ m ≡ reciprocal (f .p) ⌝ }
     requires { ⌜ t ≤ 14 ⌝ }
     requires { ⌜ length (now powers) ≡ t + 1 ⌝ }
@@ -440,19 +451,20 @@ fn dealt(f: Field, m: u64, t: usize, powers: &[u64], s: u64, coins: &[u8], from:
     requires { ⌜ allBelow (f .p) (numbers (now coins)) ≡ true ⌝ }
     ensures { λ r. ⌜ Is (f .p) (dot (f .p) (now (powers .entry)) (s ∷ take t (drop from (numbers (now (coins .entry)))))) r ⌝ }
 {
-    let mut sum = f.product(powers[0], s);
+    let mut sum = f.add_product(wide, 0, powers[0], s);
     let mut j: usize = 0;
     while j < t {
         let k = j + 1;
-        sum += f.product(powers[k], numbers::number(coins, from + j));
+        sum = f.add_product(wide, sum, powers[k], numbers::number(coins, from + j));
         j = k;
     }
-    f.reduced(m, sum)
+    f.reduced(wide, m, sum)
 }
 
-// Party i's product of its shares of two wires; m is the reciprocal.
-fn product(h: Header, m: u64, table: &[u64], a: usize, b: usize, i: usize) -> u64
+// Party i's product of its shares of two wires.
+fn product(h: Header, wide: bool, m: u64, table: &[u64], a: usize, b: usize, i: usize) -> u64
     requires { ⌜ Running h (now table) ⌝ }
+    requires { ⌜ wide ≡ isWide (h .field .p) ⌝ }
     requires { ⌜ m ≡ reciprocal (h .field .p) ⌝ }
     requires { ⌜ 1 ≤ i ⌝ }
     requires { ⌜ i ≤ 15 ⌝ }
@@ -460,15 +472,14 @@ fn product(h: Header, m: u64, table: &[u64], a: usize, b: usize, i: usize) -> u6
 {
     let f = h.field;
     let n = h.n;
-    f.reduced(
-        m,
-        f.product(share_in(table, n, i, a), share_in(table, n, i, b)),
-    )
+    let sum = f.add_product(wide, 0, share_in(table, n, i, a), share_in(table, n, i, b));
+    f.reduced(wide, m, sum)
 }
 
-// The piece of dealer d's product, d counted from 0, when its coins begin at number `from`; m is the reciprocal.
+// The piece of dealer d's product, d counted from 0, when its coins begin at number `from`.
 fn put_piece(
     h: Header,
+    wide: bool,
     m: u64,
     a: usize,
     b: usize,
@@ -481,6 +492,7 @@ fn put_piece(
     out: &mut [u8],
 ) -> usize
     requires { ⌜ Running h (now table) ⌝ }
+    requires { ⌜ wide ≡ isWide (h .field .p) ⌝ }
     requires { ⌜ m ≡ reciprocal (h .field .p) ⌝ }
     requires { ⌜ PowerRow h (now powers) ⌝ }
     requires { ⌜ allBelow (h .field .p) (numbers (now coins)) ≡ true ⌝ }
@@ -489,11 +501,51 @@ fn put_piece(
     requires { ⌜ at ≤ 2000000 ⌝ }
     ensures { λ r. ⌜ Wrote 1 (dot (h .field .p) (now (powers .entry)) (mul (h .field .p) (shareIn (h .n) (now (table .entry)) (d + 1) a) (shareIn (h .n) (now (table .entry)) (d + 1) b) ∷ take (h .t) (drop from (numbers (now (coins .entry))))) ∷ []) at (now (out .entry)) (now (out .exit)) r ⌝ }
 {
-    let s = product(h, m, table, a, b, d + 1);
-    put(dealt(h.field, m, h.t, powers, s, coins, from), at, out)
+    let s = product(h, wide, m, table, a, b, d + 1);
+    put(
+        dealt(h.field, wide, m, h.t, powers, s, coins, from),
+        at,
+        out,
+    )
 }
 
 // The pieces of all dealers' products, when the first dealer's coins begin at number `from`.
+fn put_pieces_by(
+    h: Header,
+    wide: bool,
+    a: usize,
+    b: usize,
+    table: &[u64],
+    coins: &[u8],
+    from: usize,
+    powers: &[u64],
+    at: usize,
+    out: &mut [u8],
+) -> usize
+    requires { ⌜ 2 * h .t < h .n ⌝ }
+    requires { ⌜ Running h (now table) ⌝ }
+    requires { ⌜ wide ≡ isWide (h .field .p) ⌝ }
+    requires { ⌜ PowerRow h (now powers) ⌝ }
+    requires { ⌜ allBelow (h .field .p) (numbers (now coins)) ≡ true ⌝ }
+    requires { ⌜ from + h .t * (h .t + h .t + 1) ≤ length (now coins) / width ⌝ }
+    requires { ⌜ at ≤ 1500000 ⌝ }
+    ensures { λ r. ⌜ Wrote 15 (tab (pieceIn h (now (table .entry)) a b (numbers (now (coins .entry))) from (now (powers .entry))) (h .t + h .t + 1)) at (now (out .entry)) (now (out .exit)) r ⌝ }
+{
+    let t = h.t;
+    let dealers = t + t + 1;
+    let m = h.field.reciprocal();
+    let mut next = at;
+    let mut place = from;
+    let mut d: usize = 0;
+    while d < dealers {
+        next = put_piece(h, wide, m, a, b, d, table, coins, place, powers, next, out);
+        place += t;
+        d += 1;
+    }
+    next
+}
+
+// The same, by the prime's range: `wide` is a constant in each call.
 fn put_pieces(
     h: Header,
     a: usize,
@@ -513,18 +565,10 @@ fn put_pieces(
     requires { ⌜ at ≤ 1500000 ⌝ }
     ensures { λ r. ⌜ Wrote 15 (tab (pieceIn h (now (table .entry)) a b (numbers (now (coins .entry))) from (now (powers .entry))) (h .t + h .t + 1)) at (now (out .entry)) (now (out .exit)) r ⌝ }
 {
-    let t = h.t;
-    let dealers = t + t + 1;
-    let m = h.field.reciprocal();
-    let mut next = at;
-    let mut place = from;
-    let mut d: usize = 0;
-    while d < dealers {
-        next = put_piece(h, m, a, b, d, table, coins, place, powers, next, out);
-        place += t;
-        d += 1;
+    if h.field.is_wide() {
+        return put_pieces_by(h, true, a, b, table, coins, from, powers, at, out);
     }
-    next
+    put_pieces_by(h, false, a, b, table, coins, from, powers, at, out)
 }
 
 // The mail of gate g's steps at the point whose powers are lent, when the gate's coins begin at number `from`. No plan file has a gate of the

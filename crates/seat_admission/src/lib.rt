@@ -222,7 +222,7 @@ fn check_mail(
     let Checked::Passed = c else {
         return c;
     };
-    if room != 2 * plan_sizes::written_by(plan, h, i, tally, k) {
+    if room != numbers::WIDTH * plan_sizes::written_by(plan, h, i, tally, k) {
         return Checked::Refused(Refusal::BufferLength);
     }
     if k != plan_counts::last_call_by(plan, h, i, tally) {

@@ -92,7 +92,7 @@ module _ (bs : List ℕ) (v : ℕ) (l : Whole bs) (b : EachBelow 256 bs) where
   later =
       sym
       (ap bytesOf (sym (numbers-drop bs 1))
-      ∙ bytes-of-numbers (length bs / width - 1) (drop (width * 1) bs) (omega (arith, length-drop (width * 1) bs, l .even, l .some)) later-below)
+      ∙ bytes-of-numbers (length bs / width - 1) (drop (width * 1) bs) (omega (arith, length-drop (width * 1) bs, l .exact, l .some)) later-below)
 
   pub advanced : stored bs 0 v ≡ bytesOf (v ∷ drop 1 (numbers bs))
   unfolding bytesOf
@@ -106,7 +106,7 @@ pub advance-to : (bs zs : List ℕ) (v : ℕ) → Whole bs → ((i : ℕ) → Fi
 advance-to bs zs v l b e = e ∙ advanced bs v l (fits-below bs b)
 
 pub next-whole : (bs : List ℕ) (n : ℕ) → length bs ≡ width * (1 + n) → Whole bs
-next-whole bs n e = record { even = omega arith; some = omega arith }
+next-whole bs n e = record { exact = omega arith; some = omega arith }
 
 -- ---- the shares of a state: the bytes after its first number
 part-is : (s : List ℕ) → take (length s - width) (drop width s) ≡ drop width s

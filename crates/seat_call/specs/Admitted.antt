@@ -26,7 +26,7 @@ pub record Admitted (plan : Plan) (i : ℕ) (inputs coins state mail : List ℕ)
 
 -- bytes of whole numbers, one or more
 pub record Whole (bs : List ℕ) : Type 0 where
-  pub even : length bs % width ≡ 0
+  pub exact : length bs % width ≡ 0
   pub some : width ≤ length bs
 
 -- a state after call number k has learnt from its mail and worked

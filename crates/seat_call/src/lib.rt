@@ -34,7 +34,7 @@ fn learn(plan: &[u8], h: Header, k: usize, mail: &[u8], state: &mut [u8])
         return;
     }
     let step = plan_counts::step_at(plan, h, k - 1);
-    seat_learning::learn(plan, h, step, mail, &mut state[2..]);
+    seat_learning::learn(plan, h, step, mail, &mut state[numbers::WIDTH..]);
 }
 
 // What call number k writes, from the shares of a state.
@@ -56,7 +56,18 @@ fn send(
     requires { ⌜ Sendable (planOf (now plan)) i k (now inputs) (now coins) (drop 1 (numbers (now state))) (now mail) (now out) ⌝ }
     ensures { λ _. ⌜ now (out .exit) ≡ bytesOf (written (planOf (now (plan .entry))) k (callWith (planOf (now (plan .entry))) i k (numbers (now (inputs .entry))) (numbers (now (coins .entry))) [] (drop 1 (numbers (now (state .entry)))) (numbers (now (mail .entry))))) ⌝ }
 {
-    seat_sending::send(plan, h, last, i, k, inputs, coins, &state[2..], mail, out);
+    seat_sending::send(
+        plan,
+        h,
+        last,
+        i,
+        k,
+        inputs,
+        coins,
+        &state[numbers::WIDTH..],
+        mail,
+        out,
+    );
 }
 
 // A call that no refusal falls on: it learns from its mail, writes its outgoing mail or its results, and numbers the next call.

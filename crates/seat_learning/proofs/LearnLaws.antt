@@ -76,13 +76,13 @@ pub read-below : (p : ℕ) (s : List ℕ) (i x : ℕ) → Ready p → allBelow p
 read-below p s i x r h e = omega (arith, entry-below p (numbers s) i r h)
 
 -- an element is written
-pub written-holds : (p : ℕ) (s d xs : List ℕ) (i v : ℕ) → p < 65536 → allBelow p (numbers s) ≡ true → v < p → d ≡ stored s i v → set (numbers s) i v ≡ xs → Holds p xs d
-written-holds p s d xs i v m h l e q =
-    let w : numbers d ≡ set (numbers s) i v = ap numbers e ∙ numbers-stored s i v (omega arith) in
+pub written-holds : (p : ℕ) (s d xs : List ℕ) (i v : ℕ) → Ready p → allBelow p (numbers s) ≡ true → v < p → d ≡ stored s i v → set (numbers s) i v ≡ xs → Holds p xs d
+written-holds p s d xs i v r h l e q =
+    let w : numbers d ≡ set (numbers s) i v = ap numbers e ∙ numbers-stored s i v (omega (arith, r .small)) in
     record { eq = w ∙ q; below = rw w (allBelow-set p i v (numbers s) h l) }
 
-pub written-below : (p : ℕ) (s d : List ℕ) (i v : ℕ) → p < 65536 → allBelow p (numbers s) ≡ true → v < p → d ≡ stored s i v → allBelow p (numbers d) ≡ true
-written-below p s d i v m h l e = written-holds p s d (set (numbers s) i v) i v m h l e refl .below
+pub written-below : (p : ℕ) (s d : List ℕ) (i v : ℕ) → Ready p → allBelow p (numbers s) ≡ true → v < p → d ≡ stored s i v → allBelow p (numbers d) ≡ true
+written-below p s d i v r h l e = written-holds p s d (set (numbers s) i v) i v r h l e refl .below
 
 -- ---- a gate
 module _ (p g : ℕ) (gate : Gate) (xs : List ℕ) (r : ℕ) where
@@ -148,7 +148,7 @@ pub ruleset going-on = (needs, planned-ready, gate-kept, work-none, work-end, wo
 module _ (p i g : ℕ) (gate : Gate) (mail s : List ℕ) (at : ℕ) (t : Bool) (e : t ≡ isInputOf i gate) (r : Ready p) (b : allBelow p (numbers s) ≡ true) where
   pub input-learnt : (x : ℕ) (d : List ℕ) → t ≡ true → allBelow p (numbers mail) ≡ true → x ≡ getD (numbers mail) at 0 → d ≡ stored s g x
       → Holds p (cond (isInputOf i gate) (set (numbers s) g (getD (numbers mail) at 0)) (numbers s)) d
-  input-learnt x d y m q w = written-holds p s d (cond (isInputOf i gate) (set (numbers s) g (getD (numbers mail) at 0)) (numbers s)) g x (r .small) b (read-below p mail at x r m q) w (rw (← e, y, q))
+  input-learnt x d y m q w = written-holds p s d (cond (isInputOf i gate) (set (numbers s) g (getD (numbers mail) at 0)) (numbers s)) g x r b (read-below p mail at x r m q) w (rw (← e, y, q))
 
   pub input-passed : t ≡ false → Holds p (cond (isInputOf i gate) (set (numbers s) g (getD (numbers mail) at 0)) (numbers s)) s
   input-passed n = record { eq = rw (← e, n); below = b }
@@ -341,7 +341,7 @@ module _ (bs : List ℕ) (h : Header) (k : Planned bs h) where
   pub product-set : (g v : ℕ) (mail s d : List ℕ) → Is (h .field .p) (reducedFrom (planOf bs) (numbers mail)) v → allBelow (h .field .p) (numbers s) ≡ true → d ≡ stored s g v
       → Holds (h .field .p) (set (numbers s) g (reducedFrom (planOf bs) (numbers mail))) d
   product-set g v mail s d i b q =
-      written-holds (h .field .p) s d (set (numbers s) g (reducedFrom (planOf bs) (numbers mail))) g v (k .p-high) b (i .lt) q (rw (i .eq))
+      written-holds (h .field .p) s d (set (numbers s) g (reducedFrom (planOf bs) (numbers mail))) g v (planned-ready bs h k) b (i .lt) q (rw (i .eq))
 
   -- a product's step has its majority
   pub product-majority : (step : Step) (g a b : ℕ) → Stepped (planOf bs) step → step ≡ DealProduct g a b → 2 * h .t < h .n

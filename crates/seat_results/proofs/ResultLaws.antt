@@ -120,10 +120,7 @@ module _ (p : ℕ) (ws : List ℕ) (n own : ℕ) (mail : List ℕ) where
   open-done d₀ d j h l e =
       numbered-all (λ j. dot p ws (fromEach n own j mail)) own d₀ d j (h .is) l (omega arith) ∙ ap (λ (m : ℕ). openedBy p ws n m mail) e
 
-pub openings-ready : (h : Header) (ws mail : List ℕ) → Openings h ws mail → Ready (h .field .p)
-openings-ready h ws mail o = o .ready
-
-pub ruleset opening-all = (needs, openings-ready, open-none, open-next, open-done)
+pub ruleset opening-all = (needs, open-none, open-next, open-done)
 
 -- ---- by the weights of the first t + 1 points
 module _ (bs : List ℕ) (h : Header) (w : Planned bs h) (pts : List ℕ) (e : take (h .n) pts ≡ planOf bs .points) where

@@ -46,7 +46,7 @@ fn open_outs(h: Header, weights: &[u64], mail: &[u8], out: &mut [u8])
     requires { ⌜ length (now out) ≤ width * 65536 ⌝ }
     ensures { λ _. ⌜ numbers (now (out .exit)) ≡ openedBy (h .field .p) (now (weights .entry)) (h .n) (length (now (out .entry)) / width) (numbers (now (mail .entry))) ⌝ }
 {
-    let own = out.len() / 2;
+    let own = out.len() / numbers::WIDTH;
     let mut j: usize = 0;
     while j < own {
         let value = opening(h, weights, own, j, mail);

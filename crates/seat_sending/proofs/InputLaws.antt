@@ -14,8 +14,8 @@ use lib.Dec.{eqb}
 use lib.ListN.{length, getD, take, drop}
 use lib.Seq.{take-suc, take-all, length-take-le}
 use Rattle.numbers.specs.Tables.{tab, countWhere}
-use Rattle.numbers.specs.Bytes.{width, limit, numbers, stored}
-use Rattle.field.specs.Field.{Is}
+use Rattle.numbers.specs.Bytes.{width, numbers, stored}
+use Rattle.field.specs.Field.{Is, Ready}
 use Rattle.numbers.proofs.Bytes.{numbers-length}
 use Rattle.numbers.proofs.Tables.{is-tab, tab-map}
 use Rattle.numbers.proofs.Below.{allBelow-at}
@@ -47,14 +47,11 @@ module _ (t b : Bool) (e : t ≡ b) (v at : ℕ) (old : List ℕ) where
   pub gate-unless : not t ≡ true → Sent (cond b (v ∷ []) []) at old old at
   gate-unless f = sent-unless b v at old (sym e ∙ not-true t f)
 
-  pub gate-where : (w p : ℕ) (new : List ℕ) → not t ≡ false → Is p v w → p < limit → new ≡ stored old at w → Sent (cond b (v ∷ []) []) at old new (at + 1)
-  gate-where w p new f is l to =
-      rw (← is .eq) (sent-where b w at old new (sym e ∙ not-false t f) to (omega (arith, is .lt)))
+  pub gate-where : (w p : ℕ) (new : List ℕ) → not t ≡ false → Is p v w → Ready p → new ≡ stored old at w → Sent (cond b (v ∷ []) []) at old new (at + 1)
+  gate-where w p new f is r to =
+      rw (← is .eq) (sent-where b w at old new (sym e ∙ not-false t f) to (omega (arith, is .lt, r .small)))
 
-pub small-prime : (p t s : ℕ) (cs : List ℕ) (at : ℕ) → Dealing p t s cs at → p < limit
-small-prime p t s cs at d = d .ready .small
-
-pub ruleset input-sending = (needs, gate-unless, gate-where, small-prime)
+pub ruleset input-sending = (needs, gate-unless, gate-where)
 
 -- ---- the wires of a list of gates, and the shares of the dealings there
 module _ (f : Gate → Bool) where

@@ -2,14 +2,13 @@
 --     Valued, valuing       the value of a polynomial, from the last coefficient
 --     dealing               its values at the points
 --     Summed, summing       the weighted sum, with one remainder
---     summing-by            the same, reduced by the reciprocal
 -- Assumes nothing.
 use mathlib.Core.Path.{_≡_, refl, sym, ap, _∙_}
 use mathlib.Core.Bool.{Bool, true, false}
 use mathlib.Core.List.{List, [], _∷_, map}
 use Prim.Native.Nat.{ℕ, zero, suc, _+_, _*_, _-_, _%_, _^_, _≤_, _<_}
 use native.Mathlib.Numerals.{add-one}
-use native.Mathlib.Nat.{mod-lt, mul-le-mul, mul-le-mul-right, add-mul}
+use native.Mathlib.Nat.{mod-lt}
 use native.Mathlib.Omega.{arith}
 use borrow.Author.Needs.{needs}
 use borrow.Author.Tests.{ltb-true, ltb-false}
@@ -22,9 +21,10 @@ use Rattle.numbers.proofs.Below.{allBelow-at, allBelow-drop}
 use Rattle.numbers.proofs.Fills.{Filled, filling, filled}
 use Rattle.field.specs.Mod.{add, mul}
 use Rattle.field.specs.Prime.{Prime}
-use Rattle.field.specs.Field.{Below2, Is, reciprocal, Reducible, Ready}
+use Rattle.field.specs.Field.{Below2, Is, kept, sumBound, reciprocal, Reducible, Ready}
 use Rattle.field.proofs.Solve.{Canon, zero-canon, Same, same, turn, _⨾_, plus, mul-same, add-same, mod-canon, add-canon, canon-same, mod-same}
 use Rattle.field.proofs.Products.{word}
+use Rattle.field.proofs.Sums.{kept-same, kept-bound, bound-low, bound-more}
 use Rattle.sharing_laws.specs.Poly.{eval}
 use Rattle.sharing_laws.specs.Interp.{dot, plainSum}
 use Rattle.sharing_laws.specs.Sharing.{deal}
@@ -104,74 +104,57 @@ dot-canon p (w ∷ ws) (v ∷ vs) = add-canon _ _
 pub plain-dot : (p : ℕ) (ws vs : List ℕ) → plainSum ws vs % p ≡ dot p ws vs
 plain-dot p ws vs = plain-same p ws vs .rest ∙ dot-canon p ws vs .canon
 
--- at most p² for each weight
-pub plain-bound : (p : ℕ) (ws vs : List ℕ) → Ready p → allBelow p ws ≡ true → allBelow p vs ≡ true → plainSum ws vs ≤ length ws * (p * p)
-unfolding plainSum
-plain-bound p [] vs r hw hv = omega arith
-plain-bound p (w ∷ ws) [] r hw hv = omega arith
-plain-bound p (w ∷ ws) (v ∷ vs) r hw hv =
-    let term : w * v ≤ p * p = mul-le-mul {n₁ = w} {m₁ = v} {n₂ = p} {m₂ = p} (omega (arith, entry-below p (w ∷ ws) 0 r hw)) (omega (arith, entry-below p (v ∷ vs) 0 r hv)) in
-    omega (arith, plain-bound p ws vs r (allBelow-drop p 1 (w ∷ ws) hw) (allBelow-drop p 1 (v ∷ vs) hv), add-mul (length ws) 1 (p * p))
-
--- the invariant: sum, with what is left from i on, is the whole sum
-pub record Summed (ws vs : List ℕ) (sum i : ℕ) : Type 0 where
+-- the invariant: sum, with what is left from i on, is the whole sum modulo p
+pub record Summed (p : ℕ) (ws vs : List ℕ) (sum i : ℕ) : Type 0 where
   pub within : i ≤ length ws
-  pub small : sum ≤ i * 4294836225
-  pub whole : sum + plainSum (drop i ws) (drop i vs) ≡ plainSum ws vs
+  pub small : sum ≤ sumBound p i
+  pub whole : Same p (sum + plainSum (drop i ws) (drop i vs)) (plainSum ws vs)
 
-module _ (ws vs : List ℕ) where
-  pub sum-none : Summed ws vs 0 0
-  sum-none = record { within = omega arith; small = omega arith; whole = omega arith }
-
-  product-small : (p i : ℕ) → Ready p → allBelow p ws ≡ true → allBelow p vs ≡ true → getD ws i 0 * getD vs i 0 ≤ 4294836225
-  product-small p i r hw hv = omega (arith, word (getD ws i 0) (getD vs i 0) (omega (arith, r .small, entry-below p ws i r hw)) (omega (arith, r .small, entry-below p vs i r hv)))
+module _ (p : ℕ) (ws vs : List ℕ) where
+  pub sum-none : Summed p ws vs 0 0
+  sum-none = record { within = omega arith; small = omega arith; whole = same (omega arith) }
 
   plain-drop : (i : ℕ) → i < length ws → i < length vs → plainSum (drop i ws) (drop i vs) ≡ getD ws i 0 * getD vs i 0 + plainSum (drop (i + 1) ws) (drop (i + 1) vs)
   unfolding plainSum
   plain-drop i l m = rw (drop-cons ws i 0 l, drop-cons vs i 0 m, add-one)
 
-  pub sum-more : (p sum i : ℕ) → Ready p → allBelow p ws ≡ true → allBelow p vs ≡ true → length ws ≤ length vs → Summed ws vs sum i → i < length ws → Summed ws vs (sum + getD ws i 0 * getD vs i 0) (i + 1)
-  sum-more p sum i r hw hv le s l = record {
-    within = omega arith;
-    small = omega (arith, s .small, product-small p i r hw hv);
-    whole = omega (arith, s .whole, plain-drop i l (omega arith));
-  }
+  module _ (r : Ready p) (sum i : ℕ) (s : Summed p ws vs sum i) where
+    -- what has been added is small enough for one product more
+    pub sum-low : length ws ≤ 65536 → sum ≤ 4294967296 * p
+    sum-low le = omega (arith, s .small, bound-low p (r .small) i (omega (arith, s .within)))
 
-  pub sum-whole : (p sum i : ℕ) → Ready p → length ws ≤ i → Summed ws vs sum i → Is p (dot p ws vs) (sum % p)
-  unfolding plainSum
-  sum-whole p sum i r l s =
-      let all : sum ≡ plainSum ws vs = omega (arith, rw (drop-of-length-le ws {i = i} l) at (s .whole)) in
-      record { eq = ap (λ (n : ℕ). n % p) all ∙ plain-dot p ws vs; lt = mod-lt sum (omega (arith, r .prime .above)) }
+    pub sum-few : length ws ≤ 16 → sum ≤ 4294967296 * p
+    sum-few le = sum-low (omega arith)
 
-  pub sum-fits : (p sum i : ℕ) → Ready p → allBelow p ws ≡ true → allBelow p vs ≡ true → length ws ≤ 65536 → Summed ws vs sum i → sum + getD ws i 0 * getD vs i 0 < 2 ^ 64
-  sum-fits p sum i r hw hv le s = omega (arith, s .small, s .within, product-small p i r hw hv)
+    module _ (hw : allBelow p ws ≡ true) (hv : allBelow p vs ≡ true) where
+      pub term-below : Below2 p (getD ws i 0) (getD vs i 0)
+      term-below = record { above = r .prime .above; small = r .small; left = entry-below p ws i r hw; right = entry-below p vs i r hv }
 
-  pub term-fits : (p sum i : ℕ) → Ready p → allBelow p ws ≡ true → allBelow p vs ≡ true → getD ws i 0 * getD vs i 0 < 2 ^ 64
-  term-fits p sum i r hw hv = omega (arith, product-small p i r hw hv)
-
-  -- the terms worked by the field's products, and the sum reduced by the reciprocal
-  module _ (p : ℕ) (r : Ready p) (hw : allBelow p ws ≡ true) (hv : allBelow p vs ≡ true) (sum i : ℕ) (s : Summed ws vs sum i) where
-    pub term-below : Below2 p (getD ws i 0) (getD vs i 0)
-    term-below = record { above = r .prime .above; small = r .small; left = entry-below p ws i r hw; right = entry-below p vs i r hv }
-
-    module _ (y : ℕ) (e : y ≡ getD ws i 0 * getD vs i 0) where
-      pub next-fits : length ws ≤ 16 → sum + y < 2 ^ 64
-      next-fits le = rw e (sum-fits p sum i r hw hv (omega arith) s)
-
-      pub sum-next : length ws ≤ length vs → i < length ws → Summed ws vs (sum + y) (i + 1)
-      sum-next le l = rw e (sum-more p sum i r hw hv le s l)
+      pub sum-more : (y : ℕ) → y ≡ kept p (sum + getD ws i 0 * getD vs i 0) → length ws ≤ length vs → i < length ws → Summed p ws vs y (i + 1)
+      sum-more y e le l = rw e (record {
+        within = omega arith;
+        small = kept-bound p (r .small) (getD ws i 0) (getD vs i 0) (entry-below p ws i r hw) (entry-below p vs i r hv) i sum (s .small);
+        whole =
+            plus (kept-same p (sum + getD ws i 0 * getD vs i 0)) (same refl)
+            ⨾ same {b = sum + plainSum (drop i ws) (drop i vs)} (omega (arith, plain-drop i l (omega arith)))
+            ⨾ s .whole;
+      })
 
     pub sum-reducible : (m : ℕ) → m ≡ reciprocal p → length ws ≤ 16 → Reducible p m sum
     sum-reducible m e le = record {
       above = r .prime .above;
       small = r .small;
       by = e;
-      sum = omega (arith, s .whole, plain-bound p ws vs r hw hv, mul-le-mul-right (p * p) le);
+      sum = omega (arith, s .small, bound-more p (r .small) i 16 (omega (arith, s .within)));
     }
 
-    pub sum-reduced : (y : ℕ) → length ws ≤ i → Is p (sum % p) y → Is p (dot p ws vs) y
-    sum-reduced y l e = rw (← e .eq) at (sum-whole p sum i r l s)
+    pub sum-whole : (y : ℕ) → length ws ≤ i → Is p (sum % p) y → Is p (dot p ws vs) y
+    unfolding plainSum
+    sum-whole y l e =
+        let all : Same p (sum + 0) (plainSum ws vs) = rw (drop-of-length-le ws {i = i} l) at (s .whole) in
+        record { eq = e .eq ∙ (same {b = sum + 0} (omega arith) ⨾ all) .rest ∙ plain-dot p ws vs; lt = e .lt }
 
-pub ruleset summing-by = (needs, sum-none, term-below, next-fits, sum-next, sum-reducible, sum-reduced)
+pub ready-positive : (p : ℕ) → Ready p → 0 < p
+ready-positive p r = omega (arith, r .prime .above)
 
-pub ruleset summing = (needs, sum-none, sum-more, sum-whole, sum-fits, term-fits)
+pub ruleset summing = (needs, ready-positive, sum-none, sum-low, sum-few, term-below, sum-more, sum-reducible, sum-whole)

@@ -34,20 +34,20 @@ module _ (p : ℕ) (xs : List ℕ) where
     test-end l = allBelow-end p xs i l ∙ h .rest
 
 -- ---- remainders
-pub rest-small : (p x : ℕ) → 0 < p → p < 65536 → x % p < 65536
+pub rest-small : (p x : ℕ) → 0 < p → p < 2147483648 → x % p < 2147483648
 rest-small p x pos small = omega (arith, mod-lt x pos)
 
-pub rest-below : (p x : ℕ) → 1 < p → p < 65536 → x % p < 65536
+pub rest-below : (p x : ℕ) → 1 < p → p < 2147483648 → x % p < 2147483648
 rest-below p x above small = rest-small p x (omega arith) small
 
 -- c * power, with c a remainder, fits, and so does what it is added to
-pub term-fits : (p c power : ℕ) → 1 < p → p < 65536 → power < 65536 → c % p * power < 2 ^ 64
+pub term-fits : (p c power : ℕ) → 1 < p → p < 2147483648 → power < 2147483648 → c % p * power < 2 ^ 64
 term-fits p c power above small l = omega (arith, word (c % p) power (rest-below p c above small) l)
 
-pub sum-fits : (p c power sum : ℕ) → 1 < p → p < 65536 → power < 65536 → sum < 65536 → sum + c % p * power < 2 ^ 64
+pub sum-fits : (p c power sum : ℕ) → 1 < p → p < 2147483648 → power < 2147483648 → sum < 2147483648 → sum + c % p * power < 2 ^ 64
 sum-fits p c power sum above small l m = omega (arith, word (c % p) power (rest-below p c above small) l)
 
-pub power-fits : (p x power : ℕ) → 1 < p → p < 65536 → power < 65536 → power * (x % p) < 2 ^ 64
+pub power-fits : (p x power : ℕ) → 1 < p → p < 2147483648 → power < 2147483648 → power * (x % p) < 2 ^ 64
 power-fits p x power above small l = omega (arith, word power (x % p) l (rest-below p x above small))
 
 pub truth : (b : Bool) (p : ℕ) (xs : List ℕ) → b ≡ allBelow p xs → b ≡ true → allBelow p xs ≡ true

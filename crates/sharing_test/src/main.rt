@@ -10,7 +10,7 @@ ghost use lib.ListN.{length};
 ghost use Rattle.numbers.specs.Bytes.{allBelow};
 ghost use Rattle.field.specs.Field.{Ready};
 
-const PRIMES: [u32; 8] = [17, 19, 31, 101, 257, 4099, 32749, 65521];
+const PRIMES: [u32; 10] = [17, 19, 31, 101, 257, 4099, 32749, 65521, 65537, 2147483647];
 
 // How many comparisons agreed, of how many.
 struct Count {
@@ -61,7 +61,7 @@ fn chance(p: u64, seed: u64, out: &mut [u64])
 
 // step, 2 step, 3 step, .. modulo p.
 fn multiples(p: u64, step: u64, out: &mut [u64])
-    requires { ⌜ (0 < p) × (p < 65536) × (step < 65536) ⌝ }
+    requires { ⌜ (0 < p) × (p < 2147483648) × (step < 2147483648) ⌝ }
 {
     let mut at: u64 = 0;
     let mut i = 0;
@@ -74,7 +74,7 @@ fn multiples(p: u64, step: u64, out: &mut [u64])
 
 // The value of a polynomial by powers of x.
 fn by_powers(p: u64, coefficients: &[u64], x: u64) -> u64
-    requires { ⌜ (1 < p) × (p < 65536) ⌝ }
+    requires { ⌜ (1 < p) × (p < 2147483648) ⌝ }
 {
     let y = x % p;
     let mut sum: u64 = 0;
@@ -91,7 +91,7 @@ fn by_powers(p: u64, coefficients: &[u64], x: u64) -> u64
 
 // The shares of a polynomial, each compared with its value by powers.
 fn values(p: u64, polynomial: &[u64], points: &[u64], shares: &[u64], c: Count) -> Count
-    requires { ⌜ (1 < p) × (p < 65536) ⌝ }
+    requires { ⌜ (1 < p) × (p < 2147483648) ⌝ }
 {
     let mut sum = c;
     let mut i = 0;
@@ -235,7 +235,7 @@ fn weighted(
 
 // The values of a polynomial, which are to be 1 at 0, and 0 at just the first m points; and its coefficients, which are to be 0 past the first m + 1.
 fn vanishes(p: u64, polynomial: &[u64], points: &[u64], m: usize, c: Count) -> Count
-    requires { ⌜ (1 < p) × (p < 65536) ⌝ }
+    requires { ⌜ (1 < p) × (p < 2147483648) ⌝ }
 {
     let mut sum = noted(c, by_powers(p, polynomial, 0) == 1);
     let mut i = 0;
@@ -465,7 +465,7 @@ fn main() {
         vanishings: none,
     };
     let mut i: usize = 0;
-    while i < 8 {
+    while i < 10 {
         sum = tried(PRIMES[i], sum);
         i += 1;
     }

@@ -29,26 +29,26 @@ cast-set c = search reporting
 add-rest : tie.Need-add-rest
 add-rest c = search reporting
 
-sub-put-answer : tie.Need-sub-put-answer
-sub-put-answer c = search reporting
+sub-put-numbers : tie.Need-sub-put-numbers
+sub-put-numbers c = search reporting
 
-part-put-answer-start : tie.Need-part-put-answer-start
-part-put-answer-start c = search reporting
+part-put-numbers-start : tie.Need-part-put-numbers-start
+part-put-numbers-start c = search reporting
 
-part-put-answer-end : tie.Need-part-put-answer-end
-part-put-answer-end c = search reporting
+part-put-numbers-end : tie.Need-part-put-numbers-end
+part-put-numbers-end c = search reporting
 
-sub-put-answer-2 : tie.Need-sub-put-answer-2
-sub-put-answer-2 c = search reporting
+sub-put-numbers-2 : tie.Need-sub-put-numbers-2
+sub-put-numbers-2 c = search reporting
 
-part-put-answer-start-2 : tie.Need-part-put-answer-start-2
-part-put-answer-start-2 c = search reporting
+part-put-numbers-start-2 : tie.Need-part-put-numbers-start-2
+part-put-numbers-start-2 c = search reporting
 
-part-put-answer-end-2 : tie.Need-part-put-answer-end-2
-part-put-answer-end-2 c = search reporting
+part-put-numbers-end-2 : tie.Need-part-put-numbers-end-2
+part-put-numbers-end-2 c = search reporting
 
-put-answer-requires : tie.Need-put-answer-requires
-put-answer-requires c κs = search reporting
+put-numbers-requires : tie.Need-put-numbers-requires
+put-numbers-requires c κs = search reporting
 
 same-length-2 : tie.Need-same-length-2
 same-length-2 c = search reporting
@@ -69,12 +69,12 @@ report-spec =
     word-requires-2
     cast-set
     add-rest
-    sub-put-answer
-    part-put-answer-start
-    part-put-answer-end
-    sub-put-answer-2
-    part-put-answer-start-2
-    part-put-answer-end-2
-    put-answer-requires
+    sub-put-numbers
+    part-put-numbers-start
+    part-put-numbers-end
+    sub-put-numbers-2
+    part-put-numbers-start-2
+    part-put-numbers-end-2
+    put-numbers-requires
     same-length-2
     returns-2)

@@ -1,11 +1,12 @@
 use Prim.Native.Nat.{_-_}
-use lib.ListN.{length}
-use Rattle.charge_parts.proofs.Loops.{Put, putting}
+use lib.ListN.{length, getD}
+use Rattle.numbers.proofs.Fills.{Stored}
+use Rattle.charge_parts.proofs.Loops.{putting}
 use Rattle.charge_parts.proofs.put_parts.Statement.{statement}
 use Rattle.charge_parts.proofs.put_parts.Tie as tie
 
 abbrev Inv-loop : tie.InvT-loop
-Inv-loop parts out₀ i₀ out i = Put parts out₀ out i
+Inv-loop parts out₀ i₀ out i = Stored (λ k. getD parts k 0) (length parts) out₀ out i
 
 abbrev μ-loop : tie.MeasureT-loop
 μ-loop parts out₀ i₀ out i = length parts - i
@@ -13,14 +14,14 @@ abbrev μ-loop : tie.MeasureT-loop
 loop-holds : tie.Need-loop-holds Inv-loop μ-loop
 loop-holds c = search putting
 
-mul-put-part : tie.Need-mul-put-part Inv-loop μ-loop
-mul-put-part c = search putting
+mul-write : tie.Need-mul-write Inv-loop μ-loop
+mul-write c = search putting
 
-shared-slice-read-put-part : tie.Need-shared-slice-read-put-part Inv-loop μ-loop
-shared-slice-read-put-part c = search putting
+shared-slice-read-write : tie.Need-shared-slice-read-write Inv-loop μ-loop
+shared-slice-read-write c = search putting
 
-put-part-requires : tie.Need-put-part-requires Inv-loop μ-loop
-put-part-requires c κs = search putting
+write-requires : tie.Need-write-requires Inv-loop μ-loop
+write-requires c κs = search putting
 
 add-i : tie.Need-add-i Inv-loop μ-loop
 add-i c = search putting
@@ -44,9 +45,9 @@ put-parts-spec =
     Inv-loop
     μ-loop
     loop-holds
-    mul-put-part
-    shared-slice-read-put-part
-    put-part-requires
+    mul-write
+    shared-slice-read-write
+    write-requires
     add-i
     loop-less
     loop-again

@@ -1,12 +1,13 @@
 use Prim.Native.Nat.{_-_, _/_}
 use lib.ListN.{length}
+use Rattle.numbers.specs.Bytes.{width}
 use Rattle.numbers.proofs.Searches.{Seeking}
 use Rattle.numbers.proofs.Ways.{isBelow, coding}
 use Rattle.numbers.proofs.first_over.Statement.{statement}
 use Rattle.numbers.proofs.first_over.Tie as tie
 
 abbrev Inv-loop : tie.InvT-loop
-Inv-loop s p n i₀ i = Seeking (isBelow s p) (length s / 2) i
+Inv-loop s p n i₀ i = Seeking (isBelow s p) (length s / width) i
 
 abbrev μ-loop : tie.MeasureT-loop
 μ-loop s p n i₀ i = n - i

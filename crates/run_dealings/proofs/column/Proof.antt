@@ -5,10 +5,10 @@ use Rattle.run_dealings.proofs.column.Statement.{statement}
 use Rattle.run_dealings.proofs.column.Tie as tie
 
 abbrev Inv-loop : tie.InvT-loop
-Inv-loop f m weights powers polynomials j grid₀ k sum₀ at₀ d₀ grid sum at d = Columning (f .p) weights powers polynomials j grid₀ grid sum at d
+Inv-loop f wide m weights powers polynomials j grid₀ k sum₀ at₀ d₀ grid sum at d = Columning (f .p) weights powers polynomials j grid₀ grid sum at d
 
 abbrev μ-loop : tie.MeasureT-loop
-μ-loop f m weights powers polynomials j grid₀ k sum₀ at₀ d₀ grid sum at d = length weights - d
+μ-loop f wide m weights powers polynomials j grid₀ k sum₀ at₀ d₀ grid sum at d = length weights - d
 
 loop-holds : tie.Need-loop-holds Inv-loop μ-loop
 loop-holds c = search columning
@@ -29,7 +29,7 @@ part-dot-by-end : tie.Need-part-dot-by-end Inv-loop μ-loop
 part-dot-by-end c = search columning
 
 dot-by-requires : tie.Need-dot-by-requires Inv-loop μ-loop
-dot-by-requires c κs = (search columning, (search columning, (search columning, (search columning, (search columning, search columning)))))
+dot-by-requires c κs = (search columning, (search columning, (search columning, (search columning, (search columning, (search columning, search columning))))))
 
 mul-grid : tie.Need-mul-grid Inv-loop μ-loop
 mul-grid c = search columning
@@ -43,17 +43,14 @@ index-1-grid c = search columning
 index-2-grid : tie.Need-index-2-grid Inv-loop μ-loop
 index-2-grid c = search columning
 
-mul-product : tie.Need-mul-product Inv-loop μ-loop
-mul-product c = search columning
+mul-add-product : tie.Need-mul-add-product Inv-loop μ-loop
+mul-add-product c = search columning
 
-shared-slice-read-product : tie.Need-shared-slice-read-product Inv-loop μ-loop
-shared-slice-read-product c = search columning
+shared-slice-read-add-product : tie.Need-shared-slice-read-add-product Inv-loop μ-loop
+shared-slice-read-add-product c = search columning
 
-product-requires : tie.Need-product-requires Inv-loop μ-loop
-product-requires c κs = search columning
-
-add-sum : tie.Need-add-sum Inv-loop μ-loop
-add-sum c = search columning
+add-product-requires : tie.Need-add-product-requires Inv-loop μ-loop
+add-product-requires c κs = (search columning, (search columning, search columning))
 
 add-d : tie.Need-add-d Inv-loop μ-loop
 add-d c = search columning
@@ -65,7 +62,7 @@ loop-again : tie.Need-loop-again Inv-loop μ-loop
 loop-again c = search columning
 
 reduced-requires : tie.Need-reduced-requires Inv-loop μ-loop
-reduced-requires c κs = search columning
+reduced-requires c κs = (search columning, search columning)
 
 returns : tie.Need-returns Inv-loop μ-loop
 returns c = (search columning, search columning)
@@ -87,10 +84,9 @@ column-spec =
     mul-grid-2
     index-1-grid
     index-2-grid
-    mul-product
-    shared-slice-read-product
-    product-requires
-    add-sum
+    mul-add-product
+    shared-slice-read-add-product
+    add-product-requires
     add-d
     loop-less
     loop-again

@@ -5,10 +5,10 @@ use Rattle.run_dealings.proofs.columns.Statement.{statement}
 use Rattle.run_dealings.proofs.columns.Tie as tie
 
 abbrev Inv-loop : tie.InvT-loop
-Inv-loop f m k points rows weights polynomials grid₀ sums₀ at₀ j₀ grid sums at j = Gridding (f .p) k points weights polynomials grid₀ grid sums at j
+Inv-loop f wide m k points rows weights polynomials grid₀ sums₀ at₀ j₀ grid sums at j = Gridding (f .p) k points weights polynomials grid₀ grid sums at j
 
 abbrev μ-loop : tie.MeasureT-loop
-μ-loop f m k points rows weights polynomials grid₀ sums₀ at₀ j₀ grid sums at j = length points - j
+μ-loop f wide m k points rows weights polynomials grid₀ sums₀ at₀ j₀ grid sums at j = length points - j
 
 loop-holds : tie.Need-loop-holds Inv-loop μ-loop
 loop-holds c = search gridding
@@ -29,7 +29,7 @@ part-column-end : tie.Need-part-column-end Inv-loop μ-loop
 part-column-end c = search gridding
 
 column-requires : tie.Need-column-requires Inv-loop μ-loop
-column-requires c κs = (search gridding, (search gridding, ((search gridding, search gridding), ((search gridding, search gridding), ((search gridding, search gridding), search gridding)))))
+column-requires c κs = (search gridding, (search gridding, (search gridding, ((search gridding, search gridding), ((search gridding, search gridding), ((search gridding, search gridding), search gridding))))))
 
 mul-sums : tie.Need-mul-sums Inv-loop μ-loop
 mul-sums c = search gridding

@@ -5,10 +5,13 @@ use Rattle.run_dealings.proofs.dealing.Statement.{statement}
 use Rattle.run_dealings.proofs.dealing.Tie as tie
 
 abbrev Inv-loop : tie.InvT-loop
-Inv-loop f points rows polynomial m k row₀ at₀ j₀ row at j = Piecing (f .p) polynomial points row at j
+Inv-loop f points rows polynomial wide m k row₀ at₀ j₀ row at j = Piecing (f .p) polynomial points row at j
 
 abbrev μ-loop : tie.MeasureT-loop
-μ-loop f points rows polynomial m k row₀ at₀ j₀ row at j = length points - j
+μ-loop f points rows polynomial wide m k row₀ at₀ j₀ row at j = length points - j
+
+is-wide-requires : tie.Need-is-wide-requires Inv-loop μ-loop
+is-wide-requires c κs = search dealing
 
 reciprocal-requires : tie.Need-reciprocal-requires Inv-loop μ-loop
 reciprocal-requires c κs = search dealing
@@ -32,7 +35,7 @@ part-dot-by-end : tie.Need-part-dot-by-end Inv-loop μ-loop
 part-dot-by-end c = search dealing
 
 dot-by-requires : tie.Need-dot-by-requires Inv-loop μ-loop
-dot-by-requires c κs = (search dealing, (search dealing, (search dealing, (search dealing, (search dealing, search dealing)))))
+dot-by-requires c κs = (search dealing, (search dealing, (search dealing, (search dealing, (search dealing, (search dealing, search dealing))))))
 
 mul-row : tie.Need-mul-row Inv-loop μ-loop
 mul-row c = search dealing
@@ -58,6 +61,7 @@ dealing-spec =
     (tie.spec
     Inv-loop
     μ-loop
+    is-wide-requires
     reciprocal-requires
     loop-holds
     add-e

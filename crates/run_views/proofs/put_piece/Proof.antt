@@ -6,10 +6,10 @@ add-product : tie.Need-add-product
 add-product c = search piecing
 
 product-requires : tie.Need-product-requires
-product-requires c κs = (search piecing, (search piecing, (search piecing, search piecing)))
+product-requires c κs = (search piecing, (search piecing, (search piecing, (search piecing, search piecing))))
 
 dealt-requires : tie.Need-dealt-requires
-dealt-requires c κs = (search piecing, (search piecing, (search piecing, (search piecing, (search piecing, (search piecing, (search piecing, search piecing)))))))
+dealt-requires c κs = (search piecing, (search piecing, (search piecing, (search piecing, (search piecing, (search piecing, (search piecing, (search piecing, search piecing))))))))
 
 put-requires : tie.Need-put-requires
 put-requires c κs = search piecing

@@ -16,7 +16,7 @@ gate-in-requires : tie.Need-gate-in-requires Inv-loop μ-loop
 gate-in-requires c κs = search learning-own
 
 learn-input-requires : tie.Need-learn-input-requires Inv-loop μ-loop
-learn-input-requires c κs = search learning-own
+learn-input-requires c κs = (search learning-own, (search learning-own, (search learning-own, search learning-own)))
 
 add-g : tie.Need-add-g Inv-loop μ-loop
 add-g c = search learning-own

@@ -5,31 +5,31 @@ use Rattle.sharing.proofs.dot.Statement.{statement}
 use Rattle.sharing.proofs.dot.Tie as tie
 
 abbrev Inv-loop : tie.InvT-loop
-Inv-loop f weights values sum₀ i₀ sum i = Summed weights values sum i
+Inv-loop f weights values wide sum₀ i₀ sum i = Summed (f .p) weights values sum i
 
 abbrev μ-loop : tie.MeasureT-loop
-μ-loop f weights values sum₀ i₀ sum i = length weights - i
+μ-loop f weights values wide sum₀ i₀ sum i = length weights - i
+
+is-wide-requires : tie.Need-is-wide-requires Inv-loop μ-loop
+is-wide-requires c κs = search summing
 
 loop-holds : tie.Need-loop-holds Inv-loop μ-loop
 loop-holds c = search summing
 
-mul-sum : tie.Need-mul-sum Inv-loop μ-loop
-mul-sum c = search summing
+mul-add-product : tie.Need-mul-add-product Inv-loop μ-loop
+mul-add-product c = search summing
 
-shared-slice-read-sum : tie.Need-shared-slice-read-sum Inv-loop μ-loop
-shared-slice-read-sum c = search summing
+shared-slice-read-add-product : tie.Need-shared-slice-read-add-product Inv-loop μ-loop
+shared-slice-read-add-product c = search summing
 
-mul-sum-2 : tie.Need-mul-sum-2 Inv-loop μ-loop
-mul-sum-2 c = search summing
+mul-add-product-2 : tie.Need-mul-add-product-2 Inv-loop μ-loop
+mul-add-product-2 c = search summing
 
-shared-slice-read-sum-2 : tie.Need-shared-slice-read-sum-2 Inv-loop μ-loop
-shared-slice-read-sum-2 c = search summing
+shared-slice-read-add-product-2 : tie.Need-shared-slice-read-add-product-2 Inv-loop μ-loop
+shared-slice-read-add-product-2 c = search summing
 
-mul-sum-3 : tie.Need-mul-sum-3 Inv-loop μ-loop
-mul-sum-3 c = search summing
-
-add-sum : tie.Need-add-sum Inv-loop μ-loop
-add-sum c = search summing
+add-product-requires : tie.Need-add-product-requires Inv-loop μ-loop
+add-product-requires c κs = (search summing, (search summing, search summing))
 
 add-i : tie.Need-add-i Inv-loop μ-loop
 add-i c = search summing
@@ -40,8 +40,8 @@ loop-less c = search summing
 loop-again : tie.Need-loop-again Inv-loop μ-loop
 loop-again c = search summing
 
-rem-result : tie.Need-rem-result Inv-loop μ-loop
-rem-result c = search summing
+element-requires : tie.Need-element-requires Inv-loop μ-loop
+element-requires c κs = search summing
 
 returns : tie.Need-returns Inv-loop μ-loop
 returns c = search summing
@@ -52,15 +52,15 @@ dot-spec =
     (tie.spec
     Inv-loop
     μ-loop
+    is-wide-requires
     loop-holds
-    mul-sum
-    shared-slice-read-sum
-    mul-sum-2
-    shared-slice-read-sum-2
-    mul-sum-3
-    add-sum
+    mul-add-product
+    shared-slice-read-add-product
+    mul-add-product-2
+    shared-slice-read-add-product-2
+    add-product-requires
     add-i
     loop-less
     loop-again
-    rem-result
+    element-requires
     returns)

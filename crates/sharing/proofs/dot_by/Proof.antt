@@ -1,50 +1,47 @@
 use Prim.Native.Nat.{_-_}
 use lib.ListN.{length}
-use Rattle.sharing.proofs.Coding.{Summed, summing-by}
+use Rattle.sharing.proofs.Coding.{Summed, summing}
 use Rattle.sharing.proofs.dot_by.Statement.{statement}
 use Rattle.sharing.proofs.dot_by.Tie as tie
 
 abbrev Inv-loop : tie.InvT-loop
-Inv-loop f m weights values sum₀ i₀ sum i = Summed weights values sum i
+Inv-loop f wide m weights values sum₀ i₀ sum i = Summed (f .p) weights values sum i
 
 abbrev μ-loop : tie.MeasureT-loop
-μ-loop f m weights values sum₀ i₀ sum i = length weights - i
+μ-loop f wide m weights values sum₀ i₀ sum i = length weights - i
 
 loop-holds : tie.Need-loop-holds Inv-loop μ-loop
-loop-holds c = search summing-by
+loop-holds c = search summing
 
-mul-product : tie.Need-mul-product Inv-loop μ-loop
-mul-product c = search summing-by
+mul-add-product : tie.Need-mul-add-product Inv-loop μ-loop
+mul-add-product c = search summing
 
-shared-slice-read-product : tie.Need-shared-slice-read-product Inv-loop μ-loop
-shared-slice-read-product c = search summing-by
+shared-slice-read-add-product : tie.Need-shared-slice-read-add-product Inv-loop μ-loop
+shared-slice-read-add-product c = search summing
 
-mul-product-2 : tie.Need-mul-product-2 Inv-loop μ-loop
-mul-product-2 c = search summing-by
+mul-add-product-2 : tie.Need-mul-add-product-2 Inv-loop μ-loop
+mul-add-product-2 c = search summing
 
-shared-slice-read-product-2 : tie.Need-shared-slice-read-product-2 Inv-loop μ-loop
-shared-slice-read-product-2 c = search summing-by
+shared-slice-read-add-product-2 : tie.Need-shared-slice-read-add-product-2 Inv-loop μ-loop
+shared-slice-read-add-product-2 c = search summing
 
-product-requires : tie.Need-product-requires Inv-loop μ-loop
-product-requires c κs = search summing-by
-
-add-sum : tie.Need-add-sum Inv-loop μ-loop
-add-sum c = search summing-by
+add-product-requires : tie.Need-add-product-requires Inv-loop μ-loop
+add-product-requires c κs = (search summing, (search summing, search summing))
 
 add-i : tie.Need-add-i Inv-loop μ-loop
-add-i c = search summing-by
+add-i c = search summing
 
 loop-less : tie.Need-loop-less Inv-loop μ-loop
-loop-less c = search summing-by
+loop-less c = search summing
 
 loop-again : tie.Need-loop-again Inv-loop μ-loop
-loop-again c = search summing-by
+loop-again c = search summing
 
 reduced-requires : tie.Need-reduced-requires Inv-loop μ-loop
-reduced-requires c κs = search summing-by
+reduced-requires c κs = (search summing, search summing)
 
 returns : tie.Need-returns Inv-loop μ-loop
-returns c = search summing-by
+returns c = search summing
 
 pub dot-by-spec : {M : Type 1} → statement M
 dot-by-spec =
@@ -53,12 +50,11 @@ dot-by-spec =
     Inv-loop
     μ-loop
     loop-holds
-    mul-product
-    shared-slice-read-product
-    mul-product-2
-    shared-slice-read-product-2
-    product-requires
-    add-sum
+    mul-add-product
+    shared-slice-read-add-product
+    mul-add-product-2
+    shared-slice-read-add-product-2
+    add-product-requires
     add-i
     loop-less
     loop-again

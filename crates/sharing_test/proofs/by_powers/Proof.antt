@@ -5,7 +5,7 @@ use Rattle.sharing_test.proofs.by_powers.Statement.{statement}
 use Rattle.sharing_test.proofs.by_powers.Tie as tie
 
 abbrev Inv-loop : tie.InvT-loop
-Inv-loop p coefficients x y sum₀ power₀ i₀ sum power i = (sum < 65536) × (power < 65536) × (i ≤ length coefficients)
+Inv-loop p coefficients x y sum₀ power₀ i₀ sum power i = (sum < 2147483648) × (power < 2147483648) × (i ≤ length coefficients)
 
 abbrev μ-loop : tie.MeasureT-loop
 μ-loop p coefficients x y sum₀ power₀ i₀ sum power i = length coefficients - i

@@ -4,10 +4,10 @@ use Rattle.sharing_test.proofs.main.Statement.{statement}
 use Rattle.sharing_test.proofs.main.Tie as tie
 
 abbrev Inv-loop : tie.InvT-loop
-Inv-loop sum₀ i₀ t4 t5 t6 t7 t8 sum i = i ≤ 8
+Inv-loop sum₀ i₀ t4 t5 t6 t7 t8 sum i = i ≤ 10
 
 abbrev μ-loop : tie.MeasureT-loop
-μ-loop sum₀ i₀ t4 t5 t6 t7 t8 sum i = 8 - i
+μ-loop sum₀ i₀ t4 t5 t6 t7 t8 sum i = 10 - i
 
 loop-holds : tie.Need-loop-holds Inv-loop μ-loop
 loop-holds c = search testing

@@ -6,7 +6,7 @@ use Rattle.sharing_test.proofs.multiples.Statement.{statement}
 use Rattle.sharing_test.proofs.multiples.Tie as tie
 
 abbrev Inv-loop : tie.InvT-loop
-Inv-loop p step out₀ at₀ i₀ out at i = (at < 65536) × (i ≤ length out₀) × (length out ≡ length out₀)
+Inv-loop p step out₀ at₀ i₀ out at i = (at < 2147483648) × (i ≤ length out₀) × (length out ≡ length out₀)
 
 abbrev μ-loop : tie.MeasureT-loop
 μ-loop p step out₀ at₀ i₀ out at i = length out₀ - i
