@@ -34,10 +34,10 @@ use Rattle.plan.specs.declared.Checked.{Checked}
 use Rattle.plan.specs.declared.Checked.the-variants.{Passed, Refused}
 use Rattle.plan.specs.Refusals.{firstOf, numberOf, placeOf}
 use Rattle.plan.specs.Plans.{Plan, partyCount, dealerCount, kindCount, isKind, isInputOf, inputOwners, coinOwnersAt, coinOwners, steps, stepAt, lastCall, received, inputCount, ownInputCount, coinCount, ownCoinCount, ownOutCount, ownInputs, ownCoins, outWires, outWiresOf, mailCount, sentCount}
-use Rattle.plan.specs.File.{nAt, pAt, between, planChecks, planCheck, planOf, headerOf}
+use Rattle.plan.specs.File.{between, planChecks, planCheck, planOf, headerOf}
 use Rattle.plan.specs.Planned.{Planned}
 use Rattle.plan.proofs.Refusals.{firstOf-append, passed-both}
-use Rattle.plan.proofs.Planned.{passing, modulus-small, planned, plan-t, plan-n, plan-dealers, plan-gates, plan-outs}
+use Rattle.plan.proofs.Planned.{planned, plan-t, plan-n, plan-dealers, plan-gates, plan-outs}
 use Rattle.plan.proofs.Wires.{out-wires-few}
 use Rattle.plan.proofs.Valid.{Valid, valid, sized, plain, plain-no-7, planned-or}
 use Rattle.plan_counts.proofs.Counts.{coins-input, coins-multiply, coins-random, coins-add, coins-scale, coins-offset, coins-spend}
@@ -168,9 +168,6 @@ module _ (bs : List ℕ) (h : Header) (k : Planned bs h) (i : ℕ) where
       omega (arith, gate-coins x, gates-coins gs, countWhere-append (eqb i) (coinOwnersAt (planOf bs) x) (flatMap (coinOwnersAt (planOf bs)) gs), mul-suc (h .t) (length gs))
 
 -- ---- the lines of a run that passes
-pub contents : (bytes : List ℕ) → planCheck bytes ≡ Passed → Planned bytes (headerOf bytes)
-contents bytes passes = planned bytes (modulus-small (nAt bytes) (pAt bytes) (passing bytes passes .modulus)) passes
-
 module _ (bytes xs cs : List ℕ) (passes : planCheck bytes ≡ Passed) (inputs : Inputs (planOf bytes) xs) (settings : Coins (planOf bytes) cs) where
   abbrev plan : Plan
   plan = planOf bytes
@@ -179,7 +176,7 @@ module _ (bytes xs cs : List ℕ) (passes : planCheck bytes ≡ Passed) (inputs 
   h = headerOf bytes
 
   k : Planned bytes (headerOf bytes)
-  k = contents bytes passes
+  k = planned bytes passes
 
   ok : Valid (planOf bytes)
   ok = valid bytes passes
@@ -328,7 +325,7 @@ module _ (bytes : List ℕ) (set : ℕ) (figures coins : List ℕ) (room : ℕ) 
       run-lines bytes (numbers figures) (numbers coins) plan-passes
       (record { count = omega (arith, numbers-length figures, given .inputs-count); small = given .inputs-below })
       (record { count = omega (arith, numbers-length coins, given .coins-count); small = given .coins-below }) set
-      (passed-set bytes set figures coins room _ refl (both .1) (headerOf bytes) (contents bytes plan-passes))
+      (passed-set bytes set figures coins room _ refl (both .1) (headerOf bytes) (planned bytes plan-passes))
 
 answer-lines : (c : Checked) (plan : Plan) (set : ℕ) (xs cs : List ℕ) → (c ≡ Passed → length (runLines plan set xs cs) ≤ 3000000) → length (answerLines c plan set xs cs) ≤ 3000000
 unfolding answerLines refusedWord

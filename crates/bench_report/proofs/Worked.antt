@@ -12,7 +12,7 @@ use Rattle.sharing_laws.specs.Interp.{factor, weight, weights, dot, interpolate
 use Rattle.sharing_laws.specs.Sharing.{opened}
 use Rattle.plan.specs.Refusals.{numberOf, placeOf, andThen, firstOf, need, unlessFound}
 use Rattle.plan.specs.Plans.{partyCount, parties, dealerCount, dealerPoints, kindOf, isKind, multiplying, kindCount, operandsOf, isInputOf, wiresFrom, inputWires, outWiresOf, outWires, inputOwnersAt, firstDealings, multiplyDealings, dealingsAt, coinOwnersAt, inputOwners, coinOwners, ownOf, ownInputs, ownCoins, inputAt, coinsAt, tripleNumbers, ownTriples, multiplySteps, stepsAt, stepsFrom, steps, stepAt, lastCall, inputCount, ownInputCount, coinCount, ownCoinCount, ownOutCount, received, perMultiply, sentCount}
-use Rattle.plan.specs.File.{magic, sameBytes, between, layoutFor, gatePlace, outPlace, pointPlace, gateOf, gateAt, outAt, pointAt, gateOk, outOk, gateKept, outKept, majorityOk, majorityKept, foundNone, pointApart, pointKept, pointsPlaced, layoutOk, pointsCheck, majorityCheck, planChecks, planCheck, planOf}
+use Rattle.plan.specs.File.{magic, sameBytes, between, layoutFor, fieldAt, gateStart, gatePlace, outPlace, pointPlace, gateOf, gateFrom, gateAt, outAt, pointAt, gateOk, outOk, gateKept, outKept, majorityOk, majorityKept, foundNone, pointApart, pointKept, pointsPlaced, layoutOk, pointsCheck, majorityCheck, planChecks, planCheck, planOf}
 use Rattle.plan_coalition.specs.Coalitions.{inSet, membersFrom, members, setOk}
 use Rattle.seat_messages.specs.Messages.{setAll, fromEach, wiresByParty, openedAt, learnt, resumeAt, workGate, workFrom, learnFrom, spendFrom, learn, spend, dealTo, nothing, productAt, sendAt, callWith, call}
 use Rattle.run_protocol.specs.Rounds.{fresh, noCall, callOf, mailTo, nextCall, nextRound, after, atEnd, results, viewCountOf, viewCount}
@@ -27,7 +27,7 @@ textK : List ℕ
 textK = 112 ∷ 108 ∷ 97 ∷ 110 ∷ 32 ∷ 51 ∷ 32 ∷ 49 ∷ 32 ∷ 49 ∷ 49 ∷ 32 ∷ 52 ∷ 32 ∷ 49 ∷ 10 ∷ 118 ∷ 105 ∷ 101 ∷ 119 ∷ 32 ∷ 51 ∷ 32 ∷ 55 ∷ 10 ∷ 114 ∷ 111 ∷ 117 ∷ 110 ∷ 100 ∷ 32 ∷ 48 ∷ 32 ∷ 49 ∷ 48 ∷ 32 ∷ 51 ∷ 10 ∷ 114 ∷ 111 ∷ 117 ∷ 110 ∷ 100 ∷ 32 ∷ 49 ∷ 32 ∷ 55 ∷ 32 ∷ 52 ∷ 32 ∷ 55 ∷ 10 ∷ 114 ∷ 111 ∷ 117 ∷ 110 ∷ 100 ∷ 32 ∷ 50 ∷ 32 ∷ 49 ∷ 48 ∷ 32 ∷ 55 ∷ 32 ∷ 52 ∷ 10 ∷ 111 ∷ 117 ∷ 116 ∷ 32 ∷ 48 ∷ 32 ∷ 51 ∷ 32 ∷ 50 ∷ 10 ∷ 115 ∷ 101 ∷ 110 ∷ 116 ∷ 32 ∷ 49 ∷ 56 ∷ 10 ∷ []
 
 report-K : report (inputK 1) ≡ textK
-unfolding inputK textK tab firstFrom firstFailing countWhere numberAt bytesFrom wordAt numbersOf numbers bytesOf holdsCount firstOver allBelow add mul sub isPrime divisorFrom divisorOf inv invert eval factor weight weights dot interpolate opened numberOf placeOf andThen firstOf need unlessFound partyCount parties dealerCount dealerPoints kindOf isKind kindCount operandsOf isInputOf wiresFrom inputWires outWiresOf outWires inputOwnersAt firstDealings multiplyDealings dealingsAt coinOwnersAt inputOwners coinOwners ownOf ownInputs ownCoins inputAt coinsAt tripleNumbers ownTriples multiplySteps stepsAt stepsFrom steps stepAt lastCall inputCount ownInputCount coinCount ownCoinCount ownOutCount received perMultiply sentCount magic sameBytes between layoutFor gatePlace outPlace pointPlace gateOf gateAt outAt pointAt gateOk outOk gateKept outKept majorityOk majorityKept majorityCheck multiplying foundNone pointApart pointKept pointsPlaced pointsCheck layoutOk planChecks planCheck planOf inSet membersFrom members setOk setAll fromEach wiresByParty openedAt learnt resumeAt workGate workFrom learnFrom spendFrom learn spend dealTo nothing productAt sendAt callWith call fresh noCall callOf mailTo nextCall nextRound after atEnd results total viewCountOf viewCount runChecks benchAnswer digits decimal field line planWord viewWord roundWord outWord sentWord refusedWord planLine viewLine roundLine memberLines outLinesFrom runLines answerLines planPart setPart listPart inputWidth lent figuresPart coinsPart unreadable benchOf report flatMap
+unfolding inputK textK tab firstFrom firstFailing countWhere numberAt bytesFrom wordAt numbersOf numbers bytesOf holdsCount firstOver allBelow add mul sub isPrime divisorFrom divisorOf inv invert eval factor weight weights dot interpolate opened numberOf placeOf andThen firstOf need unlessFound partyCount parties dealerCount dealerPoints kindOf isKind kindCount operandsOf isInputOf wiresFrom inputWires outWiresOf outWires inputOwnersAt firstDealings multiplyDealings dealingsAt coinOwnersAt inputOwners coinOwners ownOf ownInputs ownCoins inputAt coinsAt tripleNumbers ownTriples multiplySteps stepsAt stepsFrom steps stepAt lastCall inputCount ownInputCount coinCount ownCoinCount ownOutCount received perMultiply sentCount magic sameBytes between layoutFor fieldAt gateStart gatePlace outPlace pointPlace gateOf gateFrom gateAt outAt pointAt gateOk outOk gateKept outKept majorityOk majorityKept majorityCheck multiplying foundNone pointApart pointKept pointsPlaced pointsCheck layoutOk planChecks planCheck planOf inSet membersFrom members setOk setAll fromEach wiresByParty openedAt learnt resumeAt workGate workFrom learnFrom spendFrom learn spend dealTo nothing productAt sendAt callWith call fresh noCall callOf mailTo nextCall nextRound after atEnd results total viewCountOf viewCount runChecks benchAnswer digits decimal field line planWord viewWord roundWord outWord sentWord refusedWord planLine viewLine roundLine memberLines outLinesFrom runLines answerLines planPart setPart listPart inputWidth lent figuresPart coinsPart unreadable benchOf report flatMap
 report-K = refl
 
 refusedText : List ℕ

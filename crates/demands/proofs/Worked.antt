@@ -11,7 +11,7 @@ use Rattle.sharing_laws.specs.Sharing.{opened, firstOff, mixture, matched}
 use Rattle.sharing_laws.specs.Basis.{sumAll, basis, fitted, entry, row, matchedZero}
 use Rattle.plan.specs.Refusals.{numberOf, placeOf, codeOf, andThen, firstOf, need, unlessFound}
 use Rattle.plan.specs.Plans.{partyCount, parties, pointOf, dealerCount, dealerPoints, kindOf, isKind, multiplying, kindCount, operandsOf, isInputOf, wiresFrom, inputWires, outWiresOf, outWires, inputOwnersAt, firstDealings, multiplyDealings, dealingsAt, coinOwnersAt, inputOwners, coinOwners, ownOf, ownInputs, ownCoins, inputAt, coinsAt, tripleNumbers, tripleAt, ownTriples, multiplySteps, stepsAt, stepsFrom, steps, stepAt, lastCall, inputCount, ownInputCount, coinCount, ownCoinCount, ownOutCount, received, sentBy, mailCount, writtenCount}
-use Rattle.plan.specs.File.{magic, sameBytes, between, layoutFor, gatePlace, outPlace, pointPlace, gateOf, gateAt, outAt, pointAt, gateOk, outOk, gateKept, outKept, majorityOk, majorityKept, foundNone, pointApart, pointKept, pointsPlaced, layoutOk, pointsCheck, majorityCheck, planChecks, planCheck, planOf}
+use Rattle.plan.specs.File.{magic, sameBytes, between, layoutFor, fieldAt, gateStart, gatePlace, outPlace, pointPlace, gateOf, gateFrom, gateAt, outAt, pointAt, gateOk, outOk, gateKept, outKept, majorityOk, majorityKept, foundNone, pointApart, pointKept, pointsPlaced, layoutOk, pointsCheck, majorityCheck, planChecks, planCheck, planOf}
 use Rattle.plan_coalition.specs.Coalitions.{inSet, membersFrom, members, setOk}
 use Rattle.seat_messages.specs.Messages.{setAll, fromEach, wiresByParty, openedAt, spentShare, learnt, resumeAt, workGate, workFrom, learnFrom, spendFrom, learn, spend, dealTo, nothing, productAt, sendAt, callWith, call}
 use Rattle.seat_messages.specs.Calls.{onPolynomial, outsCheck, openingCheck, partyChecks, callChecks, callAnswer}
@@ -24,7 +24,7 @@ use Rattle.match_privacy.specs.Matching.{isMember, matchedBlocks, lowestOf, low
 use Rattle.demands.specs.Sums.{contents, bodies, likeK, K, pointed, Codes, single, addition, sharesOf, benchOf, lastCallOf, Sums}
 
 pub sums : Sums
-unfolding contents bodies likeK K pointed Codes single addition sharesOf benchOf lastCallOf tab firstFrom firstFailing countWhere numberAt bytesFrom wordAt numbersOf numbers bytesOf holdsCount firstOver allBelow add mul sub divisorFrom divisorOf isPrime invert inv eval sumOf scale linear factor weight weights dot interpolate delta opened firstOff mixture matched sumAll basis fitted entry row matchedZero numberOf placeOf codeOf andThen firstOf need unlessFound partyCount parties pointOf dealerCount dealerPoints kindOf isKind kindCount operandsOf isInputOf wiresFrom inputWires outWiresOf outWires inputOwnersAt firstDealings multiplyDealings dealingsAt coinOwnersAt inputOwners coinOwners ownOf ownInputs ownCoins inputAt coinsAt tripleNumbers tripleAt ownTriples multiplySteps stepsAt stepsFrom steps stepAt lastCall inputCount ownInputCount coinCount ownCoinCount ownOutCount received sentBy mailCount writtenCount magic sameBytes between layoutFor gatePlace outPlace pointPlace gateOf gateAt outAt pointAt gateOk outOk gateKept outKept majorityOk majorityKept majorityCheck multiplying foundNone pointApart pointKept pointsPlaced pointsCheck layoutOk planChecks planCheck planOf inSet membersFrom members setOk setAll fromEach wiresByParty openedAt spentShare learnt resumeAt workGate workFrom learnFrom spendFrom learn spend dealTo nothing productAt sendAt callWith call onPolynomial outsCheck openingCheck partyChecks callChecks callAnswer fresh noCall callOf mailTo nextCall nextRound after atEnd results mails viewOf view total viewCountOf viewCount inputsTaken gateValue valuesFrom values granted wireAt productOf zeroPieces maskedAt multiplyDealt dealtAt sharings piecesAt truncatedAt multiplyShare differenceAt differenceOf gateShare triplesTaken past pastAll startOf shareTable beforeGate runChecks benchAnswer isMember matchedBlocks lowestOf lowest changeOf zeroMatched absorbedBy absorbed withCoins matchedAt matchFrom matchedWith matchedCoins flatMap
+unfolding contents bodies likeK K pointed Codes single addition sharesOf benchOf lastCallOf tab firstFrom firstFailing countWhere numberAt bytesFrom wordAt numbersOf numbers bytesOf holdsCount firstOver allBelow add mul sub divisorFrom divisorOf isPrime invert inv eval sumOf scale linear factor weight weights dot interpolate delta opened firstOff mixture matched sumAll basis fitted entry row matchedZero numberOf placeOf codeOf andThen firstOf need unlessFound partyCount parties pointOf dealerCount dealerPoints kindOf isKind kindCount operandsOf isInputOf wiresFrom inputWires outWiresOf outWires inputOwnersAt firstDealings multiplyDealings dealingsAt coinOwnersAt inputOwners coinOwners ownOf ownInputs ownCoins inputAt coinsAt tripleNumbers tripleAt ownTriples multiplySteps stepsAt stepsFrom steps stepAt lastCall inputCount ownInputCount coinCount ownCoinCount ownOutCount received sentBy mailCount writtenCount magic sameBytes between layoutFor fieldAt gateStart gatePlace outPlace pointPlace gateOf gateFrom gateAt outAt pointAt gateOk outOk gateKept outKept majorityOk majorityKept majorityCheck multiplying foundNone pointApart pointKept pointsPlaced pointsCheck layoutOk planChecks planCheck planOf inSet membersFrom members setOk setAll fromEach wiresByParty openedAt spentShare learnt resumeAt workGate workFrom learnFrom spendFrom learn spend dealTo nothing productAt sendAt callWith call onPolynomial outsCheck openingCheck partyChecks callChecks callAnswer fresh noCall callOf mailTo nextCall nextRound after atEnd results mails viewOf view total viewCountOf viewCount inputsTaken gateValue valuesFrom values granted wireAt productOf zeroPieces maskedAt multiplyDealt dealtAt sharings piecesAt truncatedAt multiplyShare differenceAt differenceOf gateShare triplesTaken past pastAll startOf shareTable beforeGate runChecks benchAnswer isMember matchedBlocks lowestOf lowest changeOf zeroMatched absorbedBy absorbed withCoins matchedAt matchFrom matchedWith matchedCoins flatMap
 sums = record {
   p1 = refl;
   p2-weights = refl;

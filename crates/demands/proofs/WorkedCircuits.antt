@@ -2,13 +2,13 @@
 use mathlib.Core.Path.{_≡_, refl}
 use mathlib.Core.List.{flatMap}
 use Rattle.numbers.specs.Tables.{tab, firstFrom, firstFailing, countWhere}
-use Rattle.numbers.specs.Bytes.{bytesFrom, wordAt, allBelow}
+use Rattle.numbers.specs.Bytes.{numberAt, bytesFrom, wordAt, allBelow}
 use Rattle.field.specs.Mod.{add, mul}
 use Rattle.field.specs.Prime.{divisorFrom, divisorOf, isPrime}
 use Rattle.plan.specs.Refusals.{numberOf, placeOf, codeOf, andThen, firstOf, need, unlessFound}
-use Rattle.plan.specs.Plans.{kindOf, isKind, multiplying, operandsOf, inputOwnersAt, outWiresOf, outWires}
-use Rattle.plan.specs.File.{magic, sameBytes, between, layoutFor, gatePlace, outPlace, pointPlace, gateOf, gateAt, outAt, pointAt, gateOk, outOk, gateKept, outKept, majorityOk, majorityKept, foundNone, pointApart, pointKept, pointsPlaced, layoutOk, pointsCheck, majorityCheck, planChecks, planCheck, planOf}
-use Rattle.plan_file.specs.Bodies.{words, gateBytes, outBytes, started, counted, contents, planFile}
+use Rattle.plan.specs.Plans.{partyCount, kindOf, isKind, multiplying, operandsOf, inputOwnersAt, outWiresOf, outWires}
+use Rattle.plan.specs.File.{magic, sameBytes, between, layoutFor, fieldAt, gateStart, gatePlace, outPlace, pointPlace, gateOf, gateFrom, gateAt, outAt, pointAt, gateOk, outOk, gateKept, outKept, majorityOk, majorityKept, foundNone, pointApart, pointKept, pointsPlaced, layoutOk, pointsCheck, majorityCheck, planChecks, planCheck, planOf}
+use Rattle.plan_file.specs.Bodies.{planWith, bytesEach, openFrom, gateBytes, gatesBytes, outBytes, pointsBytes, placeIn, outStart, started, counted, contents, fileAs, versionFor, planFile}
 use Rattle.run_protocol.specs.Ideal.{inputsTaken, gateValue, valuesFrom, values, granted}
 use Rattle.text_decimals.specs.Reading.{isDigit}
 use Rattle.import_lines.specs.Lines.{ontoFirst, parted, filled, fieldsOf, linesOf, every, valueAfter, decimalOf, unpadded, isNumber}
@@ -23,7 +23,7 @@ use Rattle.pool_answers.specs.Sizes.{valueOf, importSize}
 use Rattle.demands.specs.Circuits.{ascii, example, exampleGates, inverter, answerFor, CircuitSums}
 
 pub circuit-sums : CircuitSums
-unfolding tab firstFrom firstFailing countWhere bytesFrom wordAt allBelow add mul divisorFrom divisorOf isPrime numberOf placeOf codeOf andThen firstOf need unlessFound outWiresOf outWires magic sameBytes between layoutFor gatePlace outPlace pointPlace gateOf gateAt outAt pointAt gateOk outOk gateKept outKept majorityOk majorityKept majorityCheck multiplying isKind foundNone pointApart pointKept pointsPlaced pointsCheck layoutOk planChecks planCheck planOf kindOf operandsOf inputOwnersAt words gateBytes outBytes started counted contents planFile inputsTaken gateValue valuesFrom values granted isDigit ontoFirst parted filled fieldsOf linesOf every valueAfter decimalOf unpadded isNumber sumOf xorWord andWord invWord gateIn circuitIn contentsLine valuesLine readsLine gateLine formatOk circuitOf inputMarks isSet canSet gateFits setBy marked gatesFit lastMarks circuitOk bitsBy bitsAfter circuitBits inputGates firstHolders gateSize xorGates madeBy heldBy gatesFrom heldAfter circuitGates outsOf circuitOuts circuitBodies textOk importBodies importFile textChecks importChecks importAnswer valueOf importSize flatMap ascii example exampleGates inverter answerFor
+unfolding tab firstFrom firstFailing countWhere bytesFrom numberAt wordAt allBelow add mul divisorFrom divisorOf isPrime numberOf placeOf codeOf andThen firstOf need unlessFound outWiresOf outWires magic sameBytes between layoutFor fieldAt gateStart gatePlace outPlace pointPlace gateOf gateFrom gateAt outAt pointAt gateOk outOk gateKept outKept majorityOk majorityKept majorityCheck multiplying isKind foundNone pointApart pointKept pointsPlaced pointsCheck layoutOk planChecks planCheck planOf partyCount kindOf operandsOf inputOwnersAt planWith bytesEach openFrom gateBytes gatesBytes outBytes pointsBytes placeIn outStart started counted contents fileAs versionFor planFile inputsTaken gateValue valuesFrom values granted isDigit ontoFirst parted filled fieldsOf linesOf every valueAfter decimalOf unpadded isNumber sumOf xorWord andWord invWord gateIn circuitIn contentsLine valuesLine readsLine gateLine formatOk circuitOf inputMarks isSet canSet gateFits setBy marked gatesFit lastMarks circuitOk bitsBy bitsAfter circuitBits inputGates firstHolders gateSize xorGates madeBy heldBy gatesFrom heldAfter circuitGates outsOf circuitOuts circuitBodies textOk importBodies importFile textChecks importChecks importAnswer valueOf importSize flatMap ascii example exampleGates inverter answerFor
 circuit-sums = record {
   gates = refl;
   outs = refl;
@@ -49,5 +49,7 @@ circuit-sums = record {
   majority = refl;
   no-majority = refl;
   modulus = refl;
+  third = refl;
+  third-longer = refl;
   no-outs = refl;
 }

@@ -26,7 +26,7 @@ use Rattle.plan.specs.File.{modulusOk, majorityCheck, planCheck, planOf}
 use Rattle.plan.proofs.Refusals.{passed-both}
 use Rattle.plan.proofs.Planned.{between-true, modulus-prime, modulus-small, Passing, passing}
 use Rattle.plan_file.specs.Bodies.{Bodies, planWith, planFile, contentChecks, outMade}
-use Rattle.plan_file.proofs.Files.{Wired, Sound, n-back, t-back, p-back, plan-back, sound-room, file-check-outs, file-bytes}
+use Rattle.plan_file.proofs.Files.{Wired, Sound, made-n, made-t, made-p, made-back, sound-room, file-check-outs, file-bytes}
 use Rattle.run_protocol.specs.Ideal.{granted}
 use Rattle.run_protocol.specs.Settings.{Inputs, Coins}
 use Rattle.demands.specs.Apart as apart
@@ -43,13 +43,13 @@ module _ (n t p : ℕ) (b : Bodies) (few-gates : length (b .gates) ≤ 1024) (fe
   checked = passing (planFile n t p b) passes
 
   pub parties : (1 ≤ n) × (n ≤ 15)
-  parties = between-true 1 15 n (rw (n-back n t p b) at (checked .parties))
+  parties = between-true 1 15 n (rw (made-n n t p b) at (checked .parties))
 
   threshold : t < n
-  threshold = ltb-true t n (rw (n-back n t p b, t-back n t p b) at (checked .threshold))
+  threshold = ltb-true t n (rw (made-n n t p b, made-t n t p b) at (checked .threshold))
 
   modulus : modulusOk n p ≡ true
-  modulus = rw (n-back n t p b, p-back n t p b) at (checked .modulus)
+  modulus = rw (made-n n t p b, made-p n t p b) at (checked .modulus)
 
   pub prime : 2 ≤ p
   prime = prime-sound p (subst T (sym (modulus-prime n p modulus)) tt) .above
@@ -68,10 +68,10 @@ module _ (n t p : ℕ) (b : Bodies) (few-gates : length (b .gates) ≤ 1024) (fe
       record { low = kept .low; gates = kept .gates; outs = λ o l. nothing-passes (outMade n b) (length (b .outs)) none o l }
 
   pub plan-is : planOf (planFile n t p b) ≡ planWith n t p b
-  plan-is = plan-back n t p b few-gates few-outs (sound-room n p b (parties .1) (omega (arith, modulus-small n p modulus)) few-gates sound)
+  plan-is = made-back n t p b few-gates few-outs (parties .1) (sound-room n p b (parties .1) (omega (arith, modulus-small n p modulus)) few-gates sound)
 
   pub is-bytes : allBelow 256 (planFile n t p b) ≡ true
-  is-bytes = file-bytes n t p b (parties .1) (omega (arith, threshold, parties .1)) (modulus-small n p modulus) sound
+  is-bytes = file-bytes n t p b (parties .1) (omega (arith, threshold, parties .1)) (omega (arith, modulus-small n p modulus)) sound
 
   parties-are : partyCount (planOf (planFile n t p b)) ≡ n
   unfolding partyCount

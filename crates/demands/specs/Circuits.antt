@@ -103,5 +103,8 @@ pub record CircuitSums : Type 0 where
   -- XOR and AND multiply, INV does not
   pub majority : codeOf (importAnswer 3 2 11 example 99) ≡ 25
   pub no-majority : codeOf (importAnswer 2 1 11 inverter 39) ≡ 0
-  pub modulus : codeOf (importAnswer 3 1 65537 example 99) ≡ 5
+  pub modulus : codeOf (importAnswer 3 1 65536 example 99) ≡ 5
+  -- above 65,535 the file has version 3
+  pub third : codeOf (importAnswer 3 1 65537 inverter 77) ≡ 0
+  pub third-longer : codeOf (importAnswer 3 1 65537 inverter 39) ≡ 19
   pub no-outs : answerFor 3 1 11 "0 1\n1 1\n0\n" 24 ≡ 6

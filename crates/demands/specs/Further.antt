@@ -1,21 +1,21 @@
 -- What else is claimed beside the demands: of the matching from its calls alone, of a view piece by piece, of the sizes that a host cuts by, of
--- the party that refusal 20 tells, and of a plan file in both versions.
+-- the party that refusal 20 tells, and of a plan's file in another version.
 use Prim.Native.Nat.{ℕ, suc, _+_, _*_, _≤_, _<_}
 use mathlib.Core.Path.{_≡_}
 use mathlib.Core.Bool.{true}
-use mathlib.Core.List.{List, [], _∷_, _++_}
-use lib.ListN.{length, drop}
-use Rattle.numbers.specs.Tables.{tab}
+use mathlib.Core.List.{List, []}
+use lib.ListN.{length}
 use Rattle.numbers.specs.Bytes.{width, numbers, allBelow}
 use Rattle.sharing_laws.specs.OffLine.{OnOne, OffAt}
 use Rattle.plan.specs.declared.Checked.the-variants.{Passed, Refused}
 use Rattle.plan.specs.declared.Refusal.the-variants as refusal
 use Rattle.plan.specs.Plans.{Plan, partyCount, lastCall, ownInputs, ownCoins, ownOutCount, mailCount, writtenCount}
-use Rattle.plan.specs.File.{magic, versionAt, nAt, tAt, pAt, gateCountAt, outCountAt, planCheck, planOf}
+use Rattle.plan.specs.File.{between, versionAt, pAt, planCheck, planOf}
 use Rattle.plan_coalition.specs.Coalitions.{inSet, members}
 use Rattle.seat_messages.specs.Messages.{fromEach}
 use Rattle.seat_messages.specs.Calls.{callAnswer, stateAfter, outAfter}
-use Rattle.plan_file.specs.Bodies.{words}
+use Rattle.plan_file.specs.Bodies.{fileAs, fieldLimit}
+use Rattle.convert_call.specs.Converting.{convertAnswer, convertAfter}
 use Rattle.run_bench.specs.BenchCalls.{benchAnswer, viewAfter}
 use Rattle.run_protocol.specs.Rounds.{mailTo, after, results, viewCount}
 use Rattle.run_protocol.specs.Settings.{Coins}
@@ -74,14 +74,7 @@ FirstBroken =
     → callAnswer bytes i inputs coins state mail room ≡ Refused (refusal.OffPolynomial place)
     → Broken (planOf bytes) i (numbers mail) place
 
--- ---- a version 1 file as one of version 2: gates and outs two bytes on, after them the points 1 to n
-unfoldable pub secondVersion : List ℕ → List ℕ
-secondVersion bytes =
-    (magic
-    ++ (2 ∷ nAt bytes ∷ tAt bytes ∷ 0
-    ∷ words (pAt bytes ∷ 20 ∷ gateCountAt bytes ∷ (20 + 6 * gateCountAt bytes) ∷ outCountAt bytes ∷ (20 + 6 * gateCountAt bytes + 3 * outCountAt bytes) ∷ [])))
-    ++ (drop 18 bytes ++ words (tab suc (nAt bytes)))
-
+-- ---- a plan's file in another version
 -- two files with which every call answers and writes the same
 pub record SameCalls (first second : List ℕ) : Type 0 where
   pub answer : (i : ℕ) (inputs coins state mail : List ℕ) (room : ℕ) → callAnswer second i inputs coins state mail room ≡ callAnswer first i inputs coins state mail room
@@ -92,6 +85,21 @@ pub record SameCalls (first second : List ℕ) : Type 0 where
   pub matching : (set : ℕ) (xs ys coins : List ℕ) (room : ℕ) → matchAnswer second set xs ys coins room ≡ matchAnswer first set xs ys coins room
   pub matched : (set : ℕ) (xs ys coins out : List ℕ) → matchedAfter second set xs ys coins out ≡ matchedAfter first set xs ys coins out
 
--- the points 1 to n may be written out
+-- a file that passes as another does, with the same plan: t, p, points, gates and outs, in order
+pub record Rewritten (first second : List ℕ) : Type 0 where
+  pub passes : planCheck second ≡ Passed
+  pub plan : planOf second ≡ planOf first
+  pub calls : SameCalls first second
+
+-- a plan may be written in every version that has points and room for its prime; so may that of a version 1 file, with its points 1 to n
 abbrev pub SameVersions : Type 0
-SameVersions = (bytes : List ℕ) → versionAt bytes ≡ 1 → planCheck bytes ≡ Passed → SameCalls bytes (secondVersion bytes)
+SameVersions = (bytes : List ℕ) (version : ℕ) → planCheck bytes ≡ Passed → between 2 3 version ≡ true → pAt bytes < fieldLimit version → Rewritten bytes (fileAs version (planOf bytes))
+
+-- ---- the converter (R-6): what it writes is a version 3 file of the same plan
+pub record Converted (bytes out : List ℕ) : Type 0 where
+  pub old : between 1 2 (versionAt bytes) ≡ true
+  pub new : versionAt (convertAfter bytes out) ≡ 3
+  pub same : Rewritten bytes (convertAfter bytes out)
+
+abbrev pub Converts : Type 0
+Converts = (bytes out : List ℕ) → convertAnswer bytes (length out) ≡ Passed → Converted bytes out

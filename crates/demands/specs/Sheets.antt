@@ -112,4 +112,7 @@ pub record SheetSums : Type 0 where
   pub threshold : codeOf (sheetAnswer 3 3 11 3 formula 87) ≡ 4
   pub majority : codeOf (sheetAnswer 3 2 11 3 formula 87) ≡ 25
   pub no-majority : codeOf (sheetAnswer 2 1 11 1 (ascii "a1 + b2") 39) ≡ 0
-  pub modulus : codeOf (sheetAnswer 3 1 65537 3 formula 87) ≡ 5
+  pub modulus : codeOf (sheetAnswer 3 1 65536 3 formula 87) ≡ 5
+  -- above 65,535 the file has version 3
+  pub third : codeOf (sheetAnswer 3 1 65537 3 (ascii "a1 + b2") 77) ≡ 0
+  pub third-longer : codeOf (sheetAnswer 3 1 65537 3 (ascii "a1 + b2") 39) ≡ 19

@@ -23,9 +23,9 @@ use Rattle.plan.specs.Refusals.{andThen, firstOf, need}
 use Rattle.plan.specs.File.{partiesOk, thresholdOk, modulusOk, majorityCheck, planCheck}
 use Rattle.plan.proofs.Refusals.{firstOf-append, andThen-passed, andThen-refused, passed-both, passed-need}
 use Rattle.plan.proofs.Planned.{between-true, modulus-prime, modulus-small}
-use Rattle.plan_file.specs.Bodies.{fileSize, planFile, contentChecks}
+use Rattle.plan_file.specs.Bodies.{fileSize, versionFor, planFile, contentChecks}
 use Rattle.plan_file.proofs.Rooms.{room-long, room-majority, rooms}
-use Rattle.plan_file.proofs.Files.{Sound, file-long, file-check, file-majority}
+use Rattle.plan_file.proofs.Files.{Sound, made-long, file-check, file-majority}
 use Rattle.seat_messages.specs.Calls.{unlessRefused}
 use Rattle.import_lines.specs.Lines.{linesOf}
 use Rattle.import_text.specs.Circuits.{formatOk, circuitOf}
@@ -115,22 +115,25 @@ module _ (n t p gates outs : ℕ) (text : List ℕ) (w : Importable text n t p g
   unfolding importFile
   majority-passed l = file-majority n t p (importBodies p text) l
 
+  pub majority-parties : n ≤ 15
+  majority-parties = w .parties
+
   pub majority-gates : gates ≤ 1024
   majority-gates = w .few
 
   pub majority-outs : outs ≤ 64
   majority-outs = omega (arith, w .outs)
 
-  module _ (size : ℕ) (es : size ≡ fileSize gates outs) (room : List ℕ) (long : length room ≡ 6354) (few : size ≤ 6354) where
-    pub majority-room : length (take size room) ≡ fileSize gates (outputWires (circuitOf text))
-    majority-room = room-long size room long few ∙ es ∙ ap (fileSize gates) eo
+  module _ (v size : ℕ) (ev : v ≡ versionFor p) (es : size ≡ fileSize v n gates outs) (room : List ℕ) (long : length room ≡ 10524) (few : size ≤ 10524) where
+    pub majority-room : length (take size room) ≡ fileSize (versionFor p) n gates (outputWires (circuitOf text))
+    majority-room = room-long size room long few ∙ es ∙ ap₂ (λ (k o : ℕ). fileSize k n gates o) ev eo
 
     pub majority-is : (ys : List ℕ) (c : Checked) → length ys ≡ length (take size room) → ys ≡ planFile n t p (circuitBodies p (circuitOf text))
         → c ≡ majorityCheck (take size (ys ++ drop size room)) → c ≡ majorityCheck (importFile n t p text)
     unfolding importFile importBodies
     majority-is ys c kept is e = room-majority size room long few ys kept c (planFile n t p (circuitBodies p (circuitOf text))) is e
 
-pub ruleset majorities = (needs, majority-fits, majority-passed, majority-gates, majority-outs, majority-room, majority-is, rooms)
+pub ruleset majorities = (needs, majority-fits, majority-passed, majority-parties, majority-gates, majority-outs, majority-room, majority-is, rooms)
 
 -- ---- 3 to 6 and 25
 module _ (n t p gates outs : ℕ) (text : List ℕ) (w : Counted text n p gates outs) (c : Checked) (ec : c ≡ firstOf (contentChecks n t p gates outs)) where
@@ -144,8 +147,8 @@ module _ (n t p gates outs : ℕ) (text : List ℕ) (w : Counted text n p gates 
         count = sym (w .gates-are) ∙ (unfold importBodies in unfold circuitBodies in refl);
         few = w .gates-few;
         outs = omega (arith, w .outs-are, w .outs-few);
-        parties = omega arith;
-        threshold = omega (arith, ltb-true t n (parts .1));
+        parties = parties;
+        threshold = omega (arith, parties, ltb-true t n (parts .1));
         prime = prime-above n t p text (w .ok) (parts .2);
         small = modulus-small n p (parts .2);
       }
@@ -290,22 +293,25 @@ module _ (text : List ℕ) (n t p : ℕ) (m : Measured) (h : MeasuredAs text n t
     unfolding Ready
     outs-same = (rw q at (h .ready)) .outs-are
 
-    pub counts-room : (out : List ℕ) (size : ℕ) → size ≡ fileSize gates outs → length out ≡ size → length out ≡ fileSize gates (outputWires (circuitOf text))
-    counts-room out size s e = e ∙ s ∙ ap (fileSize gates) outs-same
+    pub counts-parties : n ≤ 15
+    counts-parties = counts-text .parties
 
-    pub file-size : length (importFile n t p text) ≡ fileSize gates outs
+    pub counts-room : (out : List ℕ) (v size : ℕ) → v ≡ versionFor p → size ≡ fileSize v n gates outs → length out ≡ size → length out ≡ fileSize (versionFor p) n gates (outputWires (circuitOf text))
+    counts-room out v size ev s e = e ∙ s ∙ ap₂ (λ (k o : ℕ). fileSize k n gates o) ev outs-same
+
+    pub file-size : length (importFile n t p text) ≡ fileSize (versionFor p) n gates outs
     unfolding importFile importBodies
     file-size =
-        file-long n t p (circuitBodies p (circuitOf text))
+        made-long n t p (circuitBodies p (circuitOf text))
         ∙ (unfold circuitBodies in rw (← counts-text .count, outs-long n p (circuitOf text) (counts-text .rules), ← outs-same))
 
     pub passed : refusalOf m ≡ Passed
     unfolding refusalOf
     passed = rw q
 
-    module _ (out : List ℕ) (size : ℕ) (es : size ≡ fileSize gates outs) where
+    module _ (out : List ℕ) (v size : ℕ) (ev : v ≡ versionFor p) (es : size ≡ fileSize v n gates outs) where
       answer-is : importAnswer n t p text (length out) ≡ need refusal.BufferLength (eqb (length out) size)
-      answer-is = parts (length out) ∙ andThen-passed _ _ passed ∙ ap (λ (k : ℕ). need refusal.BufferLength (eqb (length out) k)) (file-size ∙ sym es)
+      answer-is = parts (length out) ∙ andThen-passed _ _ passed ∙ ap (λ (k : ℕ). need refusal.BufferLength (eqb (length out) k)) (file-size ∙ ap (λ (k : ℕ). fileSize k n gates outs) (sym ev) ∙ sym es)
 
       pub import-length : (length out ≡ size → ⊥) → Refused refusal.BufferLength ≡ importAnswer n t p text (length out)
       unfolding need
@@ -324,4 +330,4 @@ module _ (text : List ℕ) (n t p : ℕ) (m : Measured) (h : MeasuredAs text n t
         unfolding unlessRefused importFile importBodies
         import-written new e = e ∙ sym (after out Passed (sym import-passed))
 
-pub ruleset importing = (needs, import-refused, import-kept, gates-small, outs-small, counts-text, counts-room, import-length, import-left, import-passed, import-written)
+pub ruleset importing = (needs, import-refused, import-kept, gates-small, outs-small, counts-text, counts-parties, counts-room, import-length, import-left, import-passed, import-written)

@@ -38,8 +38,8 @@ fn check_majority(text: &[u8], n: u32, t: u32, p: u32, gates: usize, outs: usize
     if 2 * t < n {
         return Checked::Passed;
     }
-    let size = plan_file::file_size(gates, outs);
-    let mut room = [0u8; 6354];
+    let size = plan_file::file_size(plan_file::version_for(p), n as usize, gates, outs);
+    let mut room = [0u8; 10524];
     import_write::write_text(text, n, t, p, gates, &mut room[..size]);
     plan_reading::check_majority(&room[..size])
 }
@@ -92,7 +92,7 @@ pub fn import_plan(text: &[u8], n: u32, t: u32, p: u32, plan: &mut [u8]) -> Chec
     let Measured::Counts(gates, outs) = m else {
         return refusal(m);
     };
-    if plan.len() != plan_file::file_size(gates, outs) {
+    if plan.len() != plan_file::file_size(plan_file::version_for(p), n as usize, gates, outs) {
         return Checked::Refused(Refusal::BufferLength);
     }
     import_write::write_text(text, n, t, p, gates, plan);

@@ -9,16 +9,18 @@ use mathlib.Core.Bool.{Bool, true, false, cond}
 use mathlib.Core.List.{List, [], _∷_, _++_, flatMap}
 use native.Mathlib.Omega.{arith}
 use borrow.Author.Needs.{needs}
-use lib.Dec.{leb}
+use lib.Dec.{leb, ltb}
 use lib.ListN.{length, take}
 use lib.Seq.{length-take-le}
 use Rattle.numbers.specs.Tables.{tab}
+use Rattle.numbers.proofs.Tables.{length-tab}
 use Rattle.text_decimals.specs.declared.Numeral.{Numeral}
 use Rattle.text_decimals.specs.declared.Numeral.the-variants as numeral
 use Rattle.plan.specs.declared.Gate.{Gate}
-use Rattle.plan_file.specs.Bodies.{written, gateBytes, gatesBytes, outBytes, contents, fileSize, planFile}
-use Rattle.plan_file.proofs.Files.{contents-long, file-long}
-use Rattle.plan_file.proofs.Writing.{written-then, written-whole}
+use Rattle.plan.specs.Plans.{partyCount}
+use Rattle.plan_file.specs.Bodies.{planWith, written, gatesBytes, outBytes, pointsBytes, placeIn, outStart, contents, fileSize, fileAs, versionFor, planFile, fieldLimit}
+use Rattle.plan_file.proofs.Files.{made-long}
+use Rattle.plan_file.proofs.Writing.{written-whole, fits-for}
 use Rattle.import_lines.specs.Lines.{linesOf}
 use Rattle.import_lines.specs.Places.{lineStart, lineOver, numberAt, withNumber, NumbersRead, following, numbersAt, sumOf}
 use Rattle.import_lines.proofs.Lines.{clash}
@@ -36,7 +38,16 @@ use Rattle.import_circuit.specs.Making.{inputGates, firstHolders, gatesFrom, he
 use Rattle.import_circuit.proofs.Wires.{length-inputGates, Kept, kept, few-wires}
 use Rattle.import_circuit.proofs.Sound.{outs-long}
 use Rattle.import_write.specs.Second.{numbersIn, gatesIn, allGates, Putting, Importable, Filing}
-use Rattle.plan_file.proofs.Rows.{gates-long, gates-then}
+use Rattle.plan_file.proofs.Rows.{gates-then, file-put}
+
+-- ---- the version
+version-low : (p : ℕ) → versionFor p < 256
+unfolding versionFor
+version-low p = by (ltb p 65536)
+  where
+    by : (x : Bool) → cond x 1 3 < 256
+    by true = omega arith
+    by false = omega arith
 
 -- ---- what is read
 numbers-in : (k : ℕ) (s : List ℕ) (at : ℕ) (vs : List ℕ) (e : ℕ) → numbersAt k s at ≡ NumbersRead.Read vs e → numbersIn k s at ≡ vs
@@ -76,13 +87,13 @@ gates-in (suc k) s at gs q = by (gateAt s (lineStart s at)) (λ f hs h. gates-in
         rest (GatesRead.Read hs) p h = unfold gateThen in (ap (λ (l : List LogicGate). x ∷ l) (more f hs p) ∙ (cc))
 
 -- ---- the gates
-pub all-put : (s : List ℕ) (h : Head) (p : ℕ) (held out out1 out2 own : List ℕ) → Putting s h p
-    → out1 ≡ written out 18 (gatesBytes (inputGates 1 (numbersIn (h .values) s (h .first)))) → own ≡ tab (λ w. w) (length held)
-    → out2 ≡ written out1 (18 + 6 * h .inputs) (gatesBytes (gatesFrom p (h .inputs) own (gatesIn (h .gates) s (h .at))))
-    → out2 ≡ written out 18 (gatesBytes (allGates s h p (length held)))
+pub all-put : (version : ℕ) (s : List ℕ) (h : Head) (p : ℕ) (held out out1 out2 own : List ℕ) → Putting s h p
+    → out1 ≡ written out (placeIn version 0) (gatesBytes version (inputGates 1 (numbersIn (h .values) s (h .first)))) → own ≡ tab (λ w. w) (length held)
+    → out2 ≡ written out1 (placeIn version (h .inputs)) (gatesBytes version (gatesFrom p (h .inputs) own (gatesIn (h .gates) s (h .at))))
+    → out2 ≡ written out (placeIn version 0) (gatesBytes version (allGates s h p (length held)))
 unfolding allGates
-all-put s h p held out out1 out2 own k e o f =
-    gates-then out out1 out2 0 (h .inputs) (inputGates 1 (numbersIn (h .values) s (h .first))) (gatesFrom p (h .inputs) (tab (λ w. w) (length held)) (gatesIn (h .gates) s (h .at)))
+all-put version s h p held out out1 out2 own k e o f =
+    gates-then version out out1 out2 0 (h .inputs) (inputGates 1 (numbersIn (h .values) s (h .first))) (gatesFrom p (h .inputs) (tab (λ w. w) (length held)) (gatesIn (h .gates) s (h .at)))
     e (rw o at f) (omega (arith, length-inputGates 1 (numbersIn (h .values) s (h .first)), k .sum))
 
 pub all-held : (s : List ℕ) (h : Head) (held own new : List ℕ) → own ≡ tab (λ w. w) (length held) → new ≡ heldAfter (h .inputs) own (gatesIn (h .gates) s (h .at))
@@ -144,30 +155,43 @@ module _ (s : List ℕ) (h : Head) (n t p gates room : ℕ) (k : Filing s h n t 
   pub last-wire : h .wires - h .outputs < 65536
   last-wire = omega (arith, wires-few)
 
-  pub file-put : (out out1 out2 out3 held : List ℕ) → out1 ≡ written out 0 (contents n t p gates (h .outputs)) → out2 ≡ written out1 18 (gatesBytes (allGates s h p room))
-      → held ≡ heldAfter (h .inputs) (tab (λ w. w) room) (gatesIn (h .gates) s (h .at))
-      → out3 ≡ written out2 (18 + 6 * gates) (flatMap outBytes (outsOf held (h .wires - h .outputs) (h .outputs)))
-      → out3 ≡ written out 0 (planFile n t p (circuitBodies p (circuitOf s)))
-  unfolding planFile circuitBodies
-  file-put out out1 out2 out3 held e f o i =
-      let outs : outsOf held (h .wires - h .outputs) (h .outputs) ≡ circuitOuts (circuitOf s) =
-      unfold circuitOuts in rw (o, held-are, read .wires, read .outputs) in
-      let e′ : out1 ≡ written out 0 (contents n t p (length (circuitGates p (circuitOf s))) (length (circuitOuts (circuitOf s)))) =
-      e ∙ ap₂ (λ (g o : ℕ). written out 0 (contents n t p g o)) (k .text .count) (read .outputs ∙ sym (outs-long n p (circuitOf s) (k .text .rules))) in
-      let f′ : out2 ≡ written out1 18 (flatMap gateBytes (circuitGates p (circuitOf s))) = f ∙ ap (λ (l : List Gate). written out1 18 (gatesBytes l)) all-are ∙ (unfold gatesBytes in refl) in
-      let i′ : out3 ≡ written out2 (18 + 6 * length (circuitGates p (circuitOf s))) (flatMap outBytes (circuitOuts (circuitOf s))) =
-      i ∙ ap₂ (λ (g : ℕ) (l : List ℕ). written out2 (18 + 6 * g) l) (k .text .count) (ap (flatMap outBytes) outs) in
-      let long : length (flatMap gateBytes (circuitGates p (circuitOf s))) ≡ 6 * length (circuitGates p (circuitOf s)) = unfold gatesBytes in gates-long (circuitGates p (circuitOf s)) in
-      let head-long : length (contents n t p (length (circuitGates p (circuitOf s))) (length (circuitOuts (circuitOf s)))) ≡ 18 = contents-long n t p (length (circuitGates p (circuitOf s))) (length (circuitOuts (circuitOf s))) in
-      written-then out out1 out3 (contents n t p (length (circuitGates p (circuitOf s))) (length (circuitOuts (circuitOf s))))
-      (flatMap gateBytes (circuitGates p (circuitOf s)) ++ flatMap outBytes (circuitOuts (circuitOf s))) 0 18 e′
-      (written-then out1 out2 out3 (flatMap gateBytes (circuitGates p (circuitOf s))) (flatMap outBytes (circuitOuts (circuitOf s))) 18 (18 + 6 * length (circuitGates p (circuitOf s))) f′ i′ (omega (arith, long)))
-      (omega (arith, head-long))
+  module _ (version : ℕ) (ev : version ≡ versionFor p) where
+    pub low-version : version < 256
+    low-version = rw ev (version-low p)
+
+    pub file-fits : p < fieldLimit version
+    file-fits = rw ev (fits-for p (omega (arith, k .text .small)))
+
+    pub file-written : (held : List ℕ) (points : ℕ) (out out1 out2 out3 out4 : List ℕ) → out1 ≡ written out 0 (contents version n t p gates (h .outputs))
+        → (held ≡ heldAfter (h .inputs) (tab (λ w. w) room) (gatesIn (h .gates) s (h .at))) × (out2 ≡ written out1 (placeIn version 0) (gatesBytes version (allGates s h p room)))
+        → out3 ≡ written out2 (outStart version gates 0) (flatMap outBytes (outsOf held (h .wires - h .outputs) (h .outputs)))
+        → record { eq : points ≡ outStart version gates (h .outputs); high : points ≤ 10464 } → out4 ≡ written out3 points (pointsBytes version (tab suc n))
+        → out4 ≡ written out 0 (planFile n t p (circuitBodies p (circuitOf s)))
+    unfolding planFile planWith circuitBodies partyCount
+    file-written held points out out1 out2 out3 out4 e (o, f) i ep j =
+        let outs : outsOf held (h .wires - h .outputs) (h .outputs) ≡ circuitOuts (circuitOf s) =
+        unfold circuitOuts in rw (o, held-are, read .wires, read .outputs) in
+        let count : h .outputs ≡ length (circuitOuts (circuitOf s)) = read .outputs ∙ sym (outs-long n p (circuitOf s) (k .text .rules)) in
+        let e′ : out1 ≡ written out 0 (contents version (length (tab suc n)) t p (length (circuitGates p (circuitOf s))) (length (circuitOuts (circuitOf s)))) =
+        e ∙ rw (length-tab suc n, ← k .text .count, ← count) in
+        let f′ : out2 ≡ written out1 (placeIn version 0) (gatesBytes version (circuitGates p (circuitOf s))) = f ∙ ap (λ (l : List Gate). written out1 (placeIn version 0) (gatesBytes version l)) all-are in
+        let i′ : out3 ≡ written out2 (outStart version (length (circuitGates p (circuitOf s))) 0) (flatMap outBytes (circuitOuts (circuitOf s))) =
+        i ∙ ap₂ (λ (g : ℕ) (l : List ℕ). written out2 (outStart version g 0) l) (k .text .count) (ap (flatMap outBytes) outs) in
+        let j′ : out4 ≡ written out3 (outStart version (length (circuitGates p (circuitOf s))) (length (circuitOuts (circuitOf s)))) (pointsBytes version (tab suc n)) =
+        j ∙ ap (λ (m : ℕ). written out3 m (pointsBytes version (tab suc n))) (ep .eq ∙ ap₂ (outStart version) (k .text .count) count) in
+        file-put version (planWith n t p (circuitBodies p (circuitOf s))) out out1 out2 out3 out4 e′ f′ i′ j′
+        ∙ ap (λ (v : ℕ). written out 0 (fileAs v (planWith n t p (circuitBodies p (circuitOf s))))) ev
+
+  pub parties-few : n ≤ 15
+  parties-few = k .text .parties
+
+  pub few-parties : n < 256
+  few-parties = omega (arith, k .text .parties)
 
   pub room-few : h .wires ≤ 1024
   room-few = wires-few
 
-pub ruleset filing = (needs, few-outputs, outs-few, file-putting, last-wire, file-put)
+pub ruleset filing = (needs, few-outputs, outs-few, file-putting, last-wire, low-version, file-fits, parties-few, few-parties, file-written)
 
 -- a part of a room
 module _ (s : List ℕ) (h : Head) (n t p gates : ℕ) (room : List ℕ) (k : Filing s h n t p gates (h .wires)) (r : length room ≡ 1024) where
@@ -200,13 +224,13 @@ module _ (s : List ℕ) (n t p gates : ℕ) (k : Importable s n t p gates) (r : 
         let small = rw q at (i .small) in
         record { is = sym (i .eq) ∙ q; text = k; gates-small = small .gates; values-small = small .values; wires = refl }
 
-    pub import-whole : (out new : List ℕ) → length out ≡ fileSize gates (outputWires (circuitOf s)) → new ≡ written out 0 (planFile n t p (circuitBodies p (circuitOf s)))
+    pub import-whole : (out new : List ℕ) → length out ≡ fileSize (versionFor p) n gates (outputWires (circuitOf s)) → new ≡ written out 0 (planFile n t p (circuitBodies p (circuitOf s)))
         → new ≡ planFile n t p (circuitBodies p (circuitOf s))
     import-whole out new l e = e ∙ written-whole out (planFile n t p (circuitBodies p (circuitOf s))) (long ∙ sym l)
       where
-        long : length (planFile n t p (circuitBodies p (circuitOf s))) ≡ fileSize gates (outputWires (circuitOf s))
+        long : length (planFile n t p (circuitBodies p (circuitOf s))) ≡ fileSize (versionFor p) n gates (outputWires (circuitOf s))
         long =
-            file-long n t p (circuitBodies p (circuitOf s))
-            ∙ (unfold circuitBodies in ap₂ fileSize (sym (k .count)) (outs-long n p (circuitOf s) (k .rules)))
+            made-long n t p (circuitBodies p (circuitOf s))
+            ∙ (unfold circuitBodies in ap₂ (fileSize (versionFor p) n) (sym (k .count)) (outs-long n p (circuitOf s) (k .rules)))
 
 pub ruleset importing = (needs, import-none, import-filing, import-whole)

@@ -46,10 +46,10 @@ pub record Importable (s : List ℕ) (n t p gates : ℕ) : Type 0 where
   pub count : gates ≡ length (circuitGates p (circuitOf s))
   pub few : gates ≤ 1024
   pub outs : outputWires (circuitOf s) ≤ 64
-  pub parties : n < 256
+  pub parties : n ≤ 15
   pub threshold : t < 256
   pub prime : 2 ≤ p
-  pub small : p < 65536
+  pub small : p < 2147483648
 
 pub record Filing (s : List ℕ) (h : Head) (n t p gates room : ℕ) : Type 0 where
   pub is : headAt s ≡ head.Read h

@@ -1,21 +1,24 @@
 -- What each way through the code says of a gate, an out or a point.
---     head-first, head-second, gate-place, out-place, point-first, point-second     where they stand, by version
+--     layout-rows                      what holds of each version's layout
+--     field-two .. point-four          the contents' fields and where gates, outs and points stand, by the bytes of a field and of a point
 --     reading     what closes the needs of the functions that read them
 -- Assumes nothing.
-use mathlib.Core.Path.{_≡_, refl, ap, _∙_}
+use mathlib.Core.Path.{_≡_, refl, sym, ap, _∙_}
 use mathlib.Core.Bool.{Bool, true, false, cond}
 use mathlib.Core.List.{List}
-use Prim.Native.Nat.{ℕ, _+_, _*_, _/_, _<_}
+use Prim.Native.Nat.{ℕ, suc, _+_, _*_, _≤_}
 use native.Mathlib.Omega.{arith}
 use borrow.Author.Needs.{needs}
 use borrow.Author.Tests.{eq-eqb, ne-eqb}
 use lib.Dec.{eqb}
-use lib.ListN.{length, getD, List·getD-eq-default}
-use Rattle.numbers.specs.Bytes.{wordAt}
-use Rattle.numbers.proofs.Ways.{byte-none, word-none, word-some}
+use lib.ListN.{getD}
+use Rattle.numbers.specs.Bytes.{numberAt, wordAt}
+use Rattle.numbers.proofs.Bytes.{word-number}
+use Rattle.numbers.proofs.Ways.{byte-none, word-some}
 use Rattle.plan.specs.declared.Gate.{Gate}
 use Rattle.plan.specs.declared.Gate.the-variants.{Input, Add, Scale, Offset, Multiply}
-use Rattle.plan.specs.File.{Layout, layoutFor, layoutOf, gatePlace, outPlace, pointPlace, gateOf, gateAt, outAt, pointAt}
+use Rattle.plan.specs.declared.Layout.{Layout}
+use Rattle.plan.specs.File.{layoutFor, layoutOf, fieldAt, gateStart, gatePlace, outPlace, pointPlace, gateOf, gateFrom, gateAt, outAt, pointAt}
 
 -- ---- a gate by its kind
 module _ (k s a b : ℕ) where
@@ -55,72 +58,155 @@ unfolding gateOf
 input-none a b h = rw (ne-eqb b 0 h)
 
 -- ---- the layouts
-module _ (s : List ℕ) (v : ℕ) (ev : v ≡ getD s 4 0) where
-  pub head-first : v ≡ 1 → 18 ≡ layoutOf s .head
-  unfolding layoutFor
-  head-first e = rw (← ev, eq-eqb v 1 e)
-
-  pub head-second : (v ≡ 1 → ⊥) → 20 ≡ layoutOf s .head
-  unfolding layoutFor
-  head-second h = rw (← ev, ne-eqb v 1 h)
-
--- a gate has six bytes in both
-six-bytes : (v : ℕ) → layoutFor v .gate ≡ 6
+-- what holds of each row holds of every version's layout
+pub layout-rows :
+    (P : Layout → Type 0) → P (record { head = 18; field = 2; point = 0 }) → P (record { head = 20; field = 2; point = 2 }) → P (record { head = 32; field = 4; point = 4 })
+    → (v : ℕ) → P (layoutFor v)
 unfolding layoutFor
-six-bytes v = pick (eqb v 1)
+layout-rows P a b c v = pick (eqb v 1) (eqb v 2)
   where
-    pick : (b : Bool) → (cond {A = Layout} b (record { head = 18; gate = 6; point = 0 }) (record { head = 20; gate = 6; point = 2 })) .gate ≡ 6
-    pick true = refl
-    pick false = refl
+    pick :
+        (x y : Bool)
+        → P (cond x (record { head = 18; field = 2; point = 0 }) (cond y (record { head = 20; field = 2; point = 2 }) (record { head = 32; field = 4; point = 4 })))
+    pick true y = a
+    pick false true = b
+    pick false false = c
 
-module _ (s : List ℕ) where
-  pub gate-place : (g : ℕ) → gatePlace s g ≡ layoutOf s .head + 6 * g
-  unfolding gatePlace
-  gate-place g = rw (six-bytes (getD s 4 0))
+-- a field has two bytes or four, and so has a point where there are any
+pub field-long : (v : ℕ) → (layoutFor v .field ≡ 2 → ⊥) → layoutFor v .field ≡ 4
+field-long = layout-rows (λ l. (l .field ≡ 2 → ⊥) → l .field ≡ 4) (λ h. absurd (h refl)) (λ h. absurd (h refl)) (λ h. refl)
 
-  pub out-place : (o : ℕ) → outPlace s o ≡ layoutOf s .head + 6 * wordAt s 12 + 3 * o
-  unfolding outPlace
-  out-place o = ap (λ (k : ℕ). k + 3 * o) (gate-place (wordAt s 12))
+pub point-long : (v : ℕ) → (layoutFor v .point ≡ 0 → ⊥) → (layoutFor v .point ≡ 2 → ⊥) → layoutFor v .point ≡ 4
+point-long = layout-rows (λ l. (l .point ≡ 0 → ⊥) → (l .point ≡ 2 → ⊥) → l .point ≡ 4) (λ h k. absurd (h refl)) (λ h k. absurd (k refl)) (λ h k. refl)
 
-  pub point-place : (getD s 4 0 ≡ 1 → ⊥) → (i : ℕ) → pointPlace s i ≡ 20 + 6 * wordAt s 12 + 3 * wordAt s 16 + 2 * i
-  unfolding pointPlace layoutFor
-  point-place h i = rw (ne-eqb (getD s 4 0) 1 h) (omega (arith, out-place (wordAt s 16), head-second s (getD s 4 0) refl h))
+pub layout-first : (v : ℕ) → v ≡ 1 → record { head = 18; field = 2; point = 0 } ≡ layoutFor v
+unfolding layoutFor
+layout-first v e = rw (eq-eqb v 1 e)
 
-  -- without points the file ends where they would stand
-  pub no-points-place : getD s 4 0 ≡ 1 → (i : ℕ) → pointPlace s i ≡ outPlace s (wordAt s 16)
-  unfolding pointPlace layoutFor
-  no-points-place e i = rw (eq-eqb (getD s 4 0) 1 e) (omega arith)
+pub layout-second : (v : ℕ) → v ≡ 2 → record { head = 20; field = 2; point = 2 } ≡ layoutFor v
+unfolding layoutFor
+layout-second v e = rw e
 
--- ---- where a gate, an out and a point stand
-module _ (s : List ℕ) (g : ℕ) where
-  pub gate-some : (h k z a b : ℕ) (r : Gate) → h ≡ layoutOf s .head → k ≡ getD s (h + 6 * g) 0 → z ≡ getD s (h + 6 * g + 1) 0 → a ≡ wordAt s (h + 6 * g + 2)
-      → b ≡ wordAt s (h + 6 * g + 4) → r ≡ gateOf k z a b → r ≡ gateAt s g
-  unfolding gateAt
-  gate-some h k z a b r d e f i j q = rw (gate-place s g, ← d, ← e, ← f, ← i, ← j) q
+pub layout-third : (v : ℕ) → (v ≡ 1 → ⊥) → (v ≡ 2 → ⊥) → record { head = 32; field = 4; point = 4 } ≡ layoutFor v
+unfolding layoutFor
+layout-third v h k = rw (ne-eqb v 1 h, ne-eqb v 2 k)
 
-  pub gate-none : length s / 6 < g → Input 0 ≡ gateAt s g
-  unfolding gateAt gateOf
-  gate-none l =
-      rw (List·getD-eq-default s 0 {n = gatePlace s g} (omega (arith, gate-place s g)), List·getD-eq-default s 0 {n = gatePlace s g + 1} (omega (arith, gate-place s g)))
+pub layout-read : (s : List ℕ) (v : ℕ) (l : Layout) → v ≡ getD s 4 0 → l ≡ layoutFor v → l ≡ layoutOf s
+layout-read s v l e f = f ∙ ap layoutFor e
 
-module _ (s : List ℕ) (o : ℕ) where
-  pub out-some : (h c a b : ℕ) → h ≡ layoutOf s .head → c ≡ wordAt s 12 → a ≡ getD s (h + 6 * c + 3 * o) 0 → b ≡ wordAt s (h + 6 * c + 3 * o + 1)
-      → record { party = a; wire = b } ≡ outAt s o
-  unfolding outAt
-  out-some h c a b d e f i = rw (f, i, e, d, out-place s o)
+-- ---- numbers of four bytes
+pub long-some : (s : List ℕ) (at x y : ℕ) → x ≡ wordAt s at → y ≡ wordAt s (at + 2) → x + 65536 * y ≡ numberAt 4 s at
+unfolding wordAt numberAt
+long-some s at x y e f =
+    let byte : ℕ → ℕ = λ k. getD s k 0 in
+    let b : byte (at + 1) ≡ byte (suc at) = ap byte (omega arith) in
+    let c : byte (at + 2) ≡ byte (suc (suc at)) = ap byte (omega arith) in
+    let d : byte (at + 2 + 1) ≡ byte (suc (suc (suc at))) = ap byte (omega arith) in
+    omega (arith, b, c, d)
 
-  pub out-none : length s / 3 < o → record { party = 0; wire = 0 } ≡ outAt s o
-  unfolding outAt
-  out-none l =
-      rw (List·getD-eq-default s 0 {n = outPlace s o} (omega (arith, out-place s o)), ← word-none s (outPlace s o + 1) (omega (arith, out-place s o)))
+-- ---- fields and places, by the bytes of a field
+module _ (s : List ℕ) (l : Layout) (el : l ≡ layoutOf s) where
+  module _ (two : l .field ≡ 2) where
+    is-two : layoutOf s .field ≡ 2
+    is-two = ap (λ (x : Layout). x .field) (sym el) ∙ two
 
-module _ (s : List ℕ) (i v : ℕ) (ev : v ≡ getD s 4 0) where
-  pub point-first : v ≡ 1 → i + 1 ≡ pointAt s i
-  unfolding pointAt layoutFor
-  point-first h = rw (← ev, eq-eqb v 1 h) (omega arith)
+    pub field-two : (k x : ℕ) → x ≡ wordAt s (8 + 2 * k) → x ≡ fieldAt s k
+    unfolding fieldAt
+    field-two k x e = e ∙ word-number s (8 + 2 * k) ∙ rw is-two
 
-  pub point-second : (v ≡ 1 → ⊥) → (c d x : ℕ) → c ≡ wordAt s 12 → d ≡ wordAt s 16 → x ≡ wordAt s (20 + 6 * c + 3 * d + 2 * i) → x ≡ pointAt s i
-  unfolding pointAt layoutFor
-  point-second h c d x e f q = q ∙ rw (e, f, ← point-place s (λ z. h (ev ∙ z)) i, ← ev, ne-eqb v 1 h)
+    pub place-two : (g : ℕ) → l .head + 6 * g ≡ gatePlace s g
+    unfolding gatePlace gateStart
+    place-two g = rw (is-two, ← el) (omega arith)
 
-pub ruleset reading = (needs, byte-none, word-some, head-first, head-second, gate-second, gate-input, gate-add, gate-scale, gate-offset, gate-multiply, gate-other, input-some, input-none, gate-some, gate-none, out-some, out-none, point-first, point-second)
+    pub operand-two : (at x : ℕ) → x ≡ wordAt s at → x ≡ numberAt (l .field) s at
+    operand-two at x e = e ∙ word-number s at ∙ rw two
+
+  module _ (not-two : l .field ≡ 2 → ⊥) where
+    is-four : layoutOf s .field ≡ 4
+    is-four = field-long (getD s 4 0) (λ e. not-two (ap (λ (x : Layout). x .field) el ∙ e))
+
+    pub field-four : (k x : ℕ) → x ≡ numberAt 4 s (8 + 4 * k) → x ≡ fieldAt s k
+    unfolding fieldAt
+    field-four k x e = e ∙ rw is-four
+
+    pub place-four : (g : ℕ) → l .head + 10 * g ≡ gatePlace s g
+    unfolding gatePlace gateStart
+    place-four g = rw (is-four, ← el) (omega arith)
+
+    pub operand-four : (at x : ℕ) → x ≡ numberAt 4 s at → x ≡ numberAt (l .field) s at
+    operand-four at x e = e ∙ sym (ap (λ (w : ℕ). numberAt w s at) (ap (λ (x : Layout). x .field) el ∙ is-four))
+
+  -- ---- a gate
+  pub gate-some : (g at k z a b : ℕ) (r : Gate) → at ≡ gatePlace s g → k ≡ getD s at 0 → z ≡ getD s (at + 1) 0 → a ≡ numberAt (l .field) s (at + 2)
+      → b ≡ numberAt (l .field) s (at + 2 + l .field) → r ≡ gateOf k z a b → r ≡ gateAt s g
+  unfolding gateAt gateFrom
+  gate-some g at k z a b r ea ek ez e f er = er ∙ rw (ek, ez, e, f, ea, el)
+
+  -- ---- and of a point
+  at-none : l .point ≡ 0 → layoutOf s .point ≡ 0
+  at-none e = ap (λ (x : Layout). x .point) (sym el) ∙ e
+
+  at-two : l .point ≡ 2 → layoutOf s .point ≡ 2
+  at-two e = ap (λ (x : Layout). x .point) (sym el) ∙ e
+
+  at-four : (l .point ≡ 0 → ⊥) → (l .point ≡ 2 → ⊥) → layoutOf s .point ≡ 4
+  at-four h k = point-long (getD s 4 0) (λ e. h (ap (λ (x : Layout). x .point) el ∙ e)) (λ e. k (ap (λ (x : Layout). x .point) el ∙ e))
+
+  module _ (i c at : ℕ) (ec : c ≡ fieldAt s 4) (ea : at ≡ outPlace s c) where
+    pub points-none : l .point ≡ 0 → at ≡ pointPlace s i
+    unfolding pointPlace
+    points-none e = ea ∙ rw (← ec, at-none e) (omega arith)
+
+    pub points-two : l .point ≡ 2 → at + 2 * i ≡ pointPlace s i
+    unfolding pointPlace
+    points-two e = rw (← ec, at-two e, ← ea)
+
+    pub points-four : (l .point ≡ 0 → ⊥) → (l .point ≡ 2 → ⊥) → at + 4 * i ≡ pointPlace s i
+    unfolding pointPlace
+    points-four h k = rw (← ec, at-four h k, ← ea)
+
+  module _ (i : ℕ) where
+    pub point-none : l .point ≡ 0 → i + 1 ≡ pointAt s i
+    unfolding pointAt
+    point-none e = rw (at-none e) (omega arith)
+
+    module _ (h : l .point ≡ 0 → ⊥) (at x : ℕ) (ea : at ≡ pointPlace s i) where
+      some-points : eqb (layoutOf s .point) 0 ≡ false
+      some-points = ne-eqb (layoutOf s .point) 0 (λ e. h (ap (λ (x : Layout). x .point) el ∙ e))
+
+      pub point-two : l .point ≡ 2 → x ≡ wordAt s at → x ≡ pointAt s i
+      unfolding pointAt
+      point-two e ex = ex ∙ word-number s at ∙ rw (some-points, at-two e, ← ea)
+
+      pub point-four : (l .point ≡ 2 → ⊥) → x ≡ numberAt 4 s at → x ≡ pointAt s i
+      unfolding pointAt
+      point-four k ex = ex ∙ rw (some-points, at-four h k, ← ea)
+
+-- ---- from gate to gate
+pub size-some : (s : List ℕ) (l : Layout) → l ≡ layoutOf s → 2 + 2 * l .field ≡ 2 + 2 * layoutOf s .field
+size-some s l e = rw e
+
+pub place-next : (s : List ℕ) (g place size : ℕ) → place ≡ gatePlace s g → size ≡ 2 + 2 * layoutOf s .field → place + size ≡ gatePlace s (g + 1)
+unfolding gatePlace gateStart
+place-next s g place size e f =
+    let w : ℕ = 2 + 2 * layoutOf s .field in
+    let next : w * (g + 1) ≡ w * g + w = omega arith in
+    omega (arith, next)
+
+pub place-small : (s : List ℕ) (g : ℕ) → gatePlace s g ≤ 32 + 10 * g
+unfolding gatePlace gateStart
+place-small s g = layout-rows (λ l. l .head + (2 + 2 * l .field) * g ≤ 32 + 10 * g) (omega arith) (omega arith) (omega arith) (getD s 4 0)
+
+-- ---- an out, and where it stands
+pub out-places : (s : List ℕ) (o c at : ℕ) → c ≡ fieldAt s 2 → at ≡ gatePlace s c → at + 3 * o ≡ outPlace s o
+unfolding outPlace
+out-places s o c at ec ea = rw (← ec, ← ea)
+
+pub out-some : (s : List ℕ) (o at a b : ℕ) → at ≡ outPlace s o → a ≡ getD s at 0 → b ≡ wordAt s (at + 1) → record { party = a; wire = b } ≡ outAt s o
+unfolding outAt
+out-some s o at a b e f i = rw (f, i, e)
+
+pub kind-at : (s : List ℕ) (g at k : ℕ) → at ≡ gatePlace s g → k ≡ getD s at 0 → k ≡ getD s (gatePlace s g) 0
+kind-at s g at k e f = f ∙ rw e
+
+pub ruleset reading = (needs, byte-none, word-some, long-some, layout-first, layout-second, layout-third, layout-read, field-two, field-four, place-two, place-four, operand-two, operand-four, gate-some, points-none, points-two, points-four, point-none, point-two, point-four, size-some, out-places, out-some, kind-at, gate-second, gate-input, gate-add, gate-scale, gate-offset, gate-multiply, gate-other, input-some, input-none)

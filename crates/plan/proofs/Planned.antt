@@ -13,7 +13,6 @@ use borrow.Author.Tests.{ltb-true, leb-true, eqb-true}
 use lib.Dec.{eqb, leb, ltb}
 use lib.ListN.{length, getD}
 use Rattle.numbers.specs.Tables.{tab, firstFailing}
-use Rattle.numbers.specs.Bytes.{wordAt}
 use Rattle.numbers.specs.declared.Found.the-variants.{Nothing}
 use Rattle.numbers.proofs.Tables.{length-tab, getD-tab}
 use Rattle.numbers.proofs.Searches.{nothing-passes}
@@ -28,15 +27,14 @@ use Rattle.plan.specs.declared.Refusal.the-variants as refusal
 use Rattle.plan.specs.declared.Checked.the-variants.{Passed, Refused}
 use Rattle.plan.specs.Refusals.{firstOf}
 use Rattle.plan.specs.Plans.{multiplying, partyCount, dealerCount}
-use Rattle.plan.specs.File.{modulusLimit, versionAt, nAt, tAt, pAt, gateCountAt, outCountAt, layoutOf, outPlace, pointPlace, between, partiesOk, thresholdOk, modulusOk, gateAt, outAt, majorityOk, pointAt, gateKept, outKept, majorityKept, pointKept, pointsPlaced, layoutOk, majorityCheck, pointsCheck, planChecks, planCheck, planOf, headerOf}
+use Rattle.plan.specs.File.{modulusLimit, versionAt, nAt, tAt, pAt, gateCountAt, outCountAt, layoutOf, fieldAt, outPlace, pointPlace, between, partiesOk, thresholdOk, modulusOk, gateAt, outAt, majorityOk, pointAt, gateKept, outKept, majorityKept, pointKept, pointsPlaced, layoutOk, majorityCheck, pointsCheck, planChecks, planCheck, planOf, headerOf}
 use Rattle.plan.specs.Planned.{Planned, ReadAs}
 use Rattle.plan.proofs.Refusals.{passed-both, passed-need, passed-found}
-use Rattle.plan.proofs.Gates.{out-place}
 use Rattle.plan.proofs.Ways.{check-of-passed, check-of-refused, header-of-passed, read-outcome}
 
 -- ---- the checks of a plan that passes
 pub record Passing (bs : List ℕ) : Type 0 where
-  pub version : between 1 2 (versionAt bs) ≡ true
+  pub version : between 1 3 (versionAt bs) ≡ true
   pub parties : partiesOk (nAt bs) ≡ true
   pub threshold : thresholdOk (nAt bs) (tAt bs) ≡ true
   pub modulus : modulusOk (nAt bs) (pAt bs) ≡ true
@@ -83,7 +81,7 @@ module _ (n p : ℕ) (h : modulusOk n p ≡ true) where
   pub modulus-prime : isPrime p ≡ true
   modulus-prime = both-true (ltb p modulusLimit) (isPrime p) (both-true (ltb p modulusLimit && isPrime p) (ltb n p) h .0) .1
 
-  pub modulus-small : p < 65536
+  pub modulus-small : p < 2147483648
   modulus-small = ltb-true p modulusLimit (both-true (ltb p modulusLimit) (isPrime p) (both-true (ltb p modulusLimit && isPrime p) (ltb n p) h .0) .0)
 
   pub modulus-above : n < p
@@ -102,24 +100,16 @@ pub laid : (bs : List ℕ) → layoutOk bs ≡ true → Laid bs
 unfolding layoutOk pointsPlaced
 laid bs h =
     let a = both-true (eqb (getD bs 7 0) 0) _ h in
-    let b = both-true (eqb (wordAt bs 10) _) _ (a .1) in
+    let b = both-true (eqb (fieldAt bs 1) _) _ (a .1) in
     let c = both-true (between 1 1024 (gateCountAt bs)) _ (b .1) in
-    let d = both-true (eqb (wordAt bs 14) (outPlace bs 0)) _ (c .1) in
+    let d = both-true (eqb (fieldAt bs 3) (outPlace bs 0)) _ (c .1) in
     let e = both-true (between 1 64 (outCountAt bs)) _ (d .1) in
-    let f = both-true (cond (eqb (layoutOf bs .point) 0) true (eqb (wordAt bs 18) (pointPlace bs 0))) (eqb (length bs) (pointPlace bs (nAt bs))) (e .1) in
+    let f = both-true (cond (eqb (layoutOf bs .point) 0) true (eqb (fieldAt bs 5) (pointPlace bs 0))) (eqb (length bs) (pointPlace bs (nAt bs))) (e .1) in
     record { gates = c .0; outs = e .0; long = eqb-true (length bs) (pointPlace bs (nAt bs)) (f .1) }
 
--- its gates and outs stand within it
-laid-outs : (bs : List ℕ) → layoutOk bs ≡ true → layoutOf bs .head + 6 * gateCountAt bs + 3 * outCountAt bs ≤ length bs
-unfolding pointPlace
-laid-outs bs h = omega (arith, laid bs h .long, out-place bs (outCountAt bs))
-
-pub laid-gates : (bs : List ℕ) (t : Bool) → t ≡ layoutOk bs → t ≡ true → layoutOf bs .head + 6 * gateCountAt bs ≤ length bs
-laid-gates bs t e y = omega (arith, laid-outs bs (sym e ∙ y))
-
-pub planned : (bs : List ℕ) → pAt bs < 65536 → planCheck bs ≡ Passed → Planned bs (headerOf bs)
+pub planned : (bs : List ℕ) → planCheck bs ≡ Passed → Planned bs (headerOf bs)
 unfolding headerOf
-planned bs small h =
+planned bs h =
     let q : Passing bs = passing bs h in
     let l : Laid bs = laid bs (q .layout) in
     let n = between-true 1 15 (nAt bs) (q .parties) in
@@ -132,18 +122,17 @@ planned bs small h =
       n-high = n .1;
       threshold = ltb-true (tAt bs) (nAt bs) (q .threshold);
       p-low = modulus-above (nAt bs) (pAt bs) (q .modulus);
-      p-high = small;
+      p-high = modulus-small (nAt bs) (pAt bs) (q .modulus);
       gates-low = g .0;
       gates-high = g .1;
       outs-low = o .0;
       outs-high = o .1;
-      long = laid-outs bs (q .layout);
     }
 
 -- what a reading says
 pub planned-read : (bs : List ℕ) (r : Reading) (h : Header) → ReadAs bs r → r ≡ reading.Passed h → Planned bs h
 planned-read bs r h a e =
-    rw (header-of-passed bs h (sym (a .eq) ∙ e)) (planned bs (a .small) (sym (check-of-passed bs r h (a .eq) e)))
+    rw (header-of-passed bs h (sym (a .eq) ∙ e)) (planned bs (sym (check-of-passed bs r h (a .eq) e)))
 
 pub refused-read : (bs : List ℕ) (r : Reading) (q : Refusal) → ReadAs bs r → r ≡ reading.Refused q → planCheck bs ≡ Refused q
 refused-read bs r q a e = sym (check-of-refused bs r q (a .eq) e)

@@ -36,7 +36,7 @@ use Rattle.plan.specs.declared.Gate.the-variants.{Input, Add, Scale, Off
 use Rattle.plan.specs.declared.Rule.the-variants.{Reduction}
 use Rattle.plan.specs.declared.Header.{Header}
 use Rattle.plan.specs.Plans.{Plan, partyCount, kindOf, isKind, kindCount, multiplying}
-use Rattle.plan.specs.File.{nAt, tAt, pAt, gateCountAt, outCountAt, gateOf, gateAt, outAt, pointAt, gateOk, outOk, gateKept, outKept, foundNone, pointApart, pointKept, planCheck, planOf}
+use Rattle.plan.specs.File.{nAt, tAt, pAt, gateCountAt, outCountAt, gateOf, gateFrom, gateAt, outAt, pointAt, gateOk, outOk, gateKept, outKept, foundNone, pointApart, pointKept, planCheck, planOf}
 use Rattle.plan.specs.Planned.{Planned}
 use Rattle.plan.proofs.Planned.{Passing, passing, passing-majority, laid, between-true, modulus-prime, modulus-small, plan-t, plan-p, plan-n, plan-gates, plan-gate}
 
@@ -174,7 +174,7 @@ module _ (bs : List ℕ) (h : planCheck bs ≡ Passed) where
 
   -- and it is plain
   pub plain : Plain (planOf bs)
-  unfolding planOf partyCount gateAt
+  unfolding planOf partyCount gateAt gateFrom
   plain =
       record {
         rule = refl;

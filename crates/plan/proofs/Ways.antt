@@ -9,12 +9,9 @@ use Prim.Native.Nat.{ℕ, suc, _+_, _*_, _<_, _≤_}
 use native.Mathlib.Omega.{arith}
 use borrow.Author.Needs.{needs}
 use borrow.Author.Tests.{not-true, not-false, lt-ltb, le-ltb, le-leb, lt-leb, eq-eqb, ne-eqb}
-use mir.Syntax.{w8}
-use mir.Val.{Fits}
 use lib.Dec.{eqb, leb, ltb}
 use lib.ListN.{length, getD, take, drop, take-append-drop}
 use Rattle.numbers.specs.Tables.{firstFailing}
-use Rattle.numbers.specs.Bytes.{wordAt}
 use Rattle.numbers.specs.declared.Found.{Found}
 use Rattle.numbers.specs.declared.Found.the-variants.{At, Nothing}
 use Rattle.numbers.proofs.Searches.{Seeking, begin, found, passed, nothing, found-not, passed-not, passes-nothing}
@@ -26,6 +23,7 @@ use Rattle.field.specs.Field.{fieldLimit, madeOf}
 use Rattle.plan.specs.declared.Gate.{Gate}
 use Rattle.plan.specs.declared.Gate.the-variants.{Input, Add, Scale, Offset, Multiply, Random, Spend}
 use Rattle.plan.specs.declared.Output.{Output}
+use Rattle.plan.specs.declared.Layout.{Layout}
 use Rattle.plan.specs.declared.Header.{Header}
 use Rattle.plan.specs.declared.Reading.{Reading}
 use Rattle.plan.specs.declared.Reading.the-variants as reading
@@ -36,9 +34,8 @@ use Rattle.plan.specs.declared.Refusal.the-variants as refusal
 use Rattle.plan.specs.Refusals.{firstOf, andThen, need, unlessFound}
 use Rattle.plan.specs.Plans.{multiplying}
 use Rattle.plan.proofs.Refusals.{andThen-passed, andThen-refused, andThen-end, firstOf-append}
-use Rattle.plan.specs.File.{magic, sameBytes, between, partiesOk, thresholdOk, modulusLimit, modulusOk, fieldAbove, layoutFor, layoutOf, gatePlace, outPlace, pointPlace, gateAt, outAt, pointAt, gateOk, outOk, majorityOk, gateKept, outKept, majorityKept, foundNone, pointApart, pointKept, pointsPlaced, layoutOk, majorityCheck, pointsCheck, planChecks, planCheck, headerOf, readingOf, outcomeOf, readPlan}
+use Rattle.plan.specs.File.{magic, sameBytes, between, partiesOk, thresholdOk, modulusLimit, modulusOk, fieldAbove, layoutOf, fieldAt, gatePlace, outPlace, pointPlace, gateAt, outAt, pointAt, gateOk, outOk, majorityOk, gateKept, outKept, majorityKept, foundNone, pointApart, pointKept, pointsPlaced, layoutOk, majorityCheck, pointsCheck, planChecks, planCheck, headerOf, readingOf, outcomeOf, readPlan}
 use Rattle.plan.specs.Planned.{ReadAs}
-use Rattle.plan.proofs.Gates.{head-second, gate-place, out-place, point-place, no-points-place}
 
 -- ---- small tests
 pub between-under : (a b x : ℕ) → x < a → false ≡ between a b x
@@ -101,16 +98,16 @@ module _ (bs : List ℕ) (gates : ℕ) where
   pub gates-begin : Seeking (gateKept bs) gates 0
   gates-begin = begin (gateKept bs) gates
 
-  module _ (g : ℕ) (h : Seeking (gateKept bs) gates g) (s : gates ≡ wordAt bs 12) where
-    pub gates-end : gates ≤ g → Nothing ≡ firstFailing (gateKept bs) (wordAt bs 12)
+  module _ (g : ℕ) (h : Seeking (gateKept bs) gates g) (s : gates ≡ fieldAt bs 2) where
+    pub gates-end : gates ≤ g → Nothing ≡ firstFailing (gateKept bs) (fieldAt bs 2)
     gates-end l = rw (← s) (nothing (gateKept bs) gates g h l)
 
-    module _ (n p : ℕ) (en : n ≡ getD bs 5 0) (ep : p ≡ wordAt bs 8) (gate : Gate) (t : Bool) (l : g < gates) (e : gate ≡ gateAt bs g) (k : t ≡ gateOk n p g gate) where
+    module _ (n p : ℕ) (en : n ≡ getD bs 5 0) (ep : p ≡ fieldAt bs 0) (gate : Gate) (t : Bool) (l : g < gates) (e : gate ≡ gateAt bs g) (k : t ≡ gateOk n p g gate) where
       kept : t ≡ gateKept bs g
       unfolding gateKept
       kept = rw (← en, ← ep, ← e) k
 
-      pub gates-found : t ≡ false → At g ≡ firstFailing (gateKept bs) (wordAt bs 12)
+      pub gates-found : t ≡ false → At g ≡ firstFailing (gateKept bs) (fieldAt bs 2)
       gates-found f = rw (← s) (found (gateKept bs) gates g h l (rw (← kept) f))
 
       pub gates-passed : t ≡ true → Seeking (gateKept bs) gates (g + 1)
@@ -120,16 +117,16 @@ module _ (bs : List ℕ) (outs : ℕ) where
   pub outs-begin : Seeking (outKept bs) outs 0
   outs-begin = begin (outKept bs) outs
 
-  module _ (o : ℕ) (h : Seeking (outKept bs) outs o) (s : outs ≡ wordAt bs 16) where
-    pub outs-end : outs ≤ o → Nothing ≡ firstFailing (outKept bs) (wordAt bs 16)
+  module _ (o : ℕ) (h : Seeking (outKept bs) outs o) (s : outs ≡ fieldAt bs 4) where
+    pub outs-end : outs ≤ o → Nothing ≡ firstFailing (outKept bs) (fieldAt bs 4)
     outs-end l = rw (← s) (nothing (outKept bs) outs o h l)
 
-    module _ (n gates : ℕ) (en : n ≡ getD bs 5 0) (eg : gates ≡ wordAt bs 12) (out : Output) (t : Bool) (l : o < outs) (e : out ≡ outAt bs o) (k : t ≡ outOk n gates out) where
+    module _ (n gates : ℕ) (en : n ≡ getD bs 5 0) (eg : gates ≡ fieldAt bs 2) (out : Output) (t : Bool) (l : o < outs) (e : out ≡ outAt bs o) (k : t ≡ outOk n gates out) where
       out-kept : t ≡ outKept bs o
       unfolding outKept
       out-kept = rw (← en, ← eg, ← e) k
 
-      pub outs-found : t ≡ false → At o ≡ firstFailing (outKept bs) (wordAt bs 16)
+      pub outs-found : t ≡ false → At o ≡ firstFailing (outKept bs) (fieldAt bs 4)
       outs-found f = rw (← s) (found (outKept bs) outs o h l (rw (← out-kept) f))
 
       pub outs-passed : t ≡ true → Seeking (outKept bs) outs (o + 1)
@@ -146,8 +143,8 @@ module _ (bs : List ℕ) (n t : ℕ) (en : n ≡ getD bs 5 0) (et : t ≡ getD b
   unfolding majorityKept majorityOk
   kept-by g m e = rw (← en, ← et, ← e)
 
-  pub majority-all : 2 * t < n → Nothing ≡ firstFailing (majorityKept bs) (wordAt bs 12)
-  majority-all l = sym (passes-nothing (majorityKept bs) (wordAt bs 12) (λ g k. sym (kept-by g (multiplying (gateAt bs g)) refl) ∙ rw (lt-ltb (2 * t) n l) (both (multiplying (gateAt bs g)))))
+  pub majority-all : 2 * t < n → Nothing ≡ firstFailing (majorityKept bs) (fieldAt bs 2)
+  majority-all l = sym (passes-nothing (majorityKept bs) (fieldAt bs 2) (λ g k. sym (kept-by g (multiplying (gateAt bs g)) refl) ∙ rw (lt-ltb (2 * t) n l) (both (multiplying (gateAt bs g)))))
     where
       both : (m : Bool) → cond m true true ≡ true
       both true = refl
@@ -157,21 +154,21 @@ module _ (bs : List ℕ) (n t : ℕ) (en : n ≡ getD bs 5 0) (et : t ≡ getD b
     pub majority-begin : Seeking (majorityKept bs) gates 0
     majority-begin = begin (majorityKept bs) gates
 
-    module _ (g : ℕ) (h : Seeking (majorityKept bs) gates g) (s : gates ≡ wordAt bs 12) where
-      pub majority-end : gates ≤ g → Nothing ≡ firstFailing (majorityKept bs) (wordAt bs 12)
+    module _ (g : ℕ) (h : Seeking (majorityKept bs) gates g) (s : gates ≡ fieldAt bs 2) where
+      pub majority-end : gates ≤ g → Nothing ≡ firstFailing (majorityKept bs) (fieldAt bs 2)
       majority-end l = rw (← s) (nothing (majorityKept bs) gates g h l)
 
       module _ (far : n ≤ 2 * t) (gate : Gate) (m : Bool) (l : g < gates) (e : gate ≡ gateAt bs g) (k : m ≡ multiplying gate) where
         lacks : cond m false true ≡ majorityKept bs g
         lacks = rw (le-ltb (2 * t) n far) at (kept-by g m (k ∙ ap multiplying e))
 
-        pub majority-found : m ≡ true → At g ≡ firstFailing (majorityKept bs) (wordAt bs 12)
+        pub majority-found : m ≡ true → At g ≡ firstFailing (majorityKept bs) (fieldAt bs 2)
         majority-found f = rw (← s) (found (majorityKept bs) gates g h l (sym (rw f at lacks)))
 
         pub majority-passed : m ≡ false → Seeking (majorityKept bs) gates (g + 1)
         majority-passed f = passed (majorityKept bs) gates g h l (sym (rw f at lacks))
 
-module _ (bs : List ℕ) (f : Found) (e : f ≡ firstFailing (majorityKept bs) (wordAt bs 12)) where
+module _ (bs : List ℕ) (f : Found) (e : f ≡ firstFailing (majorityKept bs) (fieldAt bs 2)) where
   pub majority-lacking : (g : ℕ) → f ≡ At g → Refused refusal.Majority ≡ majorityCheck bs
   unfolding majorityCheck unlessFound
   majority-lacking g h = rw (← e, h)
@@ -193,7 +190,7 @@ module _ (bs : List ℕ) (i : ℕ) where
     unfolding pointKept
     point-zero e = rw (← ex, e)
 
-    module _ (p : ℕ) (ep : p ≡ wordAt bs 8) (ne : x ≡ 0 → ⊥) where
+    module _ (p : ℕ) (ep : p ≡ fieldAt bs 0) (ne : x ≡ 0 → ⊥) where
       pub point-large : p ≤ x → false ≡ pointKept bs i
       unfolding pointKept
       point-large l = rw (← ex, ← ep, lt-ltb 0 x (omega arith), le-ltb x p l)
@@ -208,24 +205,25 @@ module _ (bs : List ℕ) (i : ℕ) where
         point-new e = rw (← ex, ← ep, lt-ltb 0 x (omega arith), lt-ltb x p l, ← ef, e)
 
 -- points 1 to n pass where p is above n
-module _ (bs : List ℕ) (v : getD bs 4 0 ≡ 1) where
-  pub point-is : (i : ℕ) → pointAt bs i ≡ suc i
-  unfolding pointAt layoutFor
-  point-is i = rw (eq-eqb (getD bs 4 0) 1 v)
-
-  first-apart : (i j : ℕ) → j < i → pointApart bs i j ≡ true
+module _ (bs : List ℕ) (is : (i : ℕ) → i < getD bs 5 0 → pointAt bs i ≡ suc i) where
+  first-apart : (i j : ℕ) → i < getD bs 5 0 → j < i → pointApart bs i j ≡ true
   unfolding pointApart
-  first-apart i j m = rw (point-is i, point-is j, ne-eqb (suc j) (suc i) (λ e. omega arith))
+  first-apart i j l m = rw (is i l, is j (omega arith), ne-eqb (suc j) (suc i) (λ e. omega arith))
 
-  first-kept : getD bs 5 0 < wordAt bs 8 → (i : ℕ) → i < getD bs 5 0 → pointKept bs i ≡ true
+  first-kept : getD bs 5 0 < fieldAt bs 0 → (i : ℕ) → i < getD bs 5 0 → pointKept bs i ≡ true
   unfolding pointKept foundNone
-  first-kept l i m = rw (point-is i, lt-ltb 0 (suc i) (omega arith), lt-ltb (suc i) (wordAt bs 8) (omega arith), passes-nothing (pointApart bs i) i (first-apart i))
+  first-kept l i m = rw (is i m, lt-ltb 0 (suc i) (omega arith), lt-ltb (suc i) (fieldAt bs 0) (omega arith), passes-nothing (pointApart bs i) i (λ j k. first-apart i j m k))
 
-  pub points-pass : getD bs 5 0 < wordAt bs 8 → firstFailing (pointKept bs) (getD bs 5 0) ≡ Nothing
+  pub points-pass : getD bs 5 0 < fieldAt bs 0 → firstFailing (pointKept bs) (getD bs 5 0) ≡ Nothing
   points-pass l = passes-nothing (pointKept bs) (getD bs 5 0) (first-kept l)
 
-pub first-points : (bs : List ℕ) (v n p : ℕ) → v ≡ getD bs 4 0 → n ≡ getD bs 5 0 → p ≡ wordAt bs 8 → v ≡ 1 → n < p → Nothing ≡ firstFailing (pointKept bs) (getD bs 5 0)
-first-points bs v n p ev en ep h l = sym (points-pass bs (sym ev ∙ h) (rw (← en, ← ep) l))
+-- and so they are in a file without points
+pub point-is : (bs : List ℕ) → layoutOf bs .point ≡ 0 → (i : ℕ) → pointAt bs i ≡ suc i
+unfolding pointAt
+point-is bs v i = rw (eq-eqb (layoutOf bs .point) 0 v)
+
+pub first-points : (bs : List ℕ) (w : Layout) (n p : ℕ) → w ≡ layoutOf bs → n ≡ getD bs 5 0 → p ≡ fieldAt bs 0 → w .point ≡ 0 → n < p → Nothing ≡ firstFailing (pointKept bs) (getD bs 5 0)
+first-points bs w n p ew en ep h l = sym (points-pass bs (λ i m. point-is bs (ap (λ (x : Layout). x .point) (sym ew) ∙ h) i) (rw (← en, ← ep) l))
 
 pub all-points : (bs : List ℕ) (n : ℕ) (f : Found) → n ≡ getD bs 5 0 → f ≡ firstFailing (pointKept bs) n → f ≡ firstFailing (pointKept bs) (getD bs 5 0)
 all-points bs n f e h = rw (← e) h
@@ -285,72 +283,55 @@ module _ (s : List ℕ) where
     unfolding layoutOk
     layout-zero h = rw (← ez, ne-eqb z 0 h)
 
-    module _ (hz : z ≡ 0) (d : ℕ) (ed : d ≡ layoutOf s .head) (a : ℕ) (ea : a ≡ wordAt s 10) where
-      gates-start : gatePlace s 0 ≡ d
-      gates-start = gate-place s 0 ∙ omega arith
-
+    module _ (hz : z ≡ 0) (d : ℕ) (ed : d ≡ gatePlace s 0) (a : ℕ) (ea : a ≡ fieldAt s 1) where
       pub layout-gates-offset : (a ≡ d → ⊥) → false ≡ layoutOk s
       unfolding layoutOk
-      layout-gates-offset h = rw (← ez, eq-eqb z 0 hz, ← ea, gates-start, ne-eqb a d h)
+      layout-gates-offset h = rw (← ez, eq-eqb z 0 hz, ← ea, ← ed, ne-eqb a d h)
 
-      module _ (ha : a ≡ d) (g : ℕ) (eg : g ≡ wordAt s 12) (t : Bool) (et : t ≡ between 1 1024 g) where
+      module _ (ha : a ≡ d) (g : ℕ) (eg : g ≡ fieldAt s 2) (t : Bool) (et : t ≡ between 1 1024 g) where
         pub layout-gates : t ≡ false → false ≡ layoutOk s
         unfolding layoutOk
-        layout-gates h = rw (← ez, eq-eqb z 0 hz, ← ea, gates-start, eq-eqb a d ha, ← eg, ← et, h)
+        layout-gates h = rw (← ez, eq-eqb z 0 hz, ← ea, ← ed, eq-eqb a d ha, ← eg, ← et, h)
 
-        pub layout-further : t ≡ true → (r : Bool) → r ≡ (eqb (wordAt s 14) (outPlace s 0) && (between 1 64 (wordAt s 16) && pointsPlaced s)) → r ≡ layoutOk s
+        pub layout-further : t ≡ true → (r : Bool) → r ≡ (eqb (fieldAt s 3) (outPlace s 0) && (between 1 64 (fieldAt s 4) && pointsPlaced s)) → r ≡ layoutOk s
         unfolding layoutOk
-        layout-further h r e = rw (← ez, eq-eqb z 0 hz, ← ea, gates-start, eq-eqb a d ha, ← eg, ← et, h) e
+        layout-further h r e = rw (← ez, eq-eqb z 0 hz, ← ea, ← ed, eq-eqb a d ha, ← eg, ← et, h) e
 
-  -- where the outs begin
-  pub outs-start : (d g : ℕ) → d ≡ layoutOf s .head → g ≡ wordAt s 12 → d + 6 * g ≡ outPlace s 0
-  outs-start d g e f = omega (arith, out-place s 0)
-
-module _ (s : List ℕ) (at : ℕ) (ea : at ≡ outPlace s 0) (b : ℕ) (eb : b ≡ wordAt s 14) where
-  pub outs-displaced : (b ≡ at → ⊥) → false ≡ (eqb (wordAt s 14) (outPlace s 0) && (between 1 64 (wordAt s 16) && pointsPlaced s))
+module _ (s : List ℕ) (at : ℕ) (ea : at ≡ outPlace s 0) (b : ℕ) (eb : b ≡ fieldAt s 3) where
+  pub outs-displaced : (b ≡ at → ⊥) → false ≡ (eqb (fieldAt s 3) (outPlace s 0) && (between 1 64 (fieldAt s 4) && pointsPlaced s))
   outs-displaced h = rw (← eb, ← ea, ne-eqb b at h)
 
-  module _ (hb : b ≡ at) (o : ℕ) (eo : o ≡ wordAt s 16) (u : Bool) (eu : u ≡ between 1 64 o) where
-    pub outs-many : u ≡ false → false ≡ (eqb (wordAt s 14) (outPlace s 0) && (between 1 64 (wordAt s 16) && pointsPlaced s))
+  module _ (hb : b ≡ at) (o : ℕ) (eo : o ≡ fieldAt s 4) (u : Bool) (eu : u ≡ between 1 64 o) where
+    pub outs-many : u ≡ false → false ≡ (eqb (fieldAt s 3) (outPlace s 0) && (between 1 64 (fieldAt s 4) && pointsPlaced s))
     outs-many h = rw (← eb, ← ea, eq-eqb b at hb, ← eo, ← eu, h)
 
-    pub outs-further : u ≡ true → (r : Bool) → r ≡ pointsPlaced s → r ≡ (eqb (wordAt s 14) (outPlace s 0) && (between 1 64 (wordAt s 16) && pointsPlaced s))
+    pub outs-further : u ≡ true → (r : Bool) → r ≡ pointsPlaced s → r ≡ (eqb (fieldAt s 3) (outPlace s 0) && (between 1 64 (fieldAt s 4) && pointsPlaced s))
     outs-further h r e = rw (← eb, ← ea, eq-eqb b at hb, ← eo, ← eu, h) e
 
--- where the outs end
-pub outs-end-place : (s : List ℕ) (at o : ℕ) → at ≡ outPlace s 0 → o ≡ wordAt s 16 → at + 3 * o ≡ outPlace s (wordAt s 16)
-outs-end-place s at o e f = omega (arith, out-place s 0, out-place s (wordAt s 16))
+-- the points' offset where there are points, and the end
+pub placed-end : (s : List ℕ) (e n : ℕ) → n ≡ getD s 5 0 → e ≡ pointPlace s n → eqb (length s) e ≡ eqb (length s) (pointPlace s (getD s 5 0))
+placed-end s e n en ee = rw (ee, en)
 
-module _ (s : List ℕ) (at : ℕ) (ea : at ≡ outPlace s (wordAt s 16)) (v : ℕ) (ev : v ≡ getD s 4 0) where
-  pub placed-first : v ≡ 1 → eqb (length s) at ≡ pointsPlaced s
-  unfolding pointsPlaced layoutFor
-  placed-first h = rw (no-points-place s (sym ev ∙ h) (getD s 5 0), ← ea, ← ev, eq-eqb v 1 h)
+module _ (s : List ℕ) (w : Layout) (ew : w ≡ layoutOf s) where
+  pub placed-none : w .point ≡ 0 → (r : Bool) → r ≡ eqb (length s) (pointPlace s (getD s 5 0)) → r ≡ pointsPlaced s
+  unfolding pointsPlaced
+  placed-none h r e = rw (eq-eqb (layoutOf s .point) 0 (ap (λ (x : Layout). x .point) (sym ew) ∙ h)) e
 
-  module _ (h : v ≡ 1 → ⊥) where
-    not-first : getD s 4 0 ≡ 1 → ⊥
-    not-first e = h (ev ∙ e)
+  module _ (h : w .point ≡ 0 → ⊥) (b at : ℕ) (eb : b ≡ fieldAt s 5) (ea : at ≡ pointPlace s 0) where
+    some : eqb (layoutOf s .point) 0 ≡ false
+    some = ne-eqb (layoutOf s .point) 0 (λ e. h (ap (λ (x : Layout). x .point) ew ∙ e))
 
-    starts : pointPlace s 0 ≡ at
-    starts = omega (arith, point-place s not-first 0, out-place s (wordAt s 16), head-second s (getD s 4 0) refl not-first)
+    pub placed-elsewhere : (b ≡ at → ⊥) → false ≡ pointsPlaced s
+    unfolding pointsPlaced
+    placed-elsewhere d = rw (some, ← eb, ← ea, ne-eqb b at d)
 
-    ends : (n : ℕ) → pointPlace s n ≡ at + 2 * n
-    ends n = omega (arith, point-place s not-first n, out-place s (wordAt s 16), head-second s (getD s 4 0) refl not-first)
+    pub placed-some : b ≡ at → (r : Bool) → r ≡ eqb (length s) (pointPlace s (getD s 5 0)) → r ≡ pointsPlaced s
+    unfolding pointsPlaced
+    placed-some q r e = rw (some, ← eb, ← ea, eq-eqb b at q) e
 
-    module _ (b : ℕ) (eb : b ≡ wordAt s 18) where
-      pub placed-elsewhere : (b ≡ at → ⊥) → false ≡ pointsPlaced s
-      unfolding pointsPlaced layoutFor
-      placed-elsewhere d = rw (← ev, ne-eqb v 1 h, starts, ← eb, ne-eqb b at d)
+pub ruleset laying = (needs, not-true, not-false, layout-zero, layout-gates-offset, layout-gates, layout-further, outs-displaced, outs-many, outs-further)
 
-      pub placed-second : b ≡ at → (r : Bool) → r ≡ eqb (length s) (at + 2 * getD s 5 0) → r ≡ pointsPlaced s
-      unfolding pointsPlaced layoutFor
-      placed-second e r q = q ∙ rw (← ev, ne-eqb v 1 h, starts, ← eb, eq-eqb b at e, ends (getD s 5 0))
-
-pub ruleset laying = (needs, not-true, not-false, layout-zero, layout-gates-offset, layout-gates, layout-further, outs-start, outs-displaced, outs-many, outs-further, outs-end-place)
-
-pub placed-end : (s : List ℕ) (at n : ℕ) → n ≡ getD s 5 0 → eqb (length s) (at + 2 * n) ≡ eqb (length s) (at + 2 * getD s 5 0)
-placed-end s at n e = rw e
-
-pub ruleset placing = (needs, placed-end, placed-first, placed-elsewhere, placed-second)
+pub ruleset placing = (needs, placed-end, placed-none, placed-elsewhere, placed-some)
 
 -- ---- refusals 1 to 4
 module _ (s : List ℕ) (t : Bool) (et : t ≡ (leb 18 (length s) && sameBytes (take 4 s) magic)) where
@@ -358,7 +339,7 @@ module _ (s : List ℕ) (t : Bool) (et : t ≡ (leb 18 (length s) && sameBytes (
   unfolding planChecks firstOf andThen need
   contents-magic h = rw (← et, h)
 
-  module _ (ht : t ≡ true) (w : ℕ) (ew : w ≡ getD s 4 0) (v : Bool) (ev : v ≡ between 1 2 w) where
+  module _ (ht : t ≡ true) (w : ℕ) (ew : w ≡ getD s 4 0) (v : Bool) (ev : v ≡ between 1 3 w) where
     pub contents-version : v ≡ false → Refused refusal.Version ≡ firstOf (take 4 (planChecks s))
     unfolding planChecks firstOf andThen need
     contents-version h = rw (← et, ht, ← ew, ← ev, h)
@@ -385,12 +366,12 @@ module _ (s : List ℕ) (t : Bool) (et : t ≡ layoutOk s) where
   unfolding planChecks firstOf andThen need
   body-layout h = rw (← et, h)
 
-  module _ (ht : t ≡ true) (f : Found) (ef : f ≡ firstFailing (gateKept s) (wordAt s 12)) where
+  module _ (ht : t ≡ true) (f : Found) (ef : f ≡ firstFailing (gateKept s) (fieldAt s 2)) where
     pub body-gate : (k : ℕ) → f ≡ At k → Refused (refusal.GateRule k) ≡ firstOf (drop 5 (planChecks s))
     unfolding planChecks firstOf andThen need unlessFound
     body-gate k h = rw (← et, ht, ← ef, h)
 
-    module _ (hf : f ≡ Nothing) (o : Found) (eo : o ≡ firstFailing (outKept s) (wordAt s 16)) where
+    module _ (hf : f ≡ Nothing) (o : Found) (eo : o ≡ firstFailing (outKept s) (fieldAt s 4)) where
       pub body-out : (k : ℕ) → o ≡ At k → Refused (refusal.OutputRule k) ≡ firstOf (drop 5 (planChecks s))
       unfolding planChecks firstOf andThen need unlessFound
       body-out k h = rw (← et, ht, ← ef, hf, ← eo, h)
@@ -413,11 +394,6 @@ module _ (s : List ℕ) (c : Checked) (ec : c ≡ majorityCheck s) where
 pub ruleset last = (needs, last-majority, last-points)
 
 -- ---- the whole reading
--- bytes make a two-byte number
-pub word-small : (s : List ℕ) (at : ℕ) → Fits w8 (getD s at 0) → Fits w8 (getD s (at + 1) 0) → wordAt s at < 65536
-unfolding wordAt
-word-small s at l h = omega arith
-
 pub reading-passed : (c : Checked) (h : Header) → c ≡ Passed → reading.Passed h ≡ readingOf c h
 unfolding readingOf
 reading-passed c h e = rw e
@@ -466,7 +442,7 @@ above-is n p f h = pick (modulusOk n p) h
     pick false e = let z : _≡_ {A = ℕ} 0 1 = cc in absurd (omega arith)
 
 -- refusal 5, and what follows it
-module _ (s : List ℕ) (p : ℕ) (ep : p ≡ wordAt s 8) (n : ℕ) (en : n ≡ getD s 5 0) (m : Made) (em : m ≡ fieldAbove n p) where
+module _ (s : List ℕ) (p : ℕ) (ep : p ≡ fieldAt s 0) (n : ℕ) (en : n ≡ getD s 5 0) (m : Made) (em : m ≡ fieldAbove n p) where
   pub reading-no-field : m ≡ made.Refused → reading.Refused refusal.Modulus ≡ readingOf (firstOf (drop 4 (planChecks s))) (headerOf s)
   unfolding planChecks firstOf andThen need readingOf
   reading-no-field h = rw (← ep, ← en, above-not n p (sym em ∙ h))
@@ -476,7 +452,7 @@ module _ (s : List ℕ) (p : ℕ) (ep : p ≡ wordAt s 8) (n : ℕ) (en : n ≡ 
     unfolding planChecks firstOf andThen need
     prime-passes = rw (← ep, ← en, above-is n p f (sym em ∙ hf) .0)
 
-    module _ (t g o : ℕ) (et : t ≡ getD s 6 0) (eg : g ≡ wordAt s 12) (eo : o ≡ wordAt s 16) where
+    module _ (t g o : ℕ) (et : t ≡ getD s 6 0) (eg : g ≡ fieldAt s 2) (eo : o ≡ fieldAt s 4) where
       its-header : record { n = n; t = t; field = f; gates = g; outs = o } ≡ headerOf s
       unfolding headerOf
       its-header = rw (above-is n p f (sym em ∙ hf) .1, ep, en, et, eg, eo)
@@ -500,12 +476,12 @@ module _ (s : List ℕ) (c : Checked) (ec : c ≡ firstOf (take 4 (planChecks s)
   read-further h r e = e ∙ rw (parts, andThen-passed (firstOf (take 4 (planChecks s))) (firstOf (drop 4 (planChecks s))) (sym ec ∙ h))
 
 -- ---- what a reading says of the check
-of-passed : (c : Checked) (h k : Header) → readingOf c h ≡ reading.Passed k → (c ≡ Passed) × (k ≡ h)
+pub of-passed : (c : Checked) (h k : Header) → readingOf c h ≡ reading.Passed k → (c ≡ Passed) × (k ≡ h)
 unfolding readingOf
 of-passed Passed h k e = (refl, (cc))
 of-passed (Refused r) h k e = let z : _≡_ {A = ℕ} 0 1 = cc in absurd (omega arith)
 
-of-refused : (c : Checked) (h : Header) (r : Refusal) → readingOf c h ≡ reading.Refused r → c ≡ Refused r
+pub of-refused : (c : Checked) (h : Header) (r : Refusal) → readingOf c h ≡ reading.Refused r → c ≡ Refused r
 unfolding readingOf
 of-refused Passed h r e = let z : _≡_ {A = ℕ} 0 1 = cc in absurd (omega arith)
 of-refused (Refused q) h r e = cc

@@ -4,8 +4,9 @@
 use Prim.Native.Nat.{ℕ, _/_, _%_}
 use mathlib.Core.Path.{_≡_, refl}
 use mathlib.Core.List.{List, [], _∷_, _++_, map, flatMap}
+use lib.ListN.{take}
 use Rattle.numbers.specs.Tables.{tab, firstFrom, firstFailing, countWhere}
-use Rattle.numbers.specs.Bytes.{wordAt}
+use Rattle.numbers.specs.Bytes.{numberAt, wordAt}
 use Rattle.field.specs.Prime.{divisorFrom, divisorOf, isPrime}
 use Rattle.plan.specs.declared.Checked.{Checked}
 use Rattle.plan.specs.declared.Checked.the-variants.{Passed, Refused}
@@ -13,7 +14,7 @@ use Rattle.plan.specs.declared.Refusal.the-variants as refusal
 use Rattle.plan.specs.Refusals.{firstOf, andThen, need, unlessFound}
 use Rattle.plan.specs.declared.Step.the-variants.{DealInputs, DealProduct, SendOuts}
 use Rattle.plan.specs.Plans.{partyCount, parties, dealerCount, kindOf, isKind, kindCount, multiplying, operandsOf, isInputOf, wiresFrom, inputWires, outWiresOf, outWires, inputOwnersAt, inputOwners, firstDealings, multiplyDealings, dealingsAt, coinOwnersAt, coinOwners, multiplySteps, stepsAt, stepsFrom, steps, stepAt, lastCall, inputCount, coinCount, ownOutCount, received, sentBy, mailCount, writtenCount, perMultiply, sentCount}
-use Rattle.plan.specs.File.{magic, sameBytes, between, layoutFor, gatePlace, outPlace, pointPlace, gateOf, gateAt, outAt, pointAt, gateOk, outOk, majorityOk, gateKept, outKept, majorityKept, foundNone, pointApart, pointKept, pointsPlaced, layoutOk, majorityCheck, pointsCheck, planChecks, planCheck, planOf}
+use Rattle.plan.specs.File.{magic, sameBytes, between, layoutFor, fieldAt, gateStart, gatePlace, outPlace, pointPlace, gateOf, gateFrom, gateAt, outAt, pointAt, gateOk, outOk, majorityOk, gateKept, outKept, majorityKept, foundNone, pointApart, pointKept, pointsPlaced, layoutOk, majorityCheck, pointsCheck, planChecks, planCheck, planOf}
 
 -- the contents of a plan of four gates and one out, with its version, n, t, byte 7 and p
 contents : ℕ → ℕ → ℕ → ℕ → ℕ → List ℕ
@@ -117,21 +118,56 @@ pointed =
     ∷ row (contents 2 3 1 0 9) (Refused refusal.Modulus)
     ∷ []
 
-pub plans-worked : map (λ r. planCheck (r .bytes)) (worked ++ (faults ++ pointed)) ≡ map (λ r. r .answer) (worked ++ (faults ++ pointed))
-unfolding contents input1 input2 multiply add out body plan k single row worked faults kept pointed planCheck firstOf andThen planChecks need unlessFound firstFailing firstFrom magic sameBytes between gateOf gateAt outAt gateOk outOk isKind kindOf multiplying majorityOk gateKept outKept majorityKept foundNone pointApart pointKept pointsPlaced layoutOk majorityCheck pointsCheck layoutFor gatePlace outPlace pointPlace pointAt wordAt isPrime divisorOf divisorFrom
+-- K of version 3: four bytes a number; its version, n, t, the four bytes of p, where the outs stand and what follows the contents
+wide : ℕ → ℕ → ℕ → List ℕ → ℕ → List ℕ → List ℕ
+wide version n t p place rest =
+    80 ∷ 79 ∷ 79 ∷ 76 ∷ version ∷ n ∷ t ∷ 0
+    ∷ (p ++ (32 ∷ 0 ∷ 0 ∷ 0 ∷ 4 ∷ 0 ∷ 0 ∷ 0 ∷ place ∷ 0 ∷ 0 ∷ 0 ∷ 1 ∷ 0 ∷ 0 ∷ 0 ∷ 75 ∷ 0 ∷ 0 ∷ 0 ∷ rest))
+
+wideBody : List ℕ
+wideBody =
+    1 ∷ 0 ∷ 1 ∷ 0 ∷ 0 ∷ 0 ∷ 0 ∷ 0 ∷ 0 ∷ 0
+    ∷ 1 ∷ 0 ∷ 2 ∷ 0 ∷ 0 ∷ 0 ∷ 0 ∷ 0 ∷ 0 ∷ 0
+    ∷ 5 ∷ 0 ∷ 0 ∷ 0 ∷ 0 ∷ 0 ∷ 1 ∷ 0 ∷ 0 ∷ 0
+    ∷ 2 ∷ 0 ∷ 2 ∷ 0 ∷ 0 ∷ 0 ∷ 0 ∷ 0 ∷ 0 ∷ 0
+    ∷ out
+
+point4 : ℕ → ℕ → List ℕ
+point4 low high = low ∷ 0 ∷ high ∷ 0 ∷ []
+
+-- 101 and 65,537 as primes of four bytes, a point above 65,535, and the file that ends in its contents: 6 after 3, 4 and 5
+pub third : List Row
+third =
+    row (wide 3 3 1 (point4 101 0) 72 (wideBody ++ (point4 7 0 ++ (point4 40 0 ++ point4 3 0)))) Passed
+    ∷ row (wide 3 3 1 (point4 1 1) 72 (wideBody ++ (point4 7 0 ++ (point4 0 1 ++ point4 3 0)))) Passed
+    ∷ row (wide 3 3 1 (point4 1 1) 72 (wideBody ++ (point4 7 0 ++ (point4 1 1 ++ point4 3 0)))) (Refused refusal.Points)
+    ∷ row (wide 3 3 1 (point4 2 1) 72 (wideBody ++ (point4 7 0 ++ (point4 40 0 ++ point4 3 0)))) (Refused refusal.Modulus)
+    ∷ row (wide 3 3 1 (point4 101 0) 73 (wideBody ++ (point4 7 0 ++ (point4 40 0 ++ point4 3 0)))) (Refused refusal.Layout)
+    ∷ row (wide 3 3 1 (point4 101 0) 72 (wideBody ++ (point4 7 0 ++ point4 40 0))) (Refused refusal.Layout)
+    ∷ row (wide 4 3 1 (point4 101 0) 72 (wideBody ++ (point4 7 0 ++ (point4 40 0 ++ point4 3 0)))) (Refused refusal.Version)
+    ∷ row (wide 2 3 1 (point4 101 0) 72 (wideBody ++ (point4 7 0 ++ (point4 40 0 ++ point4 3 0)))) (Refused refusal.Layout)
+    ∷ row (contents 3 16 1 0 11) (Refused refusal.Parties)
+    ∷ row (contents 3 3 3 0 11) (Refused refusal.Threshold)
+    ∷ row (take 18 (wide 3 3 1 (point4 9 0) 72 [])) (Refused refusal.Modulus)
+    ∷ row (take 18 (wide 3 3 1 (point4 11 0) 72 [])) (Refused refusal.Layout)
+    ∷ row (take 31 (wide 3 3 1 (point4 11 0) 72 [])) (Refused refusal.Layout)
+    ∷ []
+
+pub plans-worked : map (λ r. planCheck (r .bytes)) (worked ++ (faults ++ (pointed ++ third))) ≡ map (λ r. r .answer) (worked ++ (faults ++ (pointed ++ third)))
+unfolding contents input1 input2 multiply add out body plan k single row worked faults kept pointed wide wideBody point4 third planCheck firstOf andThen planChecks need unlessFound firstFailing firstFrom magic sameBytes between gateOf gateFrom gateAt outAt gateOk outOk isKind kindOf multiplying majorityOk gateKept outKept majorityKept foundNone pointApart pointKept pointsPlaced layoutOk majorityCheck pointsCheck layoutFor fieldAt gateStart gatePlace outPlace pointPlace pointAt numberAt wordAt isPrime divisorOf divisorFrom
 plans-worked = refl
 
 -- K's steps
 pub steps-worked : steps (planOf k) ≡ DealInputs ∷ DealProduct 2 0 1 ∷ SendOuts ∷ []
-unfolding contents input1 input2 multiply add out body plan k planOf tab layoutFor gatePlace outPlace pointPlace gateOf gateAt outAt pointAt wordAt multiplySteps stepsAt stepsFrom steps
+unfolding contents input1 input2 multiply add out body plan k planOf tab layoutFor fieldAt gateStart gatePlace outPlace pointPlace gateOf gateFrom gateAt outAt pointAt numberAt wordAt multiplySteps stepsAt stepsFrom steps
 steps-worked = refl
 
 -- K's inputs, coins and elements sent, and the owners of its coins
 pub counts-worked : inputCount (planOf k) ∷ coinCount (planOf k) ∷ sentCount (planOf k) ∷ coinOwners (planOf k) ≡ 2 ∷ 5 ∷ 18 ∷ 1 ∷ 2 ∷ 1 ∷ 2 ∷ 3 ∷ []
-unfolding contents input1 input2 multiply add out body plan k planOf tab countWhere partyCount parties layoutFor gatePlace outPlace pointPlace gateOf gateAt outAt pointAt wordAt dealerCount kindOf isKind kindCount inputOwnersAt inputOwners firstDealings multiplyDealings dealingsAt coinOwnersAt coinOwners flatMap inputCount coinCount perMultiply sentCount
+unfolding contents input1 input2 multiply add out body plan k planOf tab countWhere partyCount parties layoutFor fieldAt gateStart gatePlace outPlace pointPlace gateOf gateFrom gateAt outAt pointAt numberAt wordAt dealerCount kindOf isKind kindCount inputOwnersAt inputOwners firstDealings multiplyDealings dealingsAt coinOwnersAt coinOwners flatMap inputCount coinCount perMultiply sentCount
 counts-worked = refl
 
 -- what party 3 of K takes and writes in its calls 0 to 3
 pub rounds-worked : (map (mailCount (planOf k) 3) (0 ∷ 1 ∷ 2 ∷ 3 ∷ []) ≡ 0 ∷ 2 ∷ 3 ∷ 3 ∷ []) × (map (writtenCount (planOf k) 3) (0 ∷ 1 ∷ 2 ∷ 3 ∷ []) ≡ 0 ∷ 3 ∷ 1 ∷ 1 ∷ [])
-unfolding contents input1 input2 multiply add out body plan k planOf tab countWhere partyCount layoutFor gatePlace outPlace pointPlace gateOf gateAt outAt pointAt wordAt dealerCount kindOf isKind kindCount operandsOf isInputOf wiresFrom inputWires outWiresOf outWires ownOutCount multiplySteps stepsAt stepsFrom steps stepAt lastCall received sentBy mailCount writtenCount
+unfolding contents input1 input2 multiply add out body plan k planOf tab countWhere partyCount layoutFor fieldAt gateStart gatePlace outPlace pointPlace gateOf gateFrom gateAt outAt pointAt numberAt wordAt dealerCount kindOf isKind kindCount operandsOf isInputOf wiresFrom inputWires outWiresOf outWires ownOutCount multiplySteps stepsAt stepsFrom steps stepAt lastCall received sentBy mailCount writtenCount
 rounds-worked = (refl, refl)

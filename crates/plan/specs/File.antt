@@ -1,11 +1,11 @@
--- The plan file of versions 1 and 2 (document 01; R-3 and R-4 of document 02): its checks, 1 to 8, 25 and 26, and the plan that it stands for.
+-- The plan file of versions 1 to 3 (document 01; R-3, R-4 and R-6 of document 02): its checks, 1 to 8, 25 and 26, and the plan that it stands for.
 use Prim.Native.Nat.{ℕ, suc, _+_, _*_}
 use mathlib.Core.Bool.{Bool, true, false, cond, not, _&&_}
 use mathlib.Core.List.{List, [], _∷_}
 use lib.Dec.{eqb, leb, ltb}
 use lib.ListN.{length, take, getD}
 use Rattle.numbers.specs.Tables.{tab, firstFailing}
-use Rattle.numbers.specs.Bytes.{wordAt}
+use Rattle.numbers.specs.Bytes.{numberAt, wordAt}
 use Rattle.numbers.specs.declared.Found.{Found}
 use Rattle.numbers.specs.declared.Found.the-variants.{At, Nothing}
 use Rattle.field.specs.declared.Made.{Made}
@@ -15,6 +15,7 @@ use Rattle.plan.specs.declared.Gate.{Gate}
 use Rattle.plan.specs.declared.Gate.the-variants.{Input, Add, Scale, Offset, Multiply, Random, Spend}
 use Rattle.plan.specs.declared.Rule.the-variants.{Reduction}
 use Rattle.plan.specs.declared.Output.{Output}
+use Rattle.plan.specs.declared.Layout.{Layout}
 use Rattle.plan.specs.declared.Header.{Header}
 use Rattle.plan.specs.declared.Reading.{Reading}
 use Rattle.plan.specs.declared.Reading.the-variants as reading
@@ -37,7 +38,7 @@ sameBytes (x ∷ xs) (y ∷ ys) = eqb x y && sameBytes xs ys
 unfoldable pub between : ℕ → ℕ → ℕ → Bool
 between a b x = leb a x && leb x b
 
--- the contents' fields
+-- the contents' bytes
 abbrev pub versionAt : List ℕ → ℕ
 versionAt bs = getD bs 4 0
 
@@ -47,33 +48,37 @@ nAt bs = getD bs 5 0
 abbrev pub tAt : List ℕ → ℕ
 tAt bs = getD bs 6 0
 
-abbrev pub pAt : List ℕ → ℕ
-pAt bs = wordAt bs 8
-
-abbrev pub gateCountAt : List ℕ → ℕ
-gateCountAt bs = wordAt bs 12
-
-abbrev pub outCountAt : List ℕ → ℕ
-outCountAt bs = wordAt bs 16
-
 -- ---- the layout of a version: the contents, then gates, outs of three bytes, and points
-pub record Layout : Type 0 where
-  -- bytes of the contents, of a gate and of a point; no bytes of a point: the file has none, and the points are 1 to n
-  pub head : ℕ
-  pub gate : ℕ
-  pub point : ℕ
-
+-- bytes of the contents, of a field in them and of a gate's a and b, and of a point; no bytes of a point: the file has none, and the points are 1 to n
 unfoldable pub layoutFor : ℕ → Layout
 layoutFor version =
-    cond (eqb version 1) (record { head = 18; gate = 6; point = 0 })
-    (record { head = 20; gate = 6; point = 2 })
+    cond (eqb version 1) (record { head = 18; field = 2; point = 0 })
+    (cond (eqb version 2) (record { head = 20; field = 2; point = 2 })
+    (record { head = 32; field = 4; point = 4 }))
+
+-- where gate g stands
+unfoldable pub gateStart : Layout → ℕ → ℕ
+gateStart l g = l .head + (2 + 2 * l .field) * g
 
 abbrev pub layoutOf : List ℕ → Layout
 layoutOf bs = layoutFor (versionAt bs)
 
+-- field k of the contents, from byte 8 on: p, the gates' offset, their count, the outs' offset, their count, the points' offset
+unfoldable pub fieldAt : List ℕ → ℕ → ℕ
+fieldAt bs k = numberAt (layoutOf bs .field) bs (8 + layoutOf bs .field * k)
+
+abbrev pub pAt : List ℕ → ℕ
+pAt bs = fieldAt bs 0
+
+abbrev pub gateCountAt : List ℕ → ℕ
+gateCountAt bs = fieldAt bs 2
+
+abbrev pub outCountAt : List ℕ → ℕ
+outCountAt bs = fieldAt bs 4
+
 -- where gate g stands, out o and point i
 unfoldable pub gatePlace : List ℕ → ℕ → ℕ
-gatePlace bs g = layoutOf bs .head + layoutOf bs .gate * g
+gatePlace bs g = gateStart (layoutOf bs) g
 
 unfoldable pub outPlace : List ℕ → ℕ → ℕ
 outPlace bs o = gatePlace bs (gateCountAt bs) + 3 * o
@@ -92,16 +97,19 @@ gateOf kind second a b =
     (cond (eqb kind 5) (Multiply a b) (Input 0))))))
     (Input 0)
 
+-- the gate at a place, its a and b of w bytes
+unfoldable pub gateFrom : ℕ → List ℕ → ℕ → Gate
+gateFrom w bs at = gateOf (getD bs at 0) (getD bs (at + 1) 0) (numberAt w bs (at + 2)) (numberAt w bs (at + 2 + w))
+
 unfoldable pub gateAt : List ℕ → ℕ → Gate
-gateAt bs g =
-    gateOf (getD bs (gatePlace bs g) 0) (getD bs (gatePlace bs g + 1) 0) (wordAt bs (gatePlace bs g + 2)) (wordAt bs (gatePlace bs g + 4))
+gateAt bs g = gateFrom (layoutOf bs .field) bs (gatePlace bs g)
 
 unfoldable pub outAt : List ℕ → ℕ → Output
 outAt bs o = record { party = getD bs (outPlace bs o) 0; wire = wordAt bs (outPlace bs o + 1) }
 
 -- the point of party i + 1
 unfoldable pub pointAt : List ℕ → ℕ → ℕ
-pointAt bs i = cond (eqb (layoutOf bs .point) 0) (suc i) (wordAt bs (pointPlace bs i))
+pointAt bs i = cond (eqb (layoutOf bs .point) 0) (suc i) (numberAt (layoutOf bs .point) bs (pointPlace bs i))
 
 -- gate g keeps its kind's rule
 unfoldable pub gateOk : ℕ → ℕ → ℕ → Gate → Bool
@@ -144,14 +152,14 @@ pointKept bs i = ltb 0 (pointAt bs i) && (ltb (pointAt bs i) (pAt bs) && foundNo
 
 -- the points' offset, where the file has points, and its end
 unfoldable pub pointsPlaced : List ℕ → Bool
-pointsPlaced bs = cond (eqb (layoutOf bs .point) 0) true (eqb (wordAt bs 18) (pointPlace bs 0)) && eqb (length bs) (pointPlace bs (nAt bs))
+pointsPlaced bs = cond (eqb (layoutOf bs .point) 0) true (eqb (fieldAt bs 5) (pointPlace bs 0)) && eqb (length bs) (pointPlace bs (nAt bs))
 
 unfoldable pub layoutOk : List ℕ → Bool
 layoutOk bs =
     eqb (getD bs 7 0) 0
-    && (eqb (wordAt bs 10) (gatePlace bs 0)
+    && (eqb (fieldAt bs 1) (gatePlace bs 0)
     && (between 1 1024 (gateCountAt bs)
-    && (eqb (wordAt bs 14) (outPlace bs 0)
+    && (eqb (fieldAt bs 3) (outPlace bs 0)
     && (between 1 64 (outCountAt bs)
     && pointsPlaced bs))))
 
@@ -162,11 +170,11 @@ partiesOk n = between 1 15 n
 abbrev pub thresholdOk : ℕ → ℕ → Bool
 thresholdOk n t = ltb t n
 
--- p has two bytes
+-- above every prime of a plan
 abbrev pub modulusLimit : ℕ
-modulusLimit = 65536
+modulusLimit = 2147483648
 
--- a prime above n; on bytes p is below the limit
+-- a prime above n and below the limit
 abbrev pub modulusOk : ℕ → ℕ → Bool
 modulusOk n p = (ltb p modulusLimit && isPrime p) && ltb n p
 
@@ -182,7 +190,7 @@ pointsCheck bs = unlessFound (λ i. refusal.Points) (firstFailing (pointKept bs)
 unfoldable pub planChecks : List ℕ → List Checked
 planChecks bs =
     need refusal.Magic (leb 18 (length bs) && sameBytes (take 4 bs) magic)
-    ∷ need refusal.Version (between 1 2 (versionAt bs))
+    ∷ need refusal.Version (between 1 3 (versionAt bs))
     ∷ need refusal.Parties (partiesOk (nAt bs))
     ∷ need refusal.Threshold (thresholdOk (nAt bs) (tAt bs))
     ∷ need refusal.Modulus (modulusOk (nAt bs) (pAt bs))

@@ -1,12 +1,11 @@
 -- A plan that passes, with its contents: what the functions over a plan ask of their caller.
-use Prim.Native.Nat.{ℕ, _+_, _*_, _≤_, _<_}
+use Prim.Native.Nat.{ℕ, _≤_, _<_}
 use mathlib.Core.Path.{_≡_}
 use mathlib.Core.List.{List}
-use lib.ListN.{length}
 use Rattle.plan.specs.declared.Header.{Header}
 use Rattle.plan.specs.declared.Reading.{Reading}
 use Rattle.plan.specs.declared.Checked.the-variants.{Passed}
-use Rattle.plan.specs.File.{pAt, layoutOf, planCheck, headerOf, readPlan}
+use Rattle.plan.specs.File.{planCheck, headerOf, readPlan}
 
 -- the bounds follow from the first two fields; they stand here for arithmetic to find
 pub record Planned (bs : List ℕ) (h : Header) : Type 0 where
@@ -16,14 +15,12 @@ pub record Planned (bs : List ℕ) (h : Header) : Type 0 where
   pub n-high : h .n ≤ 15
   pub threshold : h .t < h .n
   pub p-low : h .n < h .field .p
-  pub p-high : h .field .p < 65536
+  pub p-high : h .field .p < 2147483648
   pub gates-low : 1 ≤ h .gates
   pub gates-high : h .gates ≤ 1024
   pub outs-low : 1 ≤ h .outs
   pub outs-high : h .outs ≤ 64
-  pub long : layoutOf bs .head + 6 * h .gates + 3 * h .outs ≤ length bs
 
--- what reading the bytes of a plan answers; its prime has two bytes
+-- what reading the bytes of a plan answers
 pub record ReadAs (bs : List ℕ) (r : Reading) : Type 0 where
   pub eq : r ≡ readPlan bs
-  pub small : pAt bs < 65536

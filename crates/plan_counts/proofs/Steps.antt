@@ -20,9 +20,8 @@ use Rattle.plan.specs.declared.Step.{Step}
 use Rattle.plan.specs.declared.Step.the-variants.{DealInputs, DealProduct, SendOuts}
 use Rattle.plan.specs.declared.Header.{Header}
 use Rattle.plan.specs.Plans.{Plan, kindOf, multiplySteps, stepsAt, stepsFrom, steps, stepAt}
-use Rattle.plan.specs.File.{between, layoutOf, gatePlace, gateOf, gateAt, gateOk, planOf}
+use Rattle.plan.specs.File.{between, gatePlace, gateOf, gateFrom, gateAt, gateOk, planOf}
 use Rattle.plan.specs.Planned.{Planned}
-use Rattle.plan.proofs.Gates.{gate-place}
 use Rattle.plan.proofs.Planned.{plan-gates, plan-gate}
 use Rattle.plan.proofs.Valid.{plain, gate-kept}
 use Rattle.plan_counts.specs.Counts.{IsGate, Stepped}
@@ -85,11 +84,10 @@ rounds-of n p g kind second a b ok = pick (eqb second 0) (eqb kind 1) (eqb b 0) 
     pick true false z false false false true e1 e2 e3 e4 e5 h = ap (leb 5) (eqb-true kind 5 e5)
     pick true false z false false false false e1 e2 e3 e4 e5 h = absurd (no true refl (sym h))
 
-pub rounds-byte : (bs : List ℕ) (h : Header) (g d k : ℕ) → Planned bs h → g < h .gates → d ≡ layoutOf bs .head → k ≡ getD bs (d + 6 * g) 0 → leb 5 k ≡ leb 5 (kindOf (gateAt bs g))
-unfolding gateAt
-rounds-byte bs h g d k p l ed e =
-    let place : d + 6 * g ≡ gatePlace bs g = omega (arith, gate-place bs g) in
-    ap (leb 5) (e ∙ ap (λ (at : ℕ). getD bs at 0) place) ∙ rounds-of (h .n) (h .field .p) g (getD bs (gatePlace bs g) 0) _ _ _ (gate-kept bs h p g (gateAt bs g) l refl)
+pub rounds-byte : (bs : List ℕ) (h : Header) (g k : ℕ) → Planned bs h → g < h .gates → k ≡ getD bs (gatePlace bs g) 0 → leb 5 k ≡ leb 5 (kindOf (gateAt bs g))
+unfolding gateAt gateFrom
+rounds-byte bs h g k p l e =
+    ap (leb 5) e ∙ rounds-of (h .n) (h .field .p) g (getD bs (gatePlace bs g) 0) _ _ _ (gate-kept bs h p g (gateAt bs g) l refl)
 
 -- ---- the pass: at gate g, the step is the one after so many that are left
 pub record Stepping (bs : List ℕ) (gates k left g : ℕ) : Type 0 where

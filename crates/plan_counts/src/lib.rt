@@ -110,7 +110,7 @@ pub fn tally_of(plan: &[u8], h: Header, i: usize) -> Tally
     let mut coins: usize = 0;
     let mut g: usize = 0;
     while g < gates {
-        let gate = plan::gate_in(plan, g);
+        let gate = plan::gate_at(plan, g);
         let k = kind(gate);
         inputs += numbers::one_if(k == 1);
         own += numbers::one_if(is_input_of(i, gate));
@@ -196,7 +196,7 @@ pub fn coins_below(plan: &[u8], h: Header, i: usize, g: usize) -> usize
     let mut k: usize = 0;
     let mut below: usize = 0;
     while below < g {
-        k += own_coins_at(plan, h, i, plan::gate_in(plan, below));
+        k += own_coins_at(plan, h, i, plan::gate_at(plan, below));
         below += 1;
     }
     k
@@ -225,7 +225,7 @@ fn rounds_at(plan: &[u8], h: Header, g: usize) -> bool
     requires { ⌜ g < h .gates ⌝ }
     ensures { λ r. ⌜ r ≡ leb 5 (kindOf (gateAt (now (plan .entry)) g)) ⌝ }
 {
-    5 <= plan::byte(plan, plan::head(plan) + 6 * g)
+    5 <= plan::kind_at(plan, g)
 }
 
 // The step that the calls of number k send.
@@ -250,7 +250,7 @@ fn step_after(plan: &[u8], h: Header, k: usize) -> Step
     while g < gates {
         if rounds_at(plan, h, g) {
             if left == 0 {
-                return step_of(g, plan::gate_in(plan, g));
+                return step_of(g, plan::gate_at(plan, g));
             }
             left -= 1;
         }

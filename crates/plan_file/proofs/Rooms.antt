@@ -10,7 +10,7 @@ use lib.Seq.{take-at, length-take-le}
 use Rattle.plan.specs.declared.Checked.{Checked}
 use Rattle.plan.specs.File.{majorityCheck}
 
-module _ (size : ℕ) (room : List ℕ) (long : length room ≡ 6354) (few : size ≤ 6354) where
+module _ (size : ℕ) (room : List ℕ) (long : length room ≡ 10524) (few : size ≤ 10524) where
   pub room-in : size ≤ length room
   room-in = omega arith
 

@@ -1,7 +1,8 @@
--- A plan that is written: n, t, p and the two bodies that were made, gates and outs, as the bytes of a version 1 file (document 01, "The plan file").
-use Prim.Native.Nat.{ℕ, suc, _+_, _*_, _/_, _%_}
-use mathlib.Core.Bool.{Bool, _&&_}
+-- A plan as the bytes of a file (document 01, "The plan file"; R-4 and R-6 of document 02), and a plan that is made: n, t, p and two bodies, gates and outs.
+use Prim.Native.Nat.{ℕ, zero, suc, _+_, _*_, _/_, _%_}
+use mathlib.Core.Bool.{Bool, cond, _&&_}
 use mathlib.Core.List.{List, [], _∷_, _++_, flatMap}
+use lib.Dec.{eqb, ltb}
 use lib.ListN.{length, getD}
 use lib.Seq.{sets}
 use Rattle.numbers.specs.Tables.{tab}
@@ -12,8 +13,8 @@ use Rattle.plan.specs.declared.Output.{Output}
 use Rattle.plan.specs.declared.Checked.{Checked}
 use Rattle.plan.specs.declared.Refusal.the-variants as refusal
 use Rattle.plan.specs.Refusals.{need}
-use Rattle.plan.specs.Plans.{Plan, kindOf, operandsOf}
-use Rattle.plan.specs.File.{magic, between, outOk, partiesOk, thresholdOk, modulusOk}
+use Rattle.plan.specs.Plans.{Plan, partyCount, kindOf, operandsOf}
+use Rattle.plan.specs.File.{magic, layoutFor, gateStart, between, outOk, partiesOk, thresholdOk, modulusOk}
 
 -- gates and outs, before they are a file
 pub record Bodies : Type 0 where
@@ -24,43 +25,70 @@ pub record Bodies : Type 0 where
 unfoldable pub planWith : ℕ → ℕ → ℕ → Bodies → Plan
 planWith n t p b = record { t = t; p = p; points = tab suc n; gates = b .gates; outs = b .outs; rule = Reduction }
 
--- ---- the bytes
+-- ---- the bytes, in version v
 -- a list after others are written over it from a place on; past the end nothing changes
 unfoldable pub written : List ℕ → ℕ → List ℕ → List ℕ
 written s at bs = sets s at bs
 
--- two-byte numbers
-unfoldable pub words : List ℕ → List ℕ
-words xs = flatMap (bytesFrom 2) xs
+-- numbers of w bytes each
+unfoldable pub bytesEach : ℕ → List ℕ → List ℕ
+bytesEach w xs = flatMap (bytesFrom w) xs
 
-unfoldable pub gateBytes : Gate → List ℕ
-gateBytes g = kindOf g ∷ 0 ∷ words (operandsOf g)
+-- a number in w bytes, the last as large as it comes
+unfoldable pub openFrom : ℕ → ℕ → List ℕ
+openFrom zero x = []
+openFrom (suc zero) x = x ∷ []
+openFrom (suc (suc w)) x = x % 256 ∷ openFrom (suc w) (x / 256)
+
+unfoldable pub gateBytes : ℕ → Gate → List ℕ
+gateBytes v g = kindOf g ∷ 0 ∷ bytesEach (layoutFor v .field) (operandsOf g)
 
 unfoldable pub outBytes : Output → List ℕ
-outBytes o = o .party ∷ words (o .wire ∷ [])
+outBytes o = o .party ∷ bytesEach 2 (o .wire ∷ [])
 
-unfoldable pub gatesBytes : List Gate → List ℕ
-gatesBytes gates = flatMap gateBytes gates
+unfoldable pub gatesBytes : ℕ → List Gate → List ℕ
+gatesBytes v gates = flatMap (gateBytes v) gates
+
+-- none in a version without points
+unfoldable pub pointsBytes : ℕ → List ℕ → List ℕ
+pointsBytes v points = bytesEach (layoutFor v .point) points
+
+-- where gate g stands, and out o after so many gates
+unfoldable pub placeIn : ℕ → ℕ → ℕ
+placeIn v g = gateStart (layoutFor v) g
+
+unfoldable pub outStart : ℕ → ℕ → ℕ → ℕ
+outStart v gates o = placeIn v gates + 3 * o
 
 -- bytes 0 to 7
-unfoldable pub started : ℕ → ℕ → List ℕ
-started n t = magic ++ (1 ∷ n ∷ t ∷ 0 ∷ [])
+unfoldable pub started : ℕ → ℕ → ℕ → List ℕ
+started v n t = magic ++ (v ∷ n ∷ t ∷ 0 ∷ [])
 
--- from byte 10 on: the gates' offset and count, the outs' offset and count
-unfoldable pub counted : ℕ → ℕ → List ℕ
-counted gates outs = words (18 ∷ gates ∷ (18 + 6 * gates) ∷ outs ∷ [])
+-- after p: the gates' offset and count, the outs' offset and count, and the points' offset in a version that has points
+unfoldable pub counted : ℕ → ℕ → ℕ → List ℕ
+counted v gates outs =
+    bytesEach (layoutFor v .field)
+    (placeIn v 0 ∷ gates ∷ outStart v gates 0 ∷ outs ∷ cond (eqb (layoutFor v .point) 0) [] (outStart v gates outs ∷ []))
 
 -- the contents. n, t and p are given as numbers and stand as they are: one that has no room in its bytes is refused by 3, 4 or 5
-unfoldable pub contents : ℕ → ℕ → ℕ → ℕ → ℕ → List ℕ
-contents n t p gates outs =
-    started n t ++ (p % 256 ∷ p / 256 ∷ counted gates outs)
+unfoldable pub contents : ℕ → ℕ → ℕ → ℕ → ℕ → ℕ → List ℕ
+contents v n t p gates outs = started v n t ++ (openFrom (layoutFor v .field) p ++ counted v gates outs)
 
-unfoldable pub fileSize : ℕ → ℕ → ℕ
-fileSize gates outs = 18 + 6 * gates + 3 * outs
+unfoldable pub fileSize : ℕ → ℕ → ℕ → ℕ → ℕ
+fileSize v n gates outs = outStart v gates outs + layoutFor v .point * n
+
+-- a plan's file in version v
+unfoldable pub fileAs : ℕ → Plan → List ℕ
+fileAs v plan =
+    contents v (partyCount plan) (plan .t) (plan .p) (length (plan .gates)) (length (plan .outs))
+    ++ (gatesBytes v (plan .gates) ++ (flatMap outBytes (plan .outs) ++ pointsBytes v (plan .points)))
+
+-- ---- the file of a plan that is made: of version 1 where p has two bytes, else of version 3
+unfoldable pub versionFor : ℕ → ℕ
+versionFor p = cond (ltb p 65536) 1 3
 
 unfoldable pub planFile : ℕ → ℕ → ℕ → Bodies → List ℕ
-planFile n t p b =
-    contents n t p (length (b .gates)) (length (b .outs)) ++ (flatMap gateBytes (b .gates) ++ flatMap outBytes (b .outs))
+planFile n t p b = fileAs (versionFor p) (planWith n t p b)
 
 -- ---- refusals 3 to 6, by what decides them in such a file
 unfoldable pub contentChecks : ℕ → ℕ → ℕ → ℕ → ℕ → List Checked
@@ -74,3 +102,8 @@ contentChecks n t p gates outs =
 -- 8: an out's party, and a wire that there is
 unfoldable pub outMade : ℕ → Bodies → ℕ → Bool
 outMade n b o = outOk n (length (b .gates)) (getD (b .outs) o (record { party = 0; wire = 0 }))
+
+-- ---- for the code alone: no other definition and no demand cites this
+-- above every number of a field in version v
+unfoldable pub fieldLimit : ℕ → ℕ
+fieldLimit v = cond (eqb (layoutFor v .field) 2) 65536 4294967296

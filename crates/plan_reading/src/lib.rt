@@ -11,14 +11,13 @@ use plan::Reading;
 use plan::Refusal;
 ghost use mathlib.Core.Path.{_≡_};
 ghost use mathlib.Core.Bool.{_&&_, not};
-ghost use Prim.Native.Nat.{_<_, _+_, _*_, _≤_};
+ghost use Prim.Native.Nat.{_<_};
 ghost use lib.Dec.{eqb, ltb, leb};
 ghost use lib.ListN.{length, take, drop};
-ghost use Rattle.numbers.specs.Bytes.{wordAt};
 ghost use Rattle.numbers.specs.Tables.{firstFailing};
 ghost use Rattle.plan.specs.Refusals.{firstOf};
 ghost use Rattle.plan.specs.Plans.{multiplying};
-ghost use Rattle.plan.specs.File.{magic, sameBytes, between, partiesOk, thresholdOk, fieldAbove, gateOk, outOk, nAt, pAt, gateCountAt, outCountAt, layoutOf, outPlace, gateKept, outKept, majorityKept, pointApart, pointKept, pointsPlaced, layoutOk, majorityCheck, pointsCheck, planChecks, planCheck, headerOf, readingOf, outcomeOf};
+ghost use Rattle.plan.specs.File.{magic, sameBytes, between, partiesOk, thresholdOk, fieldAbove, gateOk, outOk, nAt, pAt, gateCountAt, outCountAt, fieldAt, outPlace, pointPlace, gateKept, outKept, majorityKept, pointApart, pointKept, pointsPlaced, layoutOk, majorityCheck, pointsCheck, planChecks, planCheck, headerOf, readingOf, outcomeOf};
 ghost use Rattle.plan.specs.Planned.{ReadAs};
 
 pub fn is_between(low: usize, high: usize, x: usize) -> bool
@@ -64,17 +63,16 @@ fn out_ok(n: usize, gates: usize, out: Output) -> bool
     out.wire < gates
 }
 
-// The first gate that breaks its kind's rule, in a file that has them all.
+// The first gate that breaks its kind's rule.
 fn first_bad_gate(plan: &[u8]) -> Found
-    requires { ⌜ layoutOf (now plan) .head + 6 * gateCountAt (now plan) ≤ length (now plan) ⌝ }
     ensures { λ r. ⌜ r ≡ firstFailing (gateKept (now (plan .entry))) (gateCountAt (now (plan .entry))) ⌝ }
 {
     let n = plan::byte(plan, 5);
-    let p = plan::word(plan, 8) as u64;
-    let gates = plan::word(plan, 12);
+    let p = plan::field(plan, 0) as u64;
+    let gates = plan::field(plan, 2);
     let mut g: usize = 0;
     while g < gates {
-        if !gate_ok(n, p, g, plan::gate_in(plan, g)) {
+        if !gate_ok(n, p, g, plan::gate_at(plan, g)) {
             return Found::At(g);
         }
         g += 1;
@@ -87,8 +85,8 @@ fn first_bad_out(plan: &[u8]) -> Found
     ensures { λ r. ⌜ r ≡ firstFailing (outKept (now (plan .entry))) (outCountAt (now (plan .entry))) ⌝ }
 {
     let n = plan::byte(plan, 5);
-    let gates = plan::word(plan, 12);
-    let outs = plan::word(plan, 16);
+    let gates = plan::field(plan, 2);
+    let outs = plan::field(plan, 4);
     let mut o: usize = 0;
     while o < outs {
         if !out_ok(n, gates, plan::out_at(plan, o)) {
@@ -124,7 +122,7 @@ fn first_lacking(plan: &[u8]) -> Found
     if 2 * t < n {
         return Found::Nothing;
     }
-    let gates = plan::word(plan, 12);
+    let gates = plan::field(plan, 2);
     let mut g: usize = 0;
     while g < gates {
         if multiplies(plan::gate_at(plan, g)) {
@@ -192,8 +190,9 @@ fn first_bad_point(plan: &[u8]) -> Found
     ensures { λ r. ⌜ r ≡ firstFailing (pointKept (now (plan .entry))) (nAt (now (plan .entry))) ⌝ }
 {
     let n = plan::byte(plan, 5);
-    let p = plan::word(plan, 8);
-    if plan::byte(plan, 4) == 1 {
+    let p = plan::field(plan, 0);
+    let l = plan::layout_of(plan);
+    if l.point == 0 {
         if n < p {
             return Found::Nothing;
         }
@@ -239,14 +238,14 @@ pub fn threshold_ok(n: usize, t: usize) -> bool
     t < n
 }
 
-// The field of a prime of two bytes above n.
+// The field of a prime above n and below 2^31.
 pub fn field_above(n: usize, p: u32) -> Made
     ensures { λ r. ⌜ r ≡ fieldAbove n p ⌝ }
 {
     if p as usize <= n {
         return Made::Refused;
     }
-    if 65536 <= p {
+    if 2147483648 <= p {
         return Made::Refused;
     }
     Field::new(p)
@@ -255,7 +254,7 @@ pub fn field_above(n: usize, p: u32) -> Made
 // ---- reading a plan
 
 // Whether a plan has room for its contents and begins with the letters POOL.
-fn begins(plan: &[u8]) -> bool
+pub fn begins(plan: &[u8]) -> bool
     ensures { λ r. ⌜ r ≡ (leb 18 (length (now (plan .entry))) && sameBytes (take 4 (now (plan .entry))) magic) ⌝ }
 {
     if plan.len() < 18 {
@@ -280,54 +279,47 @@ fn layout_ok(plan: &[u8]) -> bool
     if plan::byte(plan, 7) != 0 {
         return false;
     }
-    let head = plan::head(plan);
-    if plan::word(plan, 10) != head {
+    if plan::field(plan, 1) != plan::gate_place(plan, 0) {
         return false;
     }
-    let gates = plan::word(plan, 12);
-    if !is_between(1, 1024, gates) {
+    if !is_between(1, 1024, plan::field(plan, 2)) {
         return false;
     }
-    outs_placed(plan, head + 6 * gates)
+    outs_placed(plan)
 }
 
-// Whether the outs follow the gates, which end here, and the points the outs.
-fn outs_placed(plan: &[u8], at: usize) -> bool
-    requires { ⌜ at ≡ outPlace (now plan) 0 ⌝ }
-    requires { ⌜ at < 1000000 ⌝ }
-    ensures { λ r. ⌜ r ≡ (eqb (wordAt (now (plan .entry)) 14) (outPlace (now (plan .entry)) 0) && (between 1 64 (outCountAt (now (plan .entry))) && pointsPlaced (now (plan .entry)))) ⌝ }
+// Whether the outs follow the gates, and the points the outs.
+fn outs_placed(plan: &[u8]) -> bool
+    ensures { λ r. ⌜ r ≡ (eqb (fieldAt (now (plan .entry)) 3) (outPlace (now (plan .entry)) 0) && (between 1 64 (outCountAt (now (plan .entry))) && pointsPlaced (now (plan .entry)))) ⌝ }
 {
-    if plan::word(plan, 14) != at {
+    if plan::field(plan, 3) != plan::out_place(plan, 0) {
         return false;
     }
-    let outs = plan::word(plan, 16);
-    if !is_between(1, 64, outs) {
+    if !is_between(1, 64, plan::field(plan, 4)) {
         return false;
     }
-    points_placed(plan, at + 3 * outs)
+    points_placed(plan)
 }
 
-// Whether the points, in a version that has them, follow the outs, which end here, and nothing else does.
-fn points_placed(plan: &[u8], at: usize) -> bool
-    requires { ⌜ at ≡ outPlace (now plan) (outCountAt (now plan)) ⌝ }
-    requires { ⌜ at < 2000000 ⌝ }
+// Whether the points, in a version that has them, follow the outs, and nothing else does.
+fn points_placed(plan: &[u8]) -> bool
     ensures { λ r. ⌜ r ≡ pointsPlaced (now (plan .entry)) ⌝ }
 {
-    if plan::byte(plan, 4) == 1 {
-        return plan.len() == at;
+    let l = plan::layout_of(plan);
+    if l.point == 0 {
+        return ends(plan);
     }
-    if plan::word(plan, 18) != at {
+    if plan::field(plan, 5) != plan::point_place(plan, 0) {
         return false;
     }
-    ends_at(plan, at)
+    ends(plan)
 }
 
-// Whether n points from here on end the file.
-fn ends_at(plan: &[u8], at: usize) -> bool
-    requires { ⌜ at < 2000000 ⌝ }
-    ensures { λ r. ⌜ r ≡ eqb (length (now (plan .entry))) (at + 2 * nAt (now (plan .entry))) ⌝ }
+// Whether the file ends where n points end.
+fn ends(plan: &[u8]) -> bool
+    ensures { λ r. ⌜ r ≡ eqb (length (now (plan .entry))) (pointPlace (now (plan .entry)) (nAt (now (plan .entry)))) ⌝ }
 {
-    plan.len() == at + 2 * plan::byte(plan, 5)
+    plan.len() == plan::point_place(plan, plan::byte(plan, 5))
 }
 
 // Refusals 1 to 4.
@@ -337,7 +329,7 @@ fn check_contents(plan: &[u8]) -> Checked
     if !begins(plan) {
         return Checked::Refused(Refusal::Magic);
     }
-    if !is_between(1, 2, plan::byte(plan, 4)) {
+    if !is_between(1, 3, plan::byte(plan, 4)) {
         return Checked::Refused(Refusal::Version);
     }
     let n = plan::byte(plan, 5);
@@ -390,7 +382,7 @@ fn read_on(plan: &[u8]) -> Reading
     ensures { λ r. ⌜ r ≡ readingOf (firstOf (drop 4 (planChecks (now (plan .entry))))) (headerOf (now (plan .entry))) ⌝ }
 {
     let n = plan::byte(plan, 5);
-    let p = plan::word(plan, 8);
+    let p = plan::field(plan, 0);
     let Made::Field(field) = field_above(n, p as u32) else {
         return Reading::Refused(Refusal::Modulus);
     };
@@ -398,8 +390,8 @@ fn read_on(plan: &[u8]) -> Reading
         n,
         t: plan::byte(plan, 6),
         field,
-        gates: plan::word(plan, 12),
-        outs: plan::word(plan, 16),
+        gates: plan::field(plan, 2),
+        outs: plan::field(plan, 4),
     };
     reading_of(check_body(plan), h)
 }

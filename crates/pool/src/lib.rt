@@ -14,10 +14,11 @@ ghost use Rattle.seat_messages.specs.Calls.{callAnswer, stateAfter, outAfter};
 ghost use Rattle.run_bench.specs.BenchCalls.{benchAnswer, benchedOf, viewAfter};
 ghost use Rattle.match_agreement.specs.MatchCalls.{matchAnswer, matchedAfter};
 ghost use Rattle.import_call.specs.Importing.{importAnswer, importAfter};
+ghost use Rattle.convert_call.specs.Converting.{convertAnswer, convertAfter};
 ghost use Rattle.sheet_call.specs.Compiling.{sheetAnswer, sheetAfter};
 ghost use Rattle.charge_laws.specs.Charges.{billOf};
 ghost use Rattle.charge_call.specs.ChargeCalls.{chargeAnswer, chargedOf, chargeAfter};
-ghost use Rattle.pool_answers.specs.Sizes.{seatSize, callCount, runSize, importSize, sheetSize, answerOf, billedOf};
+ghost use Rattle.pool_answers.specs.Sizes.{seatSize, callCount, runSize, importSize, sheetSize, convertSize, answerOf, billedOf};
 
 // Checks a plan: refusals 1 to 8.
 #[no_mangle]
@@ -131,7 +132,8 @@ pub extern "C" fn pool_import_size(text: &[u8], n: u32, t: u32, p: u32) -> u64
     let Measured::Counts(gates, outs) = m else {
         return plan_codes::code(import_call::refusal(m));
     };
-    pool_answers::value(plan_file::file_size(gates, outs))
+    let version = plan_file::version_for(p);
+    pool_answers::value(plan_file::file_size(version, n as usize, gates, outs))
 }
 
 // A circuit in Bristol Fashion imported into a plan: refusals 23, 24, 1 to 8 and 19.
@@ -143,6 +145,27 @@ pub extern "C" fn pool_import(text: &[u8], n: u32, t: u32, p: u32, plan: &mut [u
     plan_codes::code(import_call::import_plan(text, n, t, p, plan))
 }
 
+// The bytes of a plan of version 1 or 2 as one of version 3: refusals 1 to 8, 25 and 26, with 2 for any other version.
+#[no_mangle]
+pub extern "C" fn pool_convert_size(plan: &[u8]) -> u64
+    ensures { λ r. ⌜ r ≡ convertSize (now (plan .entry)) ⌝ }
+{
+    let r = convert_call::read_old(plan);
+    let Reading::Passed(h) = r else {
+        return plan_codes::code(plan_reading::outcome(r));
+    };
+    pool_answers::value(convert_call::converted_size(plan, h))
+}
+
+// A plan of version 1 or 2 converted to version 3: refusals 1 to 8, 25, 26 and 19, with 2 for any other version.
+#[no_mangle]
+pub extern "C" fn pool_convert(plan: &[u8], out: &mut [u8]) -> u64
+    ensures answer { λ r. ⌜ r ≡ codeOf (convertAnswer (now (plan .entry)) (length (now (out .entry)))) ⌝ }
+    ensures out { λ _. ⌜ now (out .exit) ≡ convertAfter (now (plan .entry)) (now (out .entry)) ⌝ }
+{
+    plan_codes::code(convert_call::convert(plan, out))
+}
+
 // The bytes of the plan that a formula sheet makes, whose result goes to `seat`.
 #[no_mangle]
 pub extern "C" fn pool_sheet_size(text: &[u8], n: u32, t: u32, p: u32, seat: u32) -> u64
@@ -152,7 +175,8 @@ pub extern "C" fn pool_sheet_size(text: &[u8], n: u32, t: u32, p: u32, seat: u32
     let Sheet::Counts(_, gates) = m else {
         return plan_codes::code(sheet_call::refusal(m));
     };
-    pool_answers::value(plan_file::file_size(gates, 1))
+    let version = plan_file::version_for(p);
+    pool_answers::value(plan_file::file_size(version, n as usize, gates, 1))
 }
 
 // A formula sheet compiled to a plan, whose result goes to `seat`: refusals 27, 24, 3 to 8 and 19.

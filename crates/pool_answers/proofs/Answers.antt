@@ -20,19 +20,22 @@ use Rattle.plan.specs.declared.Checked.{Checked}
 use Rattle.plan.specs.declared.Checked.the-variants.{Passed, Refused}
 use Rattle.plan.specs.Refusals.{codeOf, andThen, firstOf, need}
 use Rattle.plan.specs.Plans.{Plan, partyCount, lastCall, inputCount, coinCount, ownInputCount, ownCoinCount, mailCount, writtenCount}
-use Rattle.plan.specs.File.{between, planChecks, planCheck, planOf, outcomeOf}
+use Rattle.plan.specs.File.{between, planChecks, planCheck, planOf, headerOf, outcomeOf}
 use Rattle.plan_coalition.specs.Coalitions.{members, setFits, setOk}
 use Rattle.plan.specs.Planned.{Planned, ReadAs}
 use Rattle.plan.proofs.Refusals.{firstOf-append, andThen-passed, andThen-refused}
 use Rattle.plan.proofs.Planned.{planned-read, refused-read, plan-n, plan-gates}
-use Rattle.plan.proofs.Ways.{read-outcome}
+use Rattle.plan.proofs.Ways.{of-refused, read-outcome}
 use Rattle.plan_coalition.proofs.Coalitions.{set-ok}
-use Rattle.plan_file.specs.Bodies.{fileSize}
+use Rattle.plan_file.specs.Bodies.{fileSize, versionFor}
 use Rattle.import_call.specs.declared.Measured.{Measured}
 use Rattle.import_call.specs.declared.Measured.the-variants as measured
 use Rattle.import_call.specs.Importing.{importFile, textChecks, refusalOf}
 use Rattle.import_call.specs.Measures.{MeasuredAs}
-use Rattle.import_call.proofs.Calls.{told, refused, passed, gates-small, outs-small, file-size}
+use Rattle.import_call.proofs.Calls.{told, refused, passed, counts-parties, gates-small, outs-small, file-size}
+use Rattle.convert_call.specs.Converting.{oldChecks, convertedFile}
+use Rattle.convert_call.specs.Reads.{OldReading}
+use Rattle.convert_call.proofs.Reading.{old-planned, old-passes}
 use Rattle.sheet_call.specs.declared.Sheet.{Sheet}
 use Rattle.sheet_call.specs.declared.Sheet.the-variants as compiled
 use Rattle.sheet_call.specs.Compiling as sheet
@@ -42,7 +45,7 @@ use Rattle.charge_call.specs.declared.Charged.the-variants as charged
 use Rattle.run_bench.specs.declared.Benched.{Benched}
 use Rattle.run_bench.specs.declared.Benched.the-variants as benched
 use Rattle.run_protocol.specs.Rounds.{viewCount}
-use Rattle.pool_answers.specs.Sizes.{valueOf, mailOfCall, writtenByCall, seatCount, seatSize, callCount, runCount, runSize, importSize, sheetSize, answerOf, billedOf}
+use Rattle.pool_answers.specs.Sizes.{valueOf, mailOfCall, writtenByCall, seatCount, seatSize, callCount, runCount, runSize, importSize, sheetSize, convertSize, answerOf, billedOf}
 
 pub code-answered : (a c : Checked) (r : ℕ) → c ≡ a → r ≡ codeOf c → r ≡ codeOf a
 code-answered a c r e f = f ∙ ap codeOf e
@@ -202,11 +205,11 @@ module _ (text : List ℕ) (n t p : ℕ) (m : Measured) (h : MeasuredAs text n t
       let first : firstOf (textChecks n t p text) ≡ Refused r = sym (told text n t p m h) ∙ refused text n t p m h r q in
       f ∙ ap codeOf (e ∙ told text n t p m h) ∙ sym (value-refused (firstOf (textChecks n t p text)) r (length (importFile n t p text)) first)
 
-  pub import-sized : (gates outs size : ℕ) → m ≡ measured.Counts gates outs → size ≡ fileSize gates outs → k ≡ 256 * size → k ≡ importSize n t p text
+  pub import-sized : (gates outs v size : ℕ) → m ≡ measured.Counts gates outs → v ≡ versionFor p → size ≡ fileSize v n gates outs → k ≡ 256 * size → k ≡ importSize n t p text
   unfolding importSize
-  import-sized gates outs size q e f =
+  import-sized gates outs v size q ev e f =
       let first : firstOf (textChecks n t p text) ≡ Passed = sym (told text n t p m h) ∙ passed text n t p m h gates outs q in
-      f ∙ ap (λ (s : ℕ). 256 * s) (e ∙ sym (file-size text n t p m h gates outs q)) ∙ sym (value-passed (firstOf (textChecks n t p text)) (length (importFile n t p text)) first)
+      f ∙ ap (λ (s : ℕ). 256 * s) (e ∙ ap (λ (x : ℕ). fileSize x n gates outs) ev ∙ sym (file-size text n t p m h gates outs q)) ∙ sym (value-passed (firstOf (textChecks n t p text)) (length (importFile n t p text)) first)
 
 -- ---- the size of a sheet's plan
 module _ (text : List ℕ) (n t p i : ℕ) (m : Sheet) (h : Measuring text n t p i m) (k : ℕ) where
@@ -221,12 +224,34 @@ module _ (text : List ℕ) (n t p i : ℕ) (m : Sheet) (h : Measuring text n t p
     unfolding Sized
     sheet-few = (rw q at (h .sized)) .few
 
-    pub sheet-sized : (size : ℕ) → size ≡ fileSize gates 1 → k ≡ 256 * size → k ≡ sheetSize n t p i text
+    pub sheet-parties : n ≤ 15
+    unfolding Sized
+    sheet-parties = (rw q at (h .sized)) .parties
+
+    pub sheet-sized : (v size : ℕ) → v ≡ versionFor p → size ≡ fileSize v n gates 1 → k ≡ 256 * size → k ≡ sheetSize n t p i text
     unfolding sheetSize sheet.refusalOf Sized
-    sheet-sized size e f =
+    sheet-sized v size ev e f =
         let first : firstOf (sheet.textChecks n t p i text) ≡ Passed = sym (h .told) ∙ rw q in
-        let long : length (sheet.sheetFile n t p i text) ≡ fileSize gates 1 = (rw q at (h .sized)) .size in
-        f ∙ ap (λ (s : ℕ). 256 * s) (e ∙ sym long) ∙ sym (value-passed (firstOf (sheet.textChecks n t p i text)) (length (sheet.sheetFile n t p i text)) first)
+        let long : length (sheet.sheetFile n t p i text) ≡ fileSize (versionFor p) n gates 1 = (rw q at (h .sized)) .size in
+        f ∙ ap (λ (s : ℕ). 256 * s) (e ∙ ap (λ (x : ℕ). fileSize x n gates 1) ev ∙ sym long) ∙ sym (value-passed (firstOf (sheet.textChecks n t p i text)) (length (sheet.sheetFile n t p i text)) first)
+
+-- ---- the size of a converted plan
+module _ (bs : List ℕ) (r : Reading) (a : OldReading bs r) (k : ℕ) where
+  pub convert-size-refused : (q : Refusal) (c : Checked) → r ≡ reading.Refused q → c ≡ outcomeOf r → k ≡ codeOf c → k ≡ convertSize bs
+  unfolding convertSize outcomeOf
+  convert-size-refused q c e f g =
+      let first : firstOf (oldChecks bs) ≡ Refused q = of-refused (firstOf (oldChecks bs)) (headerOf bs) q (sym (a .eq) ∙ e) in
+      let told : c ≡ firstOf (oldChecks bs) = f ∙ rw e (sym first) in
+      g ∙ ap codeOf told ∙ sym (value-refused (firstOf (oldChecks bs)) q (length (convertedFile bs)) first)
+
+  module _ (h : Header) (e : r ≡ reading.Passed h) where
+    pub convert-read : Planned bs h
+    convert-read = old-planned bs r h a e
+
+    pub convert-sized : (size : ℕ) → size ≡ length (convertedFile bs) → k ≡ 256 * size → k ≡ convertSize bs
+    unfolding convertSize
+    convert-sized size es f =
+        f ∙ ap (λ (s : ℕ). 256 * s) es ∙ sym (value-passed (firstOf (oldChecks bs)) (length (convertedFile bs)) (old-passes bs r h a e))
 
 -- ---- the bench
 pub sent-value : (b : Benched) (n k : ℕ) → b ≡ benched.Sent n → k ≡ 256 * (n % 4294967296) → k ≡ answerOf b
@@ -259,6 +284,6 @@ pub count-other : (plan : Plan) (i call what : ℕ) → (what ≡ 0 → ⊥) →
 unfolding seatCount
 count-other plan i call what a b c d e = rw (ne-eqb what 0 a, ne-eqb what 1 b, ne-eqb what 2 c, ne-eqb what 3 d, ne-eqb what 4 e) refl
 
-pub ruleset answering = (needs, code-answered, seat-plan-refused, calls-refused, read-planned, seat-below, seat-above, seat-sized, calls-counted, run-plan-refused, set-refused, run-sized, import-size-refused, import-sized, gates-small, outs-small, sheet-size-refused, sheet-few, sheet-sized, sent-value, sent-refused, small-rest, bench-answered, billed-value, billed-refused, charge-answered)
+pub ruleset answering = (needs, code-answered, seat-plan-refused, calls-refused, read-planned, seat-below, seat-above, seat-sized, calls-counted, run-plan-refused, set-refused, run-sized, import-size-refused, import-sized, counts-parties, gates-small, outs-small, sheet-size-refused, sheet-few, sheet-parties, sheet-sized, convert-size-refused, convert-read, convert-sized, sent-value, sent-refused, small-rest, bench-answered, billed-value, billed-refused, charge-answered)
 
 pub ruleset counting = (needs, mail-there, mail-none, written-there, written-none, state-count, count-0, count-1, count-3, count-4, count-other, all-0, all-1, all-2, all-other)

@@ -14,6 +14,7 @@ use Rattle.plan.specs.File.{between, planChecks, planCheck, planOf}
 use Rattle.plan_coalition.specs.Coalitions.{members, setOk}
 use Rattle.run_protocol.specs.Rounds.{viewCount}
 use Rattle.import_call.specs.Importing.{importFile, textChecks}
+use Rattle.convert_call.specs.Converting.{oldChecks, convertedFile}
 use Rattle.sheet_call.specs.Compiling as sheet
 use Rattle.charge_call.specs.declared.Charged.{Charged}
 use Rattle.charge_call.specs.declared.Charged.the-variants as charged
@@ -68,6 +69,10 @@ importSize n t p text = valueOf (firstOf (textChecks n t p text)) (length (impor
 -- and of the plan that a sheet makes, whose result goes to party i
 unfoldable pub sheetSize : ℕ → ℕ → ℕ → ℕ → List ℕ → ℕ
 sheetSize n t p i text = valueOf (firstOf (sheet.textChecks n t p i text)) (length (sheet.sheetFile n t p i text))
+
+-- and of a plan of version 1 or 2 as one of version 3
+unfoldable pub convertSize : List ℕ → ℕ
+convertSize bs = valueOf (firstOf (oldChecks bs)) (length (convertedFile bs))
 
 -- what the bench answers: the elements sent as its value, in bits 8 to 39 (they are at most 231,360), or the refusal's code
 unfoldable pub answerOf : Benched → ℕ

@@ -367,6 +367,7 @@ pub fn input_row(
 // The coins that gate g takes from the list of all.
 pub fn coins_taken(plan: &[u8], h: Header, g: usize) -> usize
     requires { ⌜ Planned (now plan) h ⌝ }
+    requires { ⌜ g < h .gates ⌝ }
     ensures { λ r. ⌜ record { eq : r ≡ length (coinOwnersAt (planOf (now (plan .entry))) (gateAt (now (plan .entry)) g)); most : r ≤ 406 } ⌝ }
 {
     let t = h.t;

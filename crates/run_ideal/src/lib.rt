@@ -14,6 +14,7 @@ ghost use Rattle.run_protocol.specs.Ideal.{inputsTaken, gateValue, values};
 // The inputs that gate g takes from the list of all.
 pub fn inputs_taken(plan: &[u8], h: Header, g: usize) -> usize
     requires { ⌜ Planned (now plan) h ⌝ }
+    requires { ⌜ g < h .gates ⌝ }
     ensures { λ r. ⌜ record { eq : r ≡ inputsTaken (planOf (now (plan .entry))) (gateAt (now (plan .entry)) g); le : r ≤ 15 } ⌝ }
 {
     match plan::gate_at(plan, g) {

@@ -21,7 +21,7 @@ use lib.Seq.{take-at, drop-cons, drop-drop, getD-take, getD-drop, length-take-le
 use mir.Syntax.{w64}
 use mir.Val.{Fits}
 use Rattle.numbers.specs.Tables.{tab}
-use Rattle.numbers.specs.Bytes.{wordAt, width, numbers, allBelow}
+use Rattle.numbers.specs.Bytes.{numberAt, width, numbers, allBelow}
 use Rattle.numbers.proofs.Tables.{length-tab, getD-tab, is-tab, row-room}
 use Rattle.numbers.proofs.Below.{allBelow-at, allBelow-take, allBelow-drop}
 use Rattle.numbers.proofs.Bytes.{numbers-length}
@@ -38,9 +38,9 @@ use Rattle.plan.specs.declared.Gate.the-variants.{Input, Add, Scale, Offset, Mu
 use Rattle.plan.specs.declared.Output.{Output}
 use Rattle.plan.specs.declared.Header.{Header}
 use Rattle.plan.specs.Plans.{Plan, partyCount, dealerCount, parties, pointOf, kindOf, isKind, multiplying, operandsOf, isInputOf, wiresFrom, inputWires, outWiresOf, outWires, inputOwnersAt, inputOwners, dealingsAt, coinOwnersAt, coinOwners, coinCount, ownOf, ownInputs, ownCoins}
-use Rattle.plan.specs.File.{between, layoutOf, gatePlace, gateOf, gateAt, outAt, outOk, planOf}
+use Rattle.plan.specs.File.{between, layoutOf, gatePlace, gateOf, gateFrom, gateAt, outAt, outOk, planOf}
+use Rattle.plan.proofs.Gates.{place-next, place-small}
 use Rattle.plan.specs.Planned.{Planned}
-use Rattle.plan.proofs.Gates.{gate-place}
 use Rattle.plan.proofs.Planned.{plan-t, plan-n, plan-dealers, plan-gates, plan-outs, plan-gate, plan-out}
 use Rattle.plan.proofs.Valid.{valid, plain, planned-ready, gate-majority}
 use Rattle.seat_messages.proofs.PointLaws.{plan-points-long, plan-points-below, points-at}
@@ -94,20 +94,16 @@ not-input j a b x l true false false true five = refl
 not-input j a b x l true false false false true = refl
 not-input j a b x l true false false false false = sym (ne-eqb j 0 (λ e. omega arith))
 
-pub other-kind : (bs : List ℕ) (g d j : ℕ) → d ≡ layoutOf bs .head → (getD bs (d + 6 * g) 0 ≡ 1 → ⊥) → 1 ≤ j → false ≡ isInputOf j (gateAt bs g)
-unfolding gateAt gateOf
-other-kind bs g d j ed n l =
-    let place : gatePlace bs g ≡ d + 6 * g = omega (arith, gate-place bs g) in
-    let kind : ℕ = getD bs (gatePlace bs g) 0 in
-    let a : ℕ = wordAt bs (gatePlace bs g + 2) in
-    let b : ℕ = wordAt bs (gatePlace bs g + 4) in
-    rw (ne-eqb (getD bs (gatePlace bs g) 0) 1 (λ e. n (ap (λ (at : ℕ). getD bs at 0) (sym place) ∙ e)))
-    (not-input j a b (cond (eqb b 0) (Input a) (Input 0)) l (eqb (getD bs (gatePlace bs g + 1) 0) 0) (eqb kind 2) (eqb kind 3) (eqb kind 4) (eqb kind 5))
+pub other-kind : (bs : List ℕ) (g place k j : ℕ) → place ≡ gatePlace bs g → k ≡ getD bs place 0 → (k ≡ 1 → ⊥) → 1 ≤ j → false ≡ isInputOf j (gateAt bs g)
+unfolding gateAt gateFrom gateOf
+other-kind bs g place k j ep e n l =
+    let w : ℕ = layoutOf bs .field in
+    let a : ℕ = numberAt w bs (place + 2) in
+    let b : ℕ = numberAt w bs (place + 2 + w) in
+    rw (← ep, ← e, ne-eqb k 1 n)
+    (not-input j a b (cond (eqb b 0) (Input a) (Input 0)) l (eqb (getD bs (place + 1) 0) 0) (eqb k 2) (eqb k 3) (eqb k 4) (eqb k 5))
 
-pub first-byte-within : (bs : List ℕ) (h : Header) (g d : ℕ) → Planned bs h → g < h .gates → d ≡ layoutOf bs .head → d + 6 * g < length bs
-first-byte-within bs h g d pl l e = omega (arith, pl .long)
-
-pub ruleset sorting = (needs, other-kind, first-byte-within, input-at, input-of-as)
+pub ruleset sorting = (needs, other-kind, input-at, input-of-as)
 
 -- ---- the gates of a plan from g on
 module _ {bs : List ℕ} {h : Header} (pl : Planned bs h) where
@@ -207,20 +203,24 @@ sift-step true f w ws = refl
 sift-step false f w ws = refl
 
 -- the invariant at gate g
-pub record Sifting (test : Gate → Bool) (f : ℕ → ℕ) (bs : List ℕ) (at : ℕ) (old new : List ℕ) (next g : ℕ) : Type 0 where
+pub record Sifting (test : Gate → Bool) (f : ℕ → ℕ) (bs : List ℕ) (at : ℕ) (old new : List ℕ) (next place g : ℕ) : Type 0 where
+  pub here : place ≡ gatePlace bs g
+  pub small : place ≤ 10272
   pub left : Left (map f (wiresFrom test 0 (planOf bs .gates))) at old new next (map f (wiresFrom test g (drop g (planOf bs .gates)))) g
   pub within : g ≤ 1024
 
-pub sift-none : (test : Gate → Bool) (f : ℕ → ℕ) (bs : List ℕ) (at : ℕ) (old : List ℕ) → Sifting test f bs at old old at 0
-sift-none test f bs at old = record { left = left-none _ at old _ refl; within = omega arith }
+pub sift-none : (test : Gate → Bool) (f : ℕ → ℕ) (bs : List ℕ) (at : ℕ) (old : List ℕ) (place : ℕ) → place ≡ gatePlace bs 0 → Sifting test f bs at old old at place 0
+sift-none test f bs at old place e = record { here = e; small = omega (arith, place-small bs 0); left = left-none _ at old _ refl; within = omega arith }
 
-module _ (test : Gate → Bool) (f : ℕ → ℕ) (bs : List ℕ) (h : Header) (at : ℕ) (old new : List ℕ) (next g : ℕ) (s : Sifting test f bs at old new next g) (pl : Planned bs h) where
+module _ (test : Gate → Bool) (f : ℕ → ℕ) (bs : List ℕ) (h : Header) (at : ℕ) (old new : List ℕ) (next place g : ℕ) (s : Sifting test f bs at old new next place g) (pl : Planned bs h) where
   pub sift-next :
-      (new′ : List ℕ) (next′ : ℕ) → g < h .gates → Wrote 1 (cond (test (gateAt bs g)) (f g ∷ []) []) next new new′ next′
-      → length new′ ≡ length new → Sifting test f bs at old new′ next′ (g + 1)
+      (new′ : List ℕ) (next′ size : ℕ) → g < h .gates → size ≡ 2 + 2 * layoutOf bs .field → Wrote 1 (cond (test (gateAt bs g)) (f g ∷ []) []) next new new′ next′
+      → length new′ ≡ length new → Sifting test f bs at old new′ next′ (place + size) (g + 1)
   unfolding wiresFrom
-  sift-next new′ next′ l w n =
+  sift-next new′ next′ size l es w n =
       record {
+        here = place-next bs g place size (s .here) es;
+        small = omega (arith, place-next bs g place size (s .here) es, place-small bs (g + 1), pl .gates-high);
         left =
             left-then _ at old new next _ g (s .left) 1 _ _ new′ next′ (g + 1)
             (rw (gates-from pl g (gateAt bs g) l refl, ← add-one g) (sift-step (test (gateAt bs g)) f g (wiresFrom test (g + 1) (drop (g + 1) (planOf bs .gates))))) w n (omega arith);

@@ -16,7 +16,7 @@ ghost use Rattle.field.specs.Mod.{mul};
 ghost use Rattle.field.specs.Field.{Is, isWide, reciprocal, Ready};
 ghost use Rattle.sharing_laws.specs.Interp.{dot};
 ghost use Rattle.plan.specs.Plans.{pointOf, isInputOf, inputWires, outWires, inputOwnersAt, coinOwnersAt, coinCount, ownOf, ownInputs, ownCoins};
-ghost use Rattle.plan.specs.File.{planOf, gateAt};
+ghost use Rattle.plan.specs.File.{planOf, gatePlace, gateAt};
 ghost use Rattle.plan.specs.Planned.{Planned};
 ghost use Rattle.plan_coalition.specs.Coalitions.{inSet, members, setFits};
 ghost use Rattle.run_protocol.specs.Rounds.{viewCount};
@@ -108,15 +108,15 @@ fn share_in(table: &[u64], n: usize, i: usize, w: usize) -> u64
     0
 }
 
-// Whether gate g is an input of party j. The first byte tells apart the gates that are no inputs.
-fn is_input_at(plan: &[u8], h: Header, g: usize, j: usize) -> bool
+// Whether gate g, which stands here, is an input of party j. The first byte tells apart the gates that are no inputs.
+fn is_input_at(plan: &[u8], h: Header, g: usize, place: usize, j: usize) -> bool
     requires { ⌜ Planned (now plan) h ⌝ }
     requires { ⌜ g < h .gates ⌝ }
+    requires { ⌜ place ≡ gatePlace (now plan) g ⌝ }
     requires { ⌜ 1 ≤ j ⌝ }
     ensures { λ r. ⌜ r ≡ isInputOf j (gateAt (now (plan .entry)) g) ⌝ }
 {
-    let at = plan::head(plan) + 6 * g;
-    if plan[at] != 1 {
+    if plan::byte(plan, place) != 1 {
         return false;
     }
     let gate = plan::gate_at(plan, g);
@@ -129,6 +129,7 @@ fn put_share(
     h: Header,
     j: usize,
     g: usize,
+    place: usize,
     table: &[u64],
     i: usize,
     at: usize,
@@ -136,13 +137,14 @@ fn put_share(
 ) -> usize
     requires { ⌜ Planned (now plan) h ⌝ }
     requires { ⌜ g < h .gates ⌝ }
+    requires { ⌜ place ≡ gatePlace (now plan) g ⌝ }
     requires { ⌜ 1 ≤ j ⌝ }
     requires { ⌜ 1 ≤ i ⌝ }
     requires { ⌜ i ≤ 15 ⌝ }
     requires { ⌜ at ≤ 2000000 ⌝ }
     ensures { λ r. ⌜ Wrote 1 (cond (isInputOf j (gateAt (now (plan .entry)) g)) (shareIn (h .n) (now (table .entry)) i g ∷ []) []) at (now (out .entry)) (now (out .exit)) r ⌝ }
 {
-    if !is_input_at(plan, h, g, j) {
+    if !is_input_at(plan, h, g, place, j) {
         return at;
     }
     put(share_in(table, h.n, i, g), at, out)
@@ -165,10 +167,13 @@ fn write_inputs_from(
     requires { ⌜ at ≤ 1500000 ⌝ }
     ensures { λ r. ⌜ Wrote 1024 (map (shareIn (h .n) (now (table .entry)) i) (inputWires (planOf (now (plan .entry))) j)) at (now (out .entry)) (now (out .exit)) r ⌝ }
 {
+    let size = plan::gate_size(plan);
+    let mut place = plan::gate_place(plan, 0);
     let mut next = at;
     let mut g: usize = 0;
     while g < h.gates {
-        next = put_share(plan, h, j, g, table, i, next, out);
+        next = put_share(plan, h, j, g, place, table, i, next, out);
+        place += size;
         g += 1;
     }
     next
@@ -390,6 +395,7 @@ fn put_own(
     out: &mut [u8],
 ) -> usize
     requires { ⌜ Planned (now plan) h ⌝ }
+    requires { ⌜ g < h .gates ⌝ }
     requires { ⌜ 1 ≤ i ⌝ }
     requires { ⌜ from + length (coinOwnersAt (planOf (now plan)) (gateAt (now plan) g)) ≤ length (now coins) / width ⌝ }
     requires { ⌜ at ≤ 1500000 ⌝ }

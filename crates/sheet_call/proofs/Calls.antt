@@ -25,8 +25,9 @@ use Rattle.plan.specs.Refusals.{andThen, firstOf, need, unlessFound}
 use Rattle.plan.specs.File.{between, outOk, partiesOk, thresholdOk, modulusOk, majorityCheck, planCheck}
 use Rattle.plan.proofs.Refusals.{firstOf-append, andThen-assoc, andThen-passed, andThen-refused, passed-both, passed-need}
 use Rattle.plan.proofs.Planned.{between-true, modulus-prime, modulus-small}
-use Rattle.plan_file.specs.Bodies.{Bodies, fileSize, planFile, contentChecks, outMade}
-use Rattle.plan_file.proofs.Files.{Wired, file-long, file-check-outs, file-majority}
+use Rattle.plan_file.specs.Bodies.{Bodies, fileSize, versionFor, planFile, contentChecks, outMade}
+use Rattle.plan_file.proofs.Files.{Wired, file-check-outs, file-majority}
+use Rattle.plan_file.proofs.Files as files
 use Rattle.plan_file.proofs.Rooms.{room-long, room-majority, rooms}
 use Rattle.seat_messages.specs.Calls.{unlessRefused}
 use Rattle.sheet_text.specs.Trees.{namesOf, gateCount}
@@ -171,6 +172,9 @@ module _ (text : List ℕ) (n t p i inputs gates : ℕ) (w : Compilable text n t
   unfolding sheetFile
   majority-passed l = file-majority n t p (sheetBodies n p i text) l
 
+  pub majority-parties : n ≤ 15
+  majority-parties = w .parties
+
   pub majority-gates : gates ≤ 1024
   majority-gates = w .few
 
@@ -188,16 +192,16 @@ module _ (text : List ℕ) (n t p i inputs gates : ℕ) (w : Compilable text n t
             → names ≡ tableOf 1025 (namesOf (sheetTree n p text))
         table k = k .table
 
-  module _ (size : ℕ) (es : size ≡ fileSize gates 1) (room : List ℕ) (long : length room ≡ 6354) (few : size ≤ 6354) where
-    pub majority-room : length (take size room) ≡ fileSize gates 1
-    majority-room = room-long size room long few ∙ es
+  module _ (v size : ℕ) (ev : v ≡ versionFor p) (es : size ≡ fileSize v n gates 1) (room : List ℕ) (long : length room ≡ 10524) (few : size ≤ 10524) where
+    pub majority-room : length (take size room) ≡ fileSize (versionFor p) n gates 1
+    majority-room = room-long size room long few ∙ es ∙ ap (λ (k : ℕ). fileSize k n gates 1) ev
 
     pub majority-is : (ys : List ℕ) (c : Checked) → length ys ≡ length (take size room) → ys ≡ planFile n t p (treeBodies p i (sheetTree n p text))
         → c ≡ majorityCheck (take size (ys ++ drop size room)) → c ≡ majorityCheck (sheetFile n t p i text)
     unfolding sheetFile sheetBodies
     majority-is ys c kept is e = room-majority size room long few ys kept c (planFile n t p (treeBodies p i (sheetTree n p text))) is e
 
-pub ruleset majorities = (needs, fresh, majority-fits, majority-passed, majority-gates, majority-wrong, majority-again, majority-room, majority-is, rooms)
+pub ruleset majorities = (needs, fresh, majority-fits, majority-passed, majority-parties, majority-gates, majority-wrong, majority-again, majority-room, majority-is, rooms)
 
 -- ---- 3 to 6, 8 and 25
 module _ (n t p i inputs gates : ℕ) (text : List ℕ) (w : Counted text n p inputs gates) where
@@ -214,11 +218,11 @@ module _ (n t p i inputs gates : ℕ) (text : List ℕ) (w : Counted text n p in
         gates-are = w .gates-are;
         few = w .few;
         table = table;
-        parties = omega arith;
-        threshold = omega (arith, ltb-true t n (parts .1));
+        parties = parties;
+        threshold = omega (arith, parties, ltb-true t n (parts .1));
         prime = prime-above n p (parts .2);
         small = modulus-small n p (parts .2);
-        result = omega arith;
+        result = omega (arith, parties, seat);
       }
 
   module _ (c d : Checked) (ec : c ≡ firstOf (contentChecks n t p gates 1)) (ed : d ≡ andThen c (need (refusal.OutputRule 0) (between 1 n i))) where
@@ -310,16 +314,16 @@ module _ (n t p i : ℕ) (text : List ℕ) (r : Survey) (names : List ℕ) (h : 
 pub ruleset measuring = (needs, not-true, not-false, measured-passed, measured-refused, refusal-counts, refusal-refused, result-refused, result-no, result-yes, measure-wrong, measure-large, measure-counted, measure-counts)
 
 -- ---- the call
-file-size : (text : List ℕ) (n t p i inputs gates : ℕ) (names : List ℕ) → Compilable text n t p i inputs gates names → length (sheetFile n t p i text) ≡ fileSize gates 1
+file-size : (text : List ℕ) (n t p i inputs gates : ℕ) (names : List ℕ) → Compilable text n t p i inputs gates names → length (sheetFile n t p i text) ≡ fileSize (versionFor p) n gates 1
 unfolding sheetFile sheetBodies treeBodies bodiesWith
-file-size text n t p i inputs gates names h = file-long n t p (bodiesWith i (treeMade p (sheetTree n p text))) ∙ (unfold bodiesWith in rw (← h .gates-are))
+file-size text n t p i inputs gates names h = files.made-long n t p (bodiesWith i (treeMade p (sheetTree n p text))) ∙ (unfold bodiesWith in rw (← h .gates-are))
 
 module _ (text : List ℕ) (n t p i : ℕ) (m : Sheet) (names : List ℕ) (h : MeasuredAs text n t p i m names) where
   pub measured-sized : Measuring text n t p i m
   measured-sized = record { told = h .told; sized = by m (h .ready) }
     where
       by : (x : Sheet) → Ready text n t p i x names → Sized text n t p i x
-      by (measured.Counts inputs gates) k = unfold Sized in unfold Ready in record { few = k .few; size = file-size text n t p i inputs gates names k }
+      by (measured.Counts inputs gates) k = unfold Sized in unfold Ready in record { few = k .few; parties = k .parties; size = file-size text n t p i inputs gates names k }
       by (measured.Refused r) k = unfold Sized in tt
 
   parts : (room : ℕ) → sheetAnswer n t p i text room ≡ andThen (refusalOf m) (need refusal.BufferLength (eqb room (length (sheetFile n t p i text))))
@@ -363,12 +367,15 @@ module _ (text : List ℕ) (n t p i : ℕ) (m : Sheet) (names : List ℕ) (h : M
     unfolding refusalOf
     passed = rw q
 
-    pub counts-room : (out : List ℕ) (size : ℕ) → size ≡ fileSize gates 1 → length out ≡ size → length out ≡ fileSize gates 1
-    counts-room out size s e = e ∙ s
+    pub counts-parties : n ≤ 15
+    counts-parties = counts-text .parties
 
-    module _ (out : List ℕ) (size : ℕ) (es : size ≡ fileSize gates 1) where
+    pub counts-room : (out : List ℕ) (v size : ℕ) → v ≡ versionFor p → size ≡ fileSize v n gates 1 → length out ≡ size → length out ≡ fileSize (versionFor p) n gates 1
+    counts-room out v size ev s e = e ∙ s ∙ ap (λ (k : ℕ). fileSize k n gates 1) ev
+
+    module _ (out : List ℕ) (v size : ℕ) (ev : v ≡ versionFor p) (es : size ≡ fileSize v n gates 1) where
       answer-is : sheetAnswer n t p i text (length out) ≡ need refusal.BufferLength (eqb (length out) size)
-      answer-is = parts (length out) ∙ andThen-passed _ _ passed ∙ ap (λ (k : ℕ). need refusal.BufferLength (eqb (length out) k)) (file-size text n t p i inputs gates names counts-text ∙ sym es)
+      answer-is = parts (length out) ∙ andThen-passed _ _ passed ∙ ap (λ (k : ℕ). need refusal.BufferLength (eqb (length out) k)) (file-size text n t p i inputs gates names counts-text ∙ ap (λ (k : ℕ). fileSize k n gates 1) (sym ev) ∙ sym es)
 
       pub sheet-length : (length out ≡ size → ⊥) → Refused refusal.BufferLength ≡ sheetAnswer n t p i text (length out)
       unfolding need
@@ -387,4 +394,4 @@ module _ (text : List ℕ) (n t p i : ℕ) (m : Sheet) (names : List ℕ) (h : M
         unfolding unlessRefused sheetFile sheetBodies
         sheet-written new e = e ∙ sym (after out Passed (sym sheet-passed))
 
-pub ruleset compiling = (needs, fresh, measured-sized, sheet-refused, sheet-kept, counts-text, gates-small, counts-room, sheet-length, sheet-left, sheet-passed, sheet-written)
+pub ruleset compiling = (needs, fresh, measured-sized, sheet-refused, sheet-kept, counts-text, gates-small, counts-parties, counts-room, sheet-length, sheet-left, sheet-passed, sheet-written)

@@ -5,7 +5,7 @@ use mathlib.Core.Bool.{true}
 use mathlib.Core.List.{List}
 use lib.ListN.{length}
 use Rattle.plan.specs.Refusals.{firstOf}
-use Rattle.plan_file.specs.Bodies.{fileSize}
+use Rattle.plan_file.specs.Bodies.{fileSize, versionFor}
 use Rattle.sheet_text.specs.Trees.{namesOf}
 use Rattle.sheet_text.specs.Making.{sheetTree, sheetOk, treeMade}
 use Rattle.sheet_write.specs.Passes.{Compilable}
@@ -31,7 +31,7 @@ pub record MeasuredAs (text : List ℕ) (n t p i : ℕ) (r : Sheet) (names : Lis
 
 -- the bytes of the plan
 unfoldable pub Sized : List ℕ → ℕ → ℕ → ℕ → ℕ → Sheet → Type 0
-Sized text n t p i (measured.Counts inputs gates) = record { few : gates ≤ 1024; size : length (sheetFile n t p i text) ≡ fileSize gates 1 }
+Sized text n t p i (measured.Counts inputs gates) = record { few : gates ≤ 1024; parties : n ≤ 15; size : length (sheetFile n t p i text) ≡ fileSize (versionFor p) n gates 1 }
 Sized text n t p i (measured.Refused r) = Unit
 
 pub record Measuring (text : List ℕ) (n t p i : ℕ) (r : Sheet) : Type 0 where

@@ -54,8 +54,8 @@ fn check_majority(
     let Survey::Counts(_, _) = sheet_write::survey_sheet(text, n, p, &mut names) else {
         return Checked::Passed;
     };
-    let size = plan_file::file_size(gates, 1);
-    let mut room = [0u8; 6354];
+    let size = plan_file::file_size(plan_file::version_for(p), n as usize, gates, 1);
+    let mut room = [0u8; 10524];
     sheet_write::write_sheet(
         text,
         n,
@@ -143,7 +143,7 @@ pub fn compile(text: &[u8], n: u32, t: u32, p: u32, seat: u32, plan: &mut [u8]) 
     let Sheet::Counts(inputs, gates) = m else {
         return refusal(m);
     };
-    if plan.len() != plan_file::file_size(gates, 1) {
+    if plan.len() != plan_file::file_size(plan_file::version_for(p), n as usize, gates, 1) {
         return Checked::Refused(Refusal::BufferLength);
     }
     sheet_write::write_sheet(text, n, t, p, seat, inputs, gates, &mut names, plan);

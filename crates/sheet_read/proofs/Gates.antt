@@ -11,7 +11,7 @@ use borrow.Author.Tests.{le-leb, lt-leb, eq-eqb, ne-eqb}
 use lib.ListN.{length, getD}
 use Rattle.plan.specs.declared.Gate.{Gate}
 use Rattle.plan.specs.declared.Gate.the-variants.{Add, Scale, Offset, Multiply}
-use Rattle.plan_file.specs.Bodies.{written, gateBytes}
+use Rattle.plan_file.specs.Bodies.{written, gateBytes, placeIn, versionFor}
 use Rattle.plan_file.proofs.Writing.{length-written}
 use Rattle.sheet_read.specs.declared.Part.{Part}
 use Rattle.sheet_read.specs.declared.Part.the-variants as part
@@ -49,9 +49,9 @@ module _ (b : ℕ) (s : List ℕ) (at : ℕ) (is : b ≡ getD s at 0) where
     unfolding termByte
     term-no m = rw (← is, ne-eqb b 43 n, ne-eqb b 45 m)
 
-pub long-put : (out : List ℕ) (g : ℕ) (x : Gate) → length (putGate out g x) ≡ length out
+pub long-put : (p : ℕ) (out : List ℕ) (g : ℕ) (x : Gate) → length (putGate p out g x) ≡ length out
 unfolding putGate
-long-put out g x = length-written out (18 + 6 * g) (gateBytes x)
+long-put p out g x = length-written out (placeIn (versionFor p) g) (gateBytes (versionFor p) x)
 
 -- ---- two sides joined
 module _ (b p l : ℕ) (out : List ℕ) (r : Part) where
@@ -77,26 +77,26 @@ module _ (b p l : ℕ) (out : List ℕ) (r : Part) where
       unfolding joinedPart joinWire
       join-times h z i = rw (q, ne-eqb b 0 some, eq-eqb b 42 z, i)
 
-      pub file-times : (new : List ℕ) → b ≡ 42 → new ≡ written out (18 + 6 * g) (gateBytes (Multiply l w)) → new ≡ joinedFile b p l out r
+      pub file-times : (version : ℕ) (new : List ℕ) → version ≡ versionFor p → b ≡ 42 → new ≡ written out (placeIn version g) (gateBytes version (Multiply l w)) → new ≡ joinedFile b p l out r
       unfolding joinedFile joinOut putGate
-      file-times new z i = rw (q, ne-eqb b 0 some, eq-eqb b 42 z) i
+      file-times version new v z i = rw (q, ne-eqb b 0 some, eq-eqb b 42 z, ← v) i
 
       module _ (n : b ≡ 42 → ⊥) where
         pub join-plus : (h : ℕ) → b ≡ 43 → h ≡ cappedNext g → part.Made g h e ≡ joinedPart b r
         unfolding joinedPart joinWire
         join-plus h z i = rw (q, ne-eqb b 0 some, ne-eqb b 42 n, eq-eqb b 43 z, i)
 
-        pub file-plus : (new : List ℕ) → b ≡ 43 → new ≡ written out (18 + 6 * g) (gateBytes (Add l w)) → new ≡ joinedFile b p l out r
+        pub file-plus : (version : ℕ) (new : List ℕ) → version ≡ versionFor p → b ≡ 43 → new ≡ written out (placeIn version g) (gateBytes version (Add l w)) → new ≡ joinedFile b p l out r
         unfolding joinedFile joinOut putGate
-        file-plus new z i = rw (q, ne-eqb b 0 some, ne-eqb b 42 n, eq-eqb b 43 z) i
+        file-plus version new v z i = rw (q, ne-eqb b 0 some, ne-eqb b 42 n, eq-eqb b 43 z, ← v) i
 
         module _ (m : b ≡ 43 → ⊥) (h : ℕ) (eh : h ≡ cappedNext g) where
           pub join-minus : (k : ℕ) → k ≡ cappedNext h → part.Made h k e ≡ joinedPart b r
           unfolding joinedPart joinWire
           join-minus k i = rw (q, ne-eqb b 0 some, ne-eqb b 42 n, ne-eqb b 43 m, i, eh)
 
-          pub file-minus : (c : ℕ) (mid new : List ℕ) → c ≡ p - 1 → mid ≡ written out (18 + 6 * g) (gateBytes (Scale w c)) → new ≡ written mid (18 + 6 * h) (gateBytes (Add l g)) → new ≡ joinedFile b p l out r
+          pub file-minus : (version c : ℕ) (mid new : List ℕ) → version ≡ versionFor p → c ≡ p - 1 → mid ≡ written out (placeIn version g) (gateBytes version (Scale w c)) → new ≡ written mid (placeIn version h) (gateBytes version (Add l g)) → new ≡ joinedFile b p l out r
           unfolding joinedFile joinOut putGate
-          file-minus c mid new ec i j = rw (q, ne-eqb b 0 some, ne-eqb b 42 n, ne-eqb b 43 m) (j ∙ rw (i, ec, eh))
+          file-minus version c mid new v ec i j = rw (q, ne-eqb b 0 some, ne-eqb b 42 n, ne-eqb b 43 m) (j ∙ rw (i, ec, eh, v))
 
 pub ruleset joining = (needs, next-is, next-over, times-is, times-no, term-plus, term-minus, term-no, join-wrong, join-kept, join-none, file-none, join-times, file-times, join-plus, file-plus, join-minus, file-minus)

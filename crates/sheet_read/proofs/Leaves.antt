@@ -18,7 +18,7 @@ use Rattle.text_decimals.specs.declared.Numeral.the-variants as numeral
 use Rattle.text_decimals.specs.Reading.{blanksEnd, decimalAt, Within, Placed}
 use Rattle.text_decimals.specs.Reading as reading
 use Rattle.plan.specs.declared.Gate.the-variants.{Scale, Offset}
-use Rattle.plan_file.specs.Bodies.{written, gateBytes}
+use Rattle.plan_file.specs.Bodies.{written, gateBytes, placeIn, versionFor}
 use Rattle.sheet_text.specs.Trees.{Tree}
 use Rattle.sheet_text.specs.Sheets.{Parsed, isLetter, nameFrom, numberFrom}
 use Rattle.sheet_read.specs.declared.Part.{Part}
@@ -60,7 +60,7 @@ module _ (s : List ℕ) (at limit g : ℕ) (out : List ℕ) (d : Numeral) (h : P
   unfolding numberPart
   number-wrong q = rw (← h .eq, q)
 
-  pub number-kept : d ≡ numeral.Wrong → out ≡ numberFile g out (decimalAt limit s at)
+  pub number-kept : d ≡ numeral.Wrong → out ≡ numberFile limit g out (decimalAt limit s at)
   unfolding numberFile
   number-kept q = rw (← h .eq, q)
 
@@ -69,9 +69,10 @@ module _ (s : List ℕ) (at limit g : ℕ) (out : List ℕ) (d : Numeral) (h : P
     unfolding numberPart
     number-part m f em w = rw (← h .eq, q, em, ek, w .eq)
 
-    pub number-file : (mid new : List ℕ) → mid ≡ written out (18 + 6 * g) (gateBytes (Scale 0 0)) → new ≡ written mid (18 + 6 * k) (gateBytes (Offset g v)) → new ≡ numberFile g out (decimalAt limit s at)
+    pub number-file : (version : ℕ) (mid new : List ℕ) → version ≡ versionFor limit → mid ≡ written out (placeIn version g) (gateBytes version (Scale 0 0)) → new ≡ written mid (placeIn version k) (gateBytes version (Offset g v))
+        → new ≡ numberFile limit g out (decimalAt limit s at)
     unfolding numberFile numberOut putGate
-    number-file mid new a b = rw (← h .eq, q) (b ∙ rw (a, ek))
+    number-file version mid new ev a b = rw (← h .eq, q) (b ∙ rw (a, ek, ev))
 
   pub number-past : (v e f m k : ℕ) → d ≡ numeral.Value v e → at ≤ length s → Within s e (blanksEnd s e) f → Ahead s at (part.Made k m f)
   number-past v e f m k q l w =
@@ -159,13 +160,13 @@ module _ (s : List ℕ) (at p g : ℕ) (names out : List ℕ) (r : Part) where
       by false i j = record { eq = i; left = record { table = j; file = refl }; ahead = a; long-names = ap length j ∙ length-set names (freeOr (suc (256 * v + b)) names) (suc (256 * v + b)); long-out = refl }
   name-reads b names′ numeral.Wrong er en a = record { eq = er; left = tt; ahead = a; long-names = ap length en; long-out = refl }
 
-  number-reads : (out′ : List ℕ) (d : Numeral) → r ≡ numberPart s g d → out′ ≡ numberFile g out d → Ahead s at r → Reads s at (numberFrom s d) p g names out r names out′
+  number-reads : (out′ : List ℕ) (d : Numeral) → r ≡ numberPart s g d → out′ ≡ numberFile p g out d → Ahead s at r → Reads s at (numberFrom s d) p g names out r names out′
   unfolding numberPart numberFile numberFrom partOf Left work
   number-reads out′ (numeral.Value v e) er eo a =
       record { eq = er; left = record { table = refl; file = eo }; ahead = a; long-names = refl; long-out = ap length eo ∙ long-number v }
     where
-      long-number : (v : ℕ) → length (numberOut g v out) ≡ length out
-      long-number v = unfold numberOut in long-put (putGate out g (Scale 0 0)) (cappedNext g) (Offset g v) ∙ long-put out g (Scale 0 0)
+      long-number : (v : ℕ) → length (numberOut p g v out) ≡ length out
+      long-number v = unfold numberOut in long-put p (putGate p out g (Scale 0 0)) (cappedNext g) (Offset g v) ∙ long-put p out g (Scale 0 0)
   number-reads out′ numeral.Wrong er eo a = record { eq = er; left = tt; ahead = a; long-names = refl; long-out = ap length eo }
 
   module _ (n b : ℕ) (h : Leaf s at n p b) (x : Bool) (i : x ≡ isLetter b) where
@@ -176,7 +177,7 @@ module _ (s : List ℕ) (at p g : ℕ) (names out : List ℕ) (r : Part) where
         let e : isLetter (getD s at 0) ≡ true = ap isLetter (sym (h .is)) ∙ (sym i ∙ t) in
         rw (e, ← h .is) (name-reads b names′ (decimalAt (suc n) s (suc at)) er en a)
 
-    pub leaf-number : (out′ : List ℕ) → x ≡ false → r ≡ numberPart s g (decimalAt p s at) → out′ ≡ numberFile g out (decimalAt p s at) → Ahead s at r
+    pub leaf-number : (out′ : List ℕ) → x ≡ false → r ≡ numberPart s g (decimalAt p s at) → out′ ≡ numberFile p g out (decimalAt p s at) → Ahead s at r
         → Reads s at (leafAt n p s at) p g names out r names out′
     unfolding leafAt
     leaf-number out′ t er eo a =

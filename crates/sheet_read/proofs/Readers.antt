@@ -156,10 +156,10 @@ long-join : (b p l w g : ℕ) (out : List ℕ) → length (joinOut b p l w g out
 unfolding joinOut
 long-join b p l w g out = by (eqb b 42) (eqb b 43)
   where
-    by : (x y : Bool) → length (cond x (putGate out g (Multiply l w)) (cond y (putGate out g (Add l w)) (putGate (putGate out g (Scale w (p - 1))) (cappedNext g) (Add l g)))) ≡ length out
-    by true y = long-put out g (Multiply l w)
-    by false true = long-put out g (Add l w)
-    by false false = long-put (putGate out g (Scale w (p - 1))) (cappedNext g) (Add l g) ∙ long-put out g (Scale w (p - 1))
+    by : (x y : Bool) → length (cond x (putGate p out g (Multiply l w)) (cond y (putGate p out g (Add l w)) (putGate p (putGate p out g (Scale w (p - 1))) (cappedNext g) (Add l g)))) ≡ length out
+    by true y = long-put p out g (Multiply l w)
+    by false true = long-put p out g (Add l w)
+    by false false = long-put p (putGate p out g (Scale w (p - 1))) (cappedNext g) (Add l g) ∙ long-put p out g (Scale w (p - 1))
 
 pub long-joined : (b p l : ℕ) (out new : List ℕ) (r : Part) → new ≡ joinedFile b p l out r → length new ≡ length out
 unfolding joinedFile

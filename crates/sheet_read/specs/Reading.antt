@@ -48,9 +48,9 @@ unfoldable pub numberPart : List ℕ → ℕ → Numeral → Part
 numberPart s g (numeral.Value v e) = part.Made (cappedNext g) (cappedNext (cappedNext g)) (blanksEnd s e)
 numberPart s g numeral.Wrong = part.Wrong
 
-unfoldable pub numberFile : ℕ → List ℕ → Numeral → List ℕ
-numberFile g out (numeral.Value v e) = numberOut g v out
-numberFile g out numeral.Wrong = out
+unfoldable pub numberFile : ℕ → ℕ → List ℕ → Numeral → List ℕ
+numberFile p g out (numeral.Value v e) = numberOut p g v out
+numberFile p g out numeral.Wrong = out
 
 unfoldable pub namePart : List ℕ → ℕ → ℕ → List ℕ → Numeral → Part
 namePart s b g names (numeral.Value v e) = cond (eqb v 0) part.Wrong (part.Made (freeOr (suc (256 * v + b)) names) g (blanksEnd s e))

@@ -6,7 +6,7 @@ use lib.Dec.{eqb, leb}
 use lib.ListN.{set}
 use Rattle.plan.specs.declared.Gate.{Gate}
 use Rattle.plan.specs.declared.Gate.the-variants.{Add, Scale, Offset, Multiply}
-use Rattle.plan_file.specs.Bodies.{written, gateBytes}
+use Rattle.plan_file.specs.Bodies.{written, gateBytes, placeIn, versionFor}
 use Rattle.sheet_text.specs.Trees.{Tree}
 
 -- the place of a number in a table, or of the first 0; past the end where there is neither
@@ -18,9 +18,9 @@ freeOr x (y ∷ ys) = cond (eqb y x) 0 (cond (eqb y 0) 0 (suc (freeOr x ys)))
 unfoldable pub cappedNext : ℕ → ℕ
 cappedNext g = cond (leb g 1024) (suc g) 1025
 
--- gate g of a file; past the file's end nothing changes
-unfoldable pub putGate : List ℕ → ℕ → Gate → List ℕ
-putGate out g x = written out (18 + 6 * g) (gateBytes x)
+-- gate g of a file for the prime p; past the file's end nothing changes
+unfoldable pub putGate : ℕ → List ℕ → ℕ → Gate → List ℕ
+putGate p out g x = written out (placeIn (versionFor p) g) (gateBytes (versionFor p) x)
 
 pub record Work : Type 0 where
   pub names : List ℕ
@@ -29,14 +29,14 @@ pub record Work : Type 0 where
   pub wire : ℕ
 
 -- a number v, after g gates
-unfoldable pub numberOut : ℕ → ℕ → List ℕ → List ℕ
-numberOut g v out = putGate (putGate out g (Scale 0 0)) (cappedNext g) (Offset g v)
+unfoldable pub numberOut : ℕ → ℕ → ℕ → List ℕ → List ℕ
+numberOut p g v out = putGate p (putGate p out g (Scale 0 0)) (cappedNext g) (Offset g v)
 
 -- two sides, whose values wires l and r hold, joined by what the byte b says: * (42), + (43) or -
 unfoldable pub joinOut : ℕ → ℕ → ℕ → ℕ → ℕ → List ℕ → List ℕ
 joinOut b p l r g out =
-    cond (eqb b 42) (putGate out g (Multiply l r))
-    (cond (eqb b 43) (putGate out g (Add l r)) (putGate (putGate out g (Scale r (p - 1))) (cappedNext g) (Add l g)))
+    cond (eqb b 42) (putGate p out g (Multiply l r))
+    (cond (eqb b 43) (putGate p out g (Add l r)) (putGate p (putGate p out g (Scale r (p - 1))) (cappedNext g) (Add l g)))
 
 unfoldable pub joinWire : ℕ → ℕ → ℕ
 joinWire b g = cond (eqb b 42) g (cond (eqb b 43) g (cappedNext g))
@@ -55,7 +55,7 @@ afterLeft join right l = join (l .wire) (right (l .names) (l .out) (l .gates))
 
 -- a tree, from a table of names, a file and so many gates on; the table holds each name's number and 1
 unfoldable pub work : ℕ → Tree → List ℕ → List ℕ → ℕ → Work
-work p (Tree.Number v) names out g = record { names = names; out = numberOut g v out; gates = cappedNext (cappedNext g); wire = cappedNext g }
+work p (Tree.Number v) names out g = record { names = names; out = numberOut p g v out; gates = cappedNext (cappedNext g); wire = cappedNext g }
 work p (Tree.Name x) names out g = record { names = set names (freeOr (suc x) names) (suc x); out = out; gates = g; wire = freeOr (suc x) names }
 work p (Tree.Times l r) names out g = afterLeft (joinBy 42 p) (λ ns o h. work p r ns o h) (work p l names out g)
 work p (Tree.Plus l r) names out g = afterLeft (joinBy 43 p) (λ ns o h. work p r ns o h) (work p l names out g)

@@ -70,7 +70,7 @@ fn less_one(p: u64) -> u64
 }
 
 // A side joined to the left one, whose value wire l holds, as the byte b between them says: *, + or -; 0 where there is no left side.
-fn join(b: u64, p: u64, l: usize, r: Part, out: &mut [u8]) -> Part
+fn join(b: u64, p: u32, l: usize, r: Part, out: &mut [u8]) -> Part
     ensures part { λ x. ⌜ x ≡ joinedPart b r ⌝ }
     ensures file { λ _. ⌜ now (out .exit) ≡ joinedFile b p l (now (out .entry)) r ⌝ }
 {
@@ -80,17 +80,18 @@ fn join(b: u64, p: u64, l: usize, r: Part, out: &mut [u8]) -> Part
     if b == 0 {
         return r;
     }
+    let version = plan_file::version_for(p);
     if b == 42 {
-        plan_file::put_gate(out, g, Gate::Multiply(l, w));
+        plan_file::put_gate(out, version, g, Gate::Multiply(l, w));
         return Part::Made(g, next(g), e);
     }
     if b == 43 {
-        plan_file::put_gate(out, g, Gate::Add(l, w));
+        plan_file::put_gate(out, version, g, Gate::Add(l, w));
         return Part::Made(g, next(g), e);
     }
     let h = next(g);
-    plan_file::put_gate(out, g, Gate::Scale(w, less_one(p)));
-    plan_file::put_gate(out, h, Gate::Add(l, g));
+    plan_file::put_gate(out, version, g, Gate::Scale(w, less_one(p as u64)));
+    plan_file::put_gate(out, version, h, Gate::Add(l, g));
     Part::Made(h, next(h), e)
 }
 
@@ -106,18 +107,19 @@ fn is_letter(b: u64) -> bool
 }
 
 // A number below p.
-fn number(s: &[u8], at: usize, p: u64, g: usize, out: &mut [u8]) -> Part
+fn number(s: &[u8], at: usize, p: u32, g: usize, out: &mut [u8]) -> Part
     requires { ⌜ record { place : at ≤ length (now s); small : p ≤ 4294967296 } ⌝ }
     ensures part { λ r. ⌜ r ≡ numberPart (now (s .entry)) g (decimalAt p (now (s .entry)) at) ⌝ }
-    ensures file { λ _. ⌜ now (out .exit) ≡ numberFile g (now (out .entry)) (decimalAt p (now (s .entry)) at) ⌝ }
+    ensures file { λ _. ⌜ now (out .exit) ≡ numberFile p g (now (out .entry)) (decimalAt p (now (s .entry)) at) ⌝ }
     ensures ahead { λ r. ⌜ Ahead (now (s .entry)) at r ⌝ }
 {
-    let Numeral::Value(v, e) = text_decimals::decimal(s, at, p) else {
+    let Numeral::Value(v, e) = text_decimals::decimal(s, at, p as u64) else {
         return Part::Wrong;
     };
+    let version = plan_file::version_for(p);
     let h = next(g);
-    plan_file::put_gate(out, g, Gate::Scale(0, 0));
-    plan_file::put_gate(out, h, Gate::Offset(g, v));
+    plan_file::put_gate(out, version, g, Gate::Scale(0, 0));
+    plan_file::put_gate(out, version, h, Gate::Offset(g, v));
     Part::Made(h, next(h), text_decimals::blanks(s, e))
 }
 
@@ -143,7 +145,7 @@ fn leaf(
     s: &[u8],
     at: usize,
     n: u64,
-    p: u64,
+    p: u32,
     b: u64,
     g: usize,
     names: &mut [usize],
@@ -214,7 +216,7 @@ fn bracket(
     at: usize,
     depth: usize,
     n: u64,
-    p: u64,
+    p: u32,
     g: usize,
     names: &mut [usize],
     out: &mut [u8],
@@ -239,7 +241,7 @@ fn product(
     at: usize,
     depth: usize,
     n: u64,
-    p: u64,
+    p: u32,
     g: usize,
     names: &mut [usize],
     out: &mut [u8],
@@ -273,7 +275,7 @@ fn sum(
     at: usize,
     depth: usize,
     n: u64,
-    p: u64,
+    p: u32,
     g: usize,
     names: &mut [usize],
     out: &mut [u8],
@@ -310,7 +312,7 @@ pub fn read_sheet(s: &[u8], n: u32, p: u32, g: usize, names: &mut [usize], out: 
         text_decimals::blanks(s, 0),
         0,
         n as u64,
-        p as u64,
+        p,
         g,
         names,
         out,

@@ -1,5 +1,5 @@
 -- What each way through the two passes says of the definitions.
---     surveying, listing, compiling     what closes the needs of the functions
+--     surveying, listing, ending, compiling     what closes the needs of the functions
 -- Assumes nothing.
 use Prim.Native.Nat.{ℕ, zero, suc, _+_, _-_, _*_, _/_, _<_, _≤_}
 use mathlib.Core.Path.{_≡_, refl, sym, ap, ap₂, _∙_}
@@ -8,17 +8,18 @@ use mathlib.Core.List.{List, [], _∷_, _++_, flatMap, append-nil, append-assoc}
 use native.Mathlib.Omega.{arith}
 use borrow.Author.Needs.{needs}
 use borrow.Author.Tests.{eq-eqb, ne-eqb, leb-true, leb-false}
-use lib.Dec.{eqb, leb}
+use lib.Dec.{eqb, leb, ltb}
 use lib.ListN.{length, getD, replicate, List·getD-eq-default, length-append}
 use Rattle.numbers.specs.Tables.{tab}
 use Rattle.numbers.proofs.Tables.{tab-zero, tab-next, length-tab}
 use Rattle.plan.specs.declared.Gate.{Gate}
 use Rattle.plan.specs.declared.Gate.the-variants.{Input}
 use Rattle.plan.specs.declared.Output.{Output}
-use Rattle.plan_file.specs.Bodies.{Bodies, written, gateBytes, gatesBytes, outBytes, contents, fileSize, planFile}
-use Rattle.plan_file.proofs.Files.{contents-long, file-long}
-use Rattle.plan_file.proofs.Writing.{written-then, written-whole, length-written}
-use Rattle.plan_file.proofs.Rows.{gates-long, gates-then, one-put, written-none, none-bytes}
+use Rattle.plan.specs.Plans.{partyCount}
+use Rattle.plan_file.specs.Bodies.{Bodies, planWith, written, gateBytes, gatesBytes, outBytes, pointsBytes, placeIn, outStart, contents, fileSize, fileAs, versionFor, planFile, fieldLimit}
+use Rattle.plan_file.proofs.Files as files
+use Rattle.plan_file.proofs.Writing.{written-whole, length-written, fits-for}
+use Rattle.plan_file.proofs.Rows.{gates-then, one-put, written-none, none-bytes, file-put}
 use Rattle.sheet_text.specs.Trees.{Tree, namesFrom, namesOf, Emitted, emit, inputGates, gateCount}
 use Rattle.sheet_text.specs.Sheets.{Parsed, sheetAt}
 use Rattle.sheet_text.specs.Making.{treeOf, sheetTree, sheetOk, treeMade, bodiesWith, treeBodies}
@@ -34,6 +35,15 @@ use Rattle.sheet_write.specs.declared.Survey.the-variants as survey
 use Rattle.sheet_write.specs.Passes.{tableOf, inputsIn, upTo, SurveyIs, Surveyed, Compilable}
 use Rattle.sheet_write.proofs.Tables.{fresh-table, long-table, table-count, table-inputs}
 use Rattle.sheet_write.proofs.Works.{work-names, work-gates, filed, worked, work-emits}
+
+-- ---- the version
+version-low : (p : ℕ) → versionFor p < 256
+unfolding versionFor
+version-low p = by (ltb p 65536)
+  where
+    by : (x : Bool) → cond x 1 3 < 256
+    by true = omega arith
+    by false = omega arith
 
 -- ---- counts
 pub up-few : (k : ℕ) → upTo k ≤ 1025
@@ -155,24 +165,28 @@ party-past names i l = rw (List·getD-eq-default names 0 l)
 pub party-none : (names : List ℕ) (i : ℕ) → getD names i 0 ≡ 0 → 0 ≡ (getD names i 0 - 1) / 256
 party-none names i e = rw e
 
-pub record Listing (count : ℕ) (names out₀ : List ℕ) (i : ℕ) (out : List ℕ) : Type 0 where
+pub input-put : (names out new : List ℕ) (version i k : ℕ) → k ≡ (getD names i 0 - 1) / 256 → new ≡ written out (placeIn version i) (gateBytes version (Input k))
+    → new ≡ written out (placeIn version i) (gateBytes version (Input ((getD names i 0 - 1) / 256)))
+input-put names out new version i k ek e = e ∙ ap (λ (m : ℕ). written out (placeIn version i) (gateBytes version (Input m))) ek
+
+pub record Listing (version count : ℕ) (names out₀ : List ℕ) (i : ℕ) (out : List ℕ) : Type 0 where
   pub within : i ≤ count
   pub long : length out ≡ length out₀
-  pub done : out ≡ written out₀ 18 (gatesBytes (inputsIn i names))
+  pub done : out ≡ written out₀ (placeIn version 0) (gatesBytes version (inputsIn i names))
 
-module _ (count : ℕ) (names out₀ : List ℕ) where
-  pub list-begin : Listing count names out₀ 0 out₀
+module _ (version count : ℕ) (names out₀ : List ℕ) where
+  pub list-begin : Listing version count names out₀ 0 out₀
   unfolding inputsIn
-  list-begin = record { within = omega arith; long = refl; done = rw (tab-zero (λ i. Input ((getD names i 0 - 1) / 256)), none-bytes) (sym (written-none out₀ 18)) }
+  list-begin = record { within = omega arith; long = refl; done = rw (tab-zero (λ i. Input ((getD names i 0 - 1) / 256)), none-bytes version) (sym (written-none out₀ (placeIn version 0))) }
 
-  module _ (i : ℕ) (out : List ℕ) (h : Listing count names out₀ i out) where
-    pub list-on : (k : ℕ) (new : List ℕ) → i < count → k ≡ (getD names i 0 - 1) / 256 → new ≡ written out (18 + 6 * i) (gateBytes (Input k)) → Listing count names out₀ (i + 1) new
-    list-on k new l ek e = record {
+  module _ (i : ℕ) (out : List ℕ) (h : Listing version count names out₀ i out) where
+    pub list-on : (new : List ℕ) → new ≡ written out (placeIn version i) (gateBytes version (Input ((getD names i 0 - 1) / 256))) → i < count → Listing version count names out₀ (i + 1) new
+    list-on new e l = record {
       within = omega arith;
-      long = ap length e ∙ length-written out (18 + 6 * i) (gateBytes (Input k)) ∙ h .long;
+      long = ap length e ∙ length-written out (placeIn version i) (gateBytes version (Input ((getD names i 0 - 1) / 256))) ∙ h .long;
       done = unfold inputsIn in rw (tab-next (λ j. Input ((getD names j 0 - 1) / 256)) i)
-          (gates-then out₀ out new 0 i (tab (λ j. Input ((getD names j 0 - 1) / 256)) i) (Input ((getD names i 0 - 1) / 256) ∷ []) (unfold inputsIn in h .done)
-          (one-put out new i (Input ((getD names i 0 - 1) / 256)) (rw (← ek) e)) (omega (arith, length-tab (λ j. Input ((getD names j 0 - 1) / 256)) i)));
+          (gates-then version out₀ out new 0 i (tab (λ j. Input ((getD names j 0 - 1) / 256)) i) (Input ((getD names i 0 - 1) / 256) ∷ []) (unfold inputsIn in h .done)
+          (one-put version out new i (Input ((getD names i 0 - 1) / 256)) e) (omega (arith, length-tab (λ j. Input ((getD names j 0 - 1) / 256)) i)));
     }
 
     pub list-fits : count ≤ 1024 → i < count → i + 1 < 18446744073709551616
@@ -181,27 +195,38 @@ module _ (count : ℕ) (names out₀ : List ℕ) where
     pub list-long : length out ≡ length out₀
     list-long = h .long
 
-    pub list-end : count ≤ i → out ≡ written out₀ 18 (gatesBytes (inputsIn count names))
+    pub list-end : count ≤ i → out ≡ written out₀ (placeIn version 0) (gatesBytes version (inputsIn count names))
     list-end l = let e : i ≡ count = omega (arith, h .within) in rw (← e) (h .done)
 
-pub ruleset listing = (needs, party-past, party-none, list-begin, list-on, list-fits, list-long, list-end)
+pub ruleset listing = (needs, party-past, party-none, input-put, list-begin, list-on, list-fits, list-long, list-end)
+
+-- ---- the end of the file
+pub end-put : (s s1 s2 : List ℕ) (version gates points : ℕ) (x : Output) (ps : List ℕ) → s1 ≡ written s (outStart version gates 0) (outBytes x)
+    → record { eq : points ≡ outStart version gates 1; high : points ≤ 10464 } → s2 ≡ written s1 points ps
+    → s2 ≡ written (written s (outStart version gates 0) (outBytes x)) (outStart version gates 1) ps
+end-put s s1 s2 version gates points x ps e ep f = f ∙ rw (e, ep .eq)
+
+pub ruleset ending = (needs, end-put)
 
 -- ---- the second pass
 module _ (s : List ℕ) (n t p seat inputs gates : ℕ) (names : List ℕ) (h : Compilable s n t p seat inputs gates names) where
   pub inputs-few : inputs ≤ 1024
   inputs-few = omega (arith, h .inputs-are, h .gates-are, made-long p (sheetTree n p s), h .few)
 
-  pub contents-asked : record { n : n < 256; t : t < 256; p : p < 65536; few : gates ≤ 1024 }
-  contents-asked = record { n = h .parties; t = h .threshold; p = h .small; few = h .few }
+  pub low-version : (version : ℕ) → version ≡ versionFor p → version < 256
+  low-version version ev = rw ev (version-low p)
 
-  pub out-asked : (wire : ℕ) → record { party : seat < 256; few : gates ≤ 1024; place : 0 ≤ 64 }
-  out-asked wire = record { party = h .result; few = h .few; place = omega arith }
+  pub prime-fits : (version : ℕ) → version ≡ versionFor p → p < fieldLimit version
+  prime-fits version ev = rw ev (fits-for p (omega (arith, h .small)))
+
+  pub few-parties : n < 256
+  few-parties = omega (arith, h .parties)
 
   no-name : sheetOk n p s ≡ true → length (namesOf (sheetTree n p s)) ≡ 0 → ⊥
   no-name k e = absurd (let z : _≡_ {A = Bool} true false = sym k ∙ not-ok n p s e in (let y : _≡_ {A = ℕ} 0 1 = cc in omega arith))
 
-  module _ (o o1 o2 : List ℕ) (r : Part) (names′ o3 : List ℕ)
-      (put1 : o1 ≡ written o 0 (contents n t p gates 1)) (put2 : o2 ≡ written o1 18 (gatesBytes (inputsIn inputs names))) (sheet : Sheet (sheetAt n p s) p inputs names o2 r names′ o3) where
+  module _ (version : ℕ) (ev : version ≡ versionFor p) (o o1 o2 : List ℕ) (r : Part) (names′ o3 : List ℕ)
+      (put1 : o1 ≡ written o 0 (contents version n t p gates 1)) (put2 : o2 ≡ written o1 (placeIn version 0) (gatesBytes version (inputsIn inputs names))) (sheet : Sheet (sheetAt n p s) p inputs names o2 r names′ o3) where
     pub write-broken : (new : List ℕ) → r ≡ part.Wrong → new ≡ planFile n t p (treeBodies p seat (sheetTree n p s))
     write-broken new e = absurd (no-name (h .ok) (wrong-tree n p s (wrong-read p inputs names o2 (sheetAt n p s) (sym e ∙ sheet .eq))))
 
@@ -221,11 +246,13 @@ module _ (s : List ℕ) (n t p seat inputs gates : ℕ) (names : List ℕ) (h : 
       few : length ns + gateCount x ≤ 1024
       few = omega (arith, h .gates-are, made-long p x, h .few)
 
-      inputs-filed : o2 ≡ filed o1 (inputGates ns)
+      inputs-filed : o2 ≡ filed p o1 (inputGates ns)
       unfolding filed
-      inputs-filed = put2 ∙ ap (λ (gs : List Gate). written o1 18 (gatesBytes gs)) (ap₂ inputsIn (h .inputs-are) (h .table) ∙ table-inputs 1025 ns (omega (arith, few)))
+      inputs-filed =
+          put2
+          ∙ ap₂ (λ (v : ℕ) (gs : List Gate). written o1 (placeIn v 0) (gatesBytes v gs)) ev (ap₂ inputsIn (h .inputs-are) (h .table) ∙ table-inputs 1025 ns (omega (arith, few)))
 
-      work-is : work p (got .tree) names o2 inputs ≡ worked 1025 ns o1 made
+      work-is : work p (got .tree) names o2 inputs ≡ worked p 1025 ns o1 made
       unfolding treeMade
       work-is =
           ap (λ (y : Tree). work p y names o2 inputs) (sym (read-tree n p s (got .tree) e (got .is)))
@@ -233,8 +260,10 @@ module _ (s : List ℕ) (n t p seat inputs gates : ℕ) (names : List ℕ) (h : 
           ∙ ap₂ (work p x (tableOf 1025 ns)) inputs-filed (h .inputs-are ∙ sym (inputs-long ns))
           ∙ work-emits p 1025 ns o1 (omega (arith, few)) x (inputGates ns) (tree-proper n p x (sheet-below n p s (omega (arith, h .prime)))) (omega (arith, few, inputs-long ns))
 
-      gates-put : o3 ≡ written o1 18 (gatesBytes (made .gates))
-      gates-put = got .file ∙ ap (λ (w : Work). w .out) work-is ∙ (unfold worked in unfold filed in refl)
+      gates-put : o3 ≡ written o1 (placeIn version 0) (gatesBytes version (made .gates))
+      gates-put =
+          got .file ∙ ap (λ (w : Work). w .out) work-is
+          ∙ (unfold worked in unfold filed in ap (λ (v : ℕ). written o1 (placeIn v 0) (gatesBytes v (made .gates))) (sym ev))
 
       wire-is : wire ≡ made .wire
       wire-is = got .wire ∙ ap (λ (w : Work). w .wire) work-is ∙ (unfold worked in refl)
@@ -243,16 +272,18 @@ module _ (s : List ℕ) (n t p seat inputs gates : ℕ) (names : List ℕ) (h : 
       unfolding flatMap
       outs-bytes = append-nil (outBytes (record { party = seat; wire = made .wire }))
 
-      pub write-whole : (new : List ℕ) → length o ≡ fileSize gates 1 → new ≡ written o3 (18 + 6 * gates + 3 * 0) (outBytes (record { party = seat; wire = wire }))
+      pub write-whole : (new : List ℕ) → length o ≡ fileSize (versionFor p) n gates 1
+          → new ≡ written (written o3 (outStart version gates 0) (outBytes (record { party = seat; wire = wire }))) (outStart version gates 1) (pointsBytes version (tab suc n))
           → new ≡ planFile n t p (treeBodies p seat (sheetTree n p s))
-      unfolding treeBodies bodiesWith
-      write-whole new room put =
+      unfolding treeBodies bodiesWith planFile planWith partyCount
+      write-whole new room last =
+          let o4 : List ℕ = written o3 (outStart version gates 0) (outBytes (record { party = seat; wire = wire })) in
           let b : Bodies = record { gates = made .gates; outs = record { party = seat; wire = made .wire } ∷ [] } in
-          let gates-long′ : length (gatesBytes (made .gates)) ≡ 6 * gates = gates-long (made .gates) ∙ omega (arith, h .gates-are) in
-          let last : new ≡ written o3 (18 + 6 * gates + 3 * 0) (flatMap outBytes (b .outs)) = put ∙ rw (wire-is, outs-bytes) in
-          let bodies : new ≡ written o1 18 (gatesBytes (made .gates) ++ flatMap outBytes (b .outs)) = written-then o1 o3 new (gatesBytes (made .gates)) (flatMap outBytes (b .outs)) 18 (18 + 6 * gates + 3 * 0) gates-put last (omega (arith, gates-long′)) in
-          let all : new ≡ written o 0 (contents n t p gates 1 ++ (gatesBytes (made .gates) ++ flatMap outBytes (b .outs))) = written-then o o1 new (contents n t p gates 1) (gatesBytes (made .gates) ++ flatMap outBytes (b .outs)) 0 18 put1 bodies (omega (arith, contents-long n t p gates 1)) in
-          let file : contents n t p gates 1 ++ (gatesBytes (made .gates) ++ flatMap outBytes (b .outs)) ≡ planFile n t p b = unfold planFile in unfold gatesBytes in rw (h .gates-are) in
-          all ∙ rw file (written-whole o (planFile n t p b) (file-long n t p b ∙ rw (← h .gates-are) (sym room)))
+          let head : o1 ≡ written o 0 (contents version (length (tab suc n)) t p (length (made .gates)) 1) = put1 ∙ rw (length-tab suc n, ← h .gates-are) in
+          let outs : o4 ≡ written o3 (outStart version (length (made .gates)) 0) (flatMap outBytes (b .outs)) = rw (wire-is, outs-bytes, ← h .gates-are) in
+          let ends : new ≡ written o4 (outStart version (length (made .gates)) 1) (pointsBytes version (tab suc n)) = last ∙ rw (← h .gates-are) in
+          let all : new ≡ written o 0 (fileAs version (planWith n t p b)) = file-put version (planWith n t p b) o o1 o3 o4 new head gates-put outs ends in
+          let file : new ≡ written o 0 (planFile n t p b) = all ∙ ap (λ (v : ℕ). written o 0 (fileAs v (planWith n t p b))) ev in
+          file ∙ written-whole o (planFile n t p b) (files.made-long n t p b ∙ rw (← h .gates-are) (sym room))
 
-pub ruleset compiling = (needs, inputs-few, contents-asked, out-asked, write-broken, write-whole)
+pub ruleset compiling = (needs, inputs-few, low-version, prime-fits, few-parties, write-broken, write-whole)

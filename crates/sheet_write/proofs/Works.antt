@@ -12,7 +12,7 @@ use lib.Dec.{eqb, leb}
 use lib.ListN.{length, getD, set, length-append}
 use Rattle.plan.specs.declared.Gate.{Gate}
 use Rattle.plan.specs.declared.Gate.the-variants.{Add, Scale, Offset, Multiply}
-use Rattle.plan_file.specs.Bodies.{written, gateBytes, gatesBytes}
+use Rattle.plan_file.specs.Bodies.{written, gatesBytes, placeIn, versionFor}
 use Rattle.plan_file.proofs.Rows.{gates-then, one-put}
 use Rattle.sheet_text.specs.Trees.{Tree, nameIndex, withName, namesFrom, Emitted, ending, emitNumber, emitPlus, emitTimes, emitMinus, rightAfter, emit, gateCount}
 use Rattle.sheet_text.proofs.Formula.{Proper}
@@ -72,64 +72,66 @@ work-gates p (Tree.Minus l r) names out k =
     (ap (λ (g : ℕ). cappedNext (cappedNext g)) (work-gates p r (a .names) (a .out) (k + gateCount l)) ∙ ap cappedNext (next-up (k + gateCount l + gateCount r)) ∙ next-up (k + gateCount l + gateCount r + 1) ∙ ap upTo (omega arith))
 
 -- ---- the second pass
--- a file with these gates
-unfoldable pub filed : List ℕ → List Gate → List ℕ
-filed o gs = written o 18 (gatesBytes gs)
+-- a file for the prime p, with these gates
+unfoldable pub filed : ℕ → List ℕ → List Gate → List ℕ
+filed p o gs = written o (placeIn (versionFor p) 0) (gatesBytes (versionFor p) gs)
 
 one-long : (gs : List Gate) (g : Gate) → length (gs ++ (g ∷ [])) ≡ suc (length gs)
 one-long gs g = length-append gs (g ∷ []) ∙ omega arith
 
-file-one : (o : List ℕ) (gs : List Gate) (x : Gate) → putGate (filed o gs) (length gs) x ≡ filed o (gs ++ (x ∷ []))
+file-one : (p : ℕ) (o : List ℕ) (gs : List Gate) (x : Gate) → putGate p (filed p o gs) (length gs) x ≡ filed p o (gs ++ (x ∷ []))
 unfolding putGate filed
-file-one o gs x = gates-then o (written o 18 (gatesBytes gs)) _ 0 (length gs) gs (x ∷ []) refl (one-put (written o 18 (gatesBytes gs)) _ (length gs) x refl) (omega arith)
+file-one p o gs x =
+    gates-then (versionFor p) o (written o (placeIn (versionFor p) 0) (gatesBytes (versionFor p) gs)) _ 0 (length gs) gs (x ∷ []) refl
+    (one-put (versionFor p) (written o (placeIn (versionFor p) 0) (gatesBytes (versionFor p) gs)) _ (length gs) x refl) (omega arith)
 
 next-one : (gs : List Gate) (x : Gate) → length (gs ++ (x ∷ [])) ≤ 1025 → cappedNext (length gs) ≡ length (gs ++ (x ∷ []))
 unfolding cappedNext
 next-one gs x l = rw (le-leb (length gs) 1024 (omega (arith, one-long gs x))) (sym (one-long gs x))
 
 -- the readers' work after emitting
-unfoldable pub worked : ℕ → List ℕ → List ℕ → Emitted → Work
-worked m ns o e = record { names = tableOf m ns; out = filed o (e .gates); gates = length (e .gates); wire = e .wire }
+unfoldable pub worked : ℕ → ℕ → List ℕ → List ℕ → Emitted → Work
+worked p m ns o e = record { names = tableOf m ns; out = filed p o (e .gates); gates = length (e .gates); wire = e .wire }
 
 module _ (p m : ℕ) (ns o : List ℕ) (room : length ns ≤ m) where
   -- two sides joined by one gate
-  join-plus : (l : ℕ) (r : Emitted) → length (r .gates) < 1025 → joinBy 43 p l (worked m ns o r) ≡ worked m ns o (ending (r .gates) (Add l (r .wire)))
+  join-plus : (l : ℕ) (r : Emitted) → length (r .gates) < 1025 → joinBy 43 p l (worked p m ns o r) ≡ worked p m ns o (ending (r .gates) (Add l (r .wire)))
   unfolding joinBy joinOut joinWire worked ending
-  join-plus l r s = rw (file-one o (r .gates) (Add l (r .wire)), next-one (r .gates) (Add l (r .wire)) (omega (arith, one-long (r .gates) (Add l (r .wire)))))
+  join-plus l r s = rw (file-one p o (r .gates) (Add l (r .wire)), next-one (r .gates) (Add l (r .wire)) (omega (arith, one-long (r .gates) (Add l (r .wire)))))
 
-  join-times : (l : ℕ) (r : Emitted) → length (r .gates) < 1025 → joinBy 42 p l (worked m ns o r) ≡ worked m ns o (ending (r .gates) (Multiply l (r .wire)))
+  join-times : (l : ℕ) (r : Emitted) → length (r .gates) < 1025 → joinBy 42 p l (worked p m ns o r) ≡ worked p m ns o (ending (r .gates) (Multiply l (r .wire)))
   unfolding joinBy joinOut joinWire worked ending
-  join-times l r s = rw (file-one o (r .gates) (Multiply l (r .wire)), next-one (r .gates) (Multiply l (r .wire)) (omega (arith, one-long (r .gates) (Multiply l (r .wire)))))
+  join-times l r s = rw (file-one p o (r .gates) (Multiply l (r .wire)), next-one (r .gates) (Multiply l (r .wire)) (omega (arith, one-long (r .gates) (Multiply l (r .wire)))))
 
   join-minus : (l : ℕ) (r : Emitted) → length (r .gates) < 1024
-      → joinBy 45 p l (worked m ns o r) ≡ worked m ns o (ending (r .gates ++ (Scale (r .wire) (p - 1) ∷ [])) (Add l (length (r .gates))))
+      → joinBy 45 p l (worked p m ns o r) ≡ worked p m ns o (ending (r .gates ++ (Scale (r .wire) (p - 1) ∷ [])) (Add l (length (r .gates))))
   unfolding joinBy joinOut joinWire worked ending
   join-minus l r s =
       let neg : Gate = Scale (r .wire) (p - 1) in
       let k = one-long (r .gates) neg in
       let j = one-long (r .gates ++ (neg ∷ [])) (Add l (length (r .gates))) in
-      rw (next-one (r .gates) neg (omega (arith, k)), file-one o (r .gates) neg, file-one o (r .gates ++ (neg ∷ [])) (Add l (length (r .gates))), next-one (r .gates ++ (neg ∷ [])) (Add l (length (r .gates))) (omega (arith, k, j)))
+      rw (next-one (r .gates) neg (omega (arith, k)), file-one p o (r .gates) neg, file-one p o (r .gates ++ (neg ∷ [])) (Add l (length (r .gates))), next-one (r .gates ++ (neg ∷ [])) (Add l (length (r .gates))) (omega (arith, k, j)))
 
-  number-work : (v : ℕ) (gs : List Gate) → length gs < 1024 → work p (Tree.Number v) (tableOf m ns) (filed o gs) (length gs) ≡ worked m ns o (emitNumber gs v)
+  number-work : (v : ℕ) (gs : List Gate) → length gs < 1024 → work p (Tree.Number v) (tableOf m ns) (filed p o gs) (length gs) ≡ worked p m ns o (emitNumber gs v)
   unfolding work numberOut worked emitNumber ending
   number-work v gs s =
       let nought : Gate = Scale 0 0 in
       let k = one-long gs nought in
       let j = one-long (gs ++ (nought ∷ [])) (Offset (length gs) v) in
-      rw (next-one gs nought (omega (arith, k)), file-one o gs nought, file-one o (gs ++ (nought ∷ [])) (Offset (length gs) v), next-one (gs ++ (nought ∷ [])) (Offset (length gs) v) (omega (arith, k, j)))
+      rw (next-one gs nought (omega (arith, k)), file-one p o gs nought, file-one p o (gs ++ (nought ∷ [])) (Offset (length gs) v), next-one (gs ++ (nought ∷ [])) (Offset (length gs) v) (omega (arith, k, j)))
 
-  name-work : (x : ℕ) (gs : List Gate) → nameIndex x ns < length ns → work p (Tree.Name x) (tableOf m ns) (filed o gs) (length gs) ≡ worked m ns o (record { gates = gs; wire = nameIndex x ns })
+  name-work : (x : ℕ) (gs : List Gate) → nameIndex x ns < length ns → work p (Tree.Name x) (tableOf m ns) (filed p o gs) (length gs) ≡ worked p m ns o (record { gates = gs; wire = nameIndex x ns })
   unfolding work worked
   name-work x gs h = rw (table-hold m x ns, with-same x ns h, table-place m x ns h room)
 
   -- two sides, each worked as it is emitted
-  sides : (c : ℕ) (l r : Tree) (gs : List Gate) → work p l (tableOf m ns) (filed o gs) (length gs) ≡ worked m ns o (emit p ns l gs)
-      → work p r (tableOf m ns) (filed o (emit p ns l gs .gates)) (length (emit p ns l gs .gates)) ≡ worked m ns o (emit p ns r (emit p ns l gs .gates))
-      → afterLeft (joinBy c p) (λ k f h. work p r k f h) (work p l (tableOf m ns) (filed o gs) (length gs)) ≡ joinBy c p (emit p ns l gs .wire) (worked m ns o (emit p ns r (emit p ns l gs .gates)))
+  sides : (c : ℕ) (l r : Tree) (gs : List Gate) → work p l (tableOf m ns) (filed p o gs) (length gs) ≡ worked p m ns o (emit p ns l gs)
+      → work p r (tableOf m ns) (filed p o (emit p ns l gs .gates)) (length (emit p ns l gs .gates)) ≡ worked p m ns o (emit p ns r (emit p ns l gs .gates))
+      → afterLeft (joinBy c p) (λ k f h. work p r k f h) (work p l (tableOf m ns) (filed p o gs) (length gs)) ≡ joinBy c p (emit p ns l gs .wire) (worked p m ns o (emit p ns r (emit p ns l gs .gates)))
   unfolding afterLeft worked
   sides c l r gs a b = rw a (ap (joinBy c p (emit p ns l gs .wire)) b)
 
-  pub work-emits : (x : Tree) (gs : List Gate) → Proper p ns x → length gs + gateCount x ≤ 1024 → work p x (tableOf m ns) (filed o gs) (length gs) ≡ worked m ns o (emit p ns x gs)
+  pub work-emits : (x : Tree) (gs : List Gate) → Proper p ns x → length gs + gateCount x ≤ 1024 → work p x (tableOf m ns) (filed p o gs) (length gs) ≡ worked p m ns o (emit p ns x gs)
   unfolding work emit rightAfter emitPlus emitTimes emitMinus Proper gateCount
   work-emits (Tree.Number v) gs h s = number-work v gs (omega arith)
   work-emits (Tree.Name x) gs h s = name-work x gs h

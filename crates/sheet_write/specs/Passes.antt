@@ -48,8 +48,8 @@ pub record Compilable (s : List ℕ) (n t p seat inputs gates : ℕ) (names : Li
   pub gates-are : gates ≡ length (treeMade p (sheetTree n p s) .gates)
   pub few : gates ≤ 1024
   pub table : names ≡ tableOf 1025 (namesOf (sheetTree n p s))
-  pub parties : n < 256
+  pub parties : n ≤ 15
   pub threshold : t < 256
   pub prime : 2 ≤ p
-  pub small : p < 65536
+  pub small : p < 2147483648
   pub result : seat < 256

@@ -4,9 +4,11 @@ use plan::Output;
 use sheet_read::Part;
 ghost use mathlib.Core.Path.{_≡_};
 ghost use mathlib.Core.List.{[]};
-ghost use Prim.Native.Nat.{_+_, _*_, _-_, _/_, _<_, _≤_};
+ghost use Prim.Native.Nat.{suc, _+_, _*_, _-_, _/_, _<_, _≤_};
 ghost use lib.ListN.{length, getD};
-ghost use Rattle.plan_file.specs.Bodies.{written, gatesBytes, fileSize, planFile};
+ghost use Rattle.numbers.specs.Tables.{tab};
+ghost use Rattle.plan.specs.declared.Gate.the-variants.{Input};
+ghost use Rattle.plan_file.specs.Bodies.{written, gateBytes, gatesBytes, outBytes, pointsBytes, placeIn, outStart, fileSize, versionFor, planFile};
 ghost use Rattle.sheet_text.specs.Making.{sheetTree, treeBodies};
 ghost use Rattle.sheet_write.specs.Passes.{tableOf, inputsIn, Surveyed, Compilable};
 
@@ -45,16 +47,34 @@ fn party_at(names: &[usize], i: usize) -> usize
     (names[i] - 1) / 256
 }
 
+// The input gate of a name in the table.
+fn put_input(names: &[usize], i: usize, version: usize, out: &mut [u8])
+    ensures { λ _. ⌜ now (out .exit) ≡ written (now (out .entry)) (placeIn version i) (gateBytes version (Input ((getD (now (names .entry)) i 0 - 1) / 256))) ⌝ }
+{
+    plan_file::put_gate(out, version, i, Gate::Input(party_at(names, i)));
+}
+
 // The input gates, one for each of so many names.
-fn put_inputs(names: &[usize], count: usize, out: &mut [u8])
+fn put_inputs(names: &[usize], count: usize, version: usize, out: &mut [u8])
     requires { ⌜ count ≤ 1024 ⌝ }
-    ensures { λ _. ⌜ now (out .exit) ≡ written (now (out .entry)) 18 (gatesBytes (inputsIn count (now (names .entry)))) ⌝ }
+    ensures { λ _. ⌜ now (out .exit) ≡ written (now (out .entry)) (placeIn version 0) (gatesBytes version (inputsIn count (now (names .entry)))) ⌝ }
 {
     let mut i: usize = 0;
     while i < count {
-        plan_file::put_gate(out, i, Gate::Input(party_at(names, i)));
+        put_input(names, i, version, out);
         i += 1;
     }
+}
+
+// The out and the points 1 to n, after so many gates: wire `wire` goes to party `seat`.
+fn put_end(out: &mut [u8], version: usize, gates: usize, n: u32, seat: u32, wire: usize)
+    requires { ⌜ record { gates : gates ≤ 1024; n : n ≤ 15; seat : seat < 256 } ⌝ }
+    ensures { λ _. ⌜ now (out .exit) ≡ written (written (now (out .entry)) (outStart version gates 0) (outBytes (record { party = seat; wire = wire }))) (outStart version gates 1) (pointsBytes version (tab suc n)) ⌝ }
+{
+    let party = seat as usize;
+    plan_file::put_out(out, version, gates, 0, Output { party, wire });
+    let points = plan_file::out_start(version, gates, 1);
+    plan_file::put_first_points(out, version, points, n as usize);
 }
 
 // Writes the plan of a sheet that was checked: so many inputs, so many gates, and the result goes to party `seat`.
@@ -69,21 +89,15 @@ pub fn write_sheet(
     names: &mut [usize],
     out: &mut [u8],
 )
-    requires { ⌜ record { text : Compilable (now s) n t p seat inputs gates (now names); room : length (now out) ≡ fileSize gates 1 } ⌝ }
+    requires { ⌜ Compilable (now s) n t p seat inputs gates (now names) ⌝ }
+    requires { ⌜ length (now out) ≡ fileSize (versionFor p) n gates 1 ⌝ }
     ensures { λ _. ⌜ now (out .exit) ≡ planFile n t p (treeBodies p seat (sheetTree n p (now (s .entry)))) ⌝ }
 {
-    plan_file::put_contents(out, n, t, p, gates, 1);
-    put_inputs(names, inputs, out);
+    let version = plan_file::version_for(p);
+    plan_file::put_contents(out, version, n, t, p, gates, 1);
+    put_inputs(names, inputs, version, out);
     let Part::Made(wire, _, _) = sheet_read::read_sheet(s, n, p, inputs, names, out) else {
         return;
     };
-    plan_file::put_out(
-        out,
-        gates,
-        0,
-        Output {
-            party: seat as usize,
-            wire,
-        },
-    );
+    put_end(out, version, gates, n, seat, wire);
 }

@@ -8,6 +8,9 @@ mul-if1 c = search majorities
 returns : tie.Need-returns
 returns c = search majorities
 
+version-for-requires : tie.Need-version-for-requires
+version-for-requires c κs = search majorities
+
 file-size-requires : tie.Need-file-size-requires
 file-size-requires c κs = search majorities
 
@@ -38,6 +41,7 @@ check-majority-spec =
     (tie.spec
     mul-if1
     returns
+    version-for-requires
     file-size-requires
     array-borrow-prefix-room
     slice-aggregate-write-text

@@ -17,6 +17,9 @@ refusal-requires c κs = search importing
 returns : tie.Need-returns
 returns c = search importing
 
+version-for-requires : tie.Need-version-for-requires
+version-for-requires c κs = search importing
+
 file-size-requires : tie.Need-file-size-requires
 file-size-requires c κs = search importing
 
@@ -41,6 +44,7 @@ import-plan-spec =
     enum-told
     refusal-requires
     returns
+    version-for-requires
     file-size-requires
     returns-2
     write-text-requires

@@ -2,6 +2,9 @@ use Rattle.import_write.proofs.Whole.{filing}
 use Rattle.import_write.proofs.put_file.Statement.{statement}
 use Rattle.import_write.proofs.put_file.Tie as tie
 
+version-for-requires : tie.Need-version-for-requires
+version-for-requires c κs = search filing
+
 put-contents-requires : tie.Need-put-contents-requires
 put-contents-requires c κs = search filing
 
@@ -13,6 +16,12 @@ sub-put-outs c = search filing
 
 put-outs-requires : tie.Need-put-outs-requires
 put-outs-requires c κs = search filing
+
+out-start-requires : tie.Need-out-start-requires
+out-start-requires c κs = search filing
+
+put-first-points-requires : tie.Need-put-first-points-requires
+put-first-points-requires c κs = search filing
 
 same-length : tie.Need-same-length
 same-length c = search filing
@@ -27,10 +36,13 @@ pub put-file-spec : {M : Type 1} → statement M
 put-file-spec =
     tie.close
     (tie.spec
+    version-for-requires
     put-contents-requires
     put-all-requires
     sub-put-outs
     put-outs-requires
+    out-start-requires
+    put-first-points-requires
     same-length
     same-length-2
     returns)

@@ -5,10 +5,10 @@ use Rattle.import_write.proofs.put_gates.Statement.{statement}
 use Rattle.import_write.proofs.put_gates.Tie as tie
 
 abbrev Inv-loop : tie.InvT-loop
-Inv-loop s at gates p start held₀ out₀ e₀ g₀ k₀ held out e g k = Gating s at gates p start held₀ out₀ e g k held out
+Inv-loop s at gates version p start held₀ out₀ e₀ g₀ k₀ held out e g k = Gating s at gates version p start held₀ out₀ e g k held out
 
 abbrev μ-loop : tie.MeasureT-loop
-μ-loop s at gates p start held₀ out₀ e₀ g₀ k₀ held out e g k = gates - k
+μ-loop s at gates version p start held₀ out₀ e₀ g₀ k₀ held out e g k = gates - k
 
 loop-holds : tie.Need-loop-holds Inv-loop μ-loop
 loop-holds c = search gating

@@ -5,10 +5,10 @@ use Rattle.import_write.proofs.put_inputs.Statement.{statement}
 use Rattle.import_write.proofs.put_inputs.Tie as tie
 
 abbrev Inv-loop : tie.InvT-loop
-Inv-loop s at values out₀ e₀ g₀ k₀ out e g k = Taking s at values out₀ e g k out
+Inv-loop s at values version out₀ e₀ g₀ k₀ out e g k = Taking s at values version out₀ e g k out
 
 abbrev μ-loop : tie.MeasureT-loop
-μ-loop s at values out₀ e₀ g₀ k₀ out e g k = values - k
+μ-loop s at values version out₀ e₀ g₀ k₀ out e g k = values - k
 
 loop-holds : tie.Need-loop-holds Inv-loop μ-loop
 loop-holds c = search naming

@@ -32,8 +32,8 @@ enum-known-x-3 c = search putting
 held-at-requires-5 : tie.Need-held-at-requires-5
 held-at-requires-5 c κs = search putting
 
-sub-t26 : tie.Need-sub-t26
-sub-t26 c = search putting
+sub-t27 : tie.Need-sub-t27
+sub-t27 c = search putting
 
 put-pair-requires : tie.Need-put-pair-requires
 put-pair-requires c κs = search putting
@@ -70,7 +70,7 @@ put-made-spec =
     put-gate-requires
     enum-known-x-3
     held-at-requires-5
-    sub-t26
+    sub-t27
     put-pair-requires
     same-length
     returns

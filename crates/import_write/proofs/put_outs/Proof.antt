@@ -5,10 +5,10 @@ use Rattle.import_write.proofs.put_outs.Statement.{statement}
 use Rattle.import_write.proofs.put_outs.Tie as tie
 
 abbrev Inv-loop : tie.InvT-loop
-Inv-loop out₀ gates held w count o₀ out o = Outing gates held w count out₀ o out
+Inv-loop out₀ version gates held w count o₀ out o = Outing version gates held w count out₀ o out
 
 abbrev μ-loop : tie.MeasureT-loop
-μ-loop out₀ gates held w count o₀ out o = count - o
+μ-loop out₀ version gates held w count o₀ out o = count - o
 
 loop-holds : tie.Need-loop-holds Inv-loop μ-loop
 loop-holds c = search outing

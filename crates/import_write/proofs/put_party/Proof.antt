@@ -5,10 +5,10 @@ use Rattle.import_write.proofs.put_party.Statement.{statement}
 use Rattle.import_write.proofs.put_party.Tie as tie
 
 abbrev Inv-loop : tie.InvT-loop
-Inv-loop out₀ start party count i₀ out i = Naming start party count out₀ i out
+Inv-loop out₀ version start party count i₀ out i = Naming version start party count out₀ i out
 
 abbrev μ-loop : tie.MeasureT-loop
-μ-loop out₀ start party count i₀ out i = count - i
+μ-loop out₀ version start party count i₀ out i = count - i
 
 loop-holds : tie.Need-loop-holds Inv-loop μ-loop
 loop-holds c = search naming

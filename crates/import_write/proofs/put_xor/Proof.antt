@@ -2,8 +2,8 @@ use Rattle.import_write.proofs.Bytes.{putting}
 use Rattle.import_write.proofs.put_xor.Statement.{statement}
 use Rattle.import_write.proofs.put_xor.Tie as tie
 
-sub-t10 : tie.Need-sub-t10
-sub-t10 c = search putting
+sub-t11 : tie.Need-sub-t11
+sub-t11 c = search putting
 
 put-pair-requires : tie.Need-put-pair-requires
 put-pair-requires c κs = search putting
@@ -11,11 +11,11 @@ put-pair-requires c κs = search putting
 add-put-pair : tie.Need-add-put-pair
 add-put-pair c = search putting
 
-add-t15 : tie.Need-add-t15
-add-t15 c = search putting
-
 add-t16 : tie.Need-add-t16
 add-t16 c = search putting
+
+add-t17 : tie.Need-add-t17
+add-t17 c = search putting
 
 put-pair-requires-2 : tie.Need-put-pair-requires-2
 put-pair-requires-2 c κs = search putting
@@ -30,11 +30,11 @@ pub put-xor-spec : {M : Type 1} → statement M
 put-xor-spec =
     tie.close
     (tie.spec
-    sub-t10
+    sub-t11
     put-pair-requires
     add-put-pair
-    add-t15
     add-t16
+    add-t17
     put-pair-requires-2
     same-length
     returns)

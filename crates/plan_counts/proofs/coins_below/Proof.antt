@@ -12,8 +12,8 @@ abbrev μ-loop : tie.MeasureT-loop
 loop-holds : tie.Need-loop-holds Inv-loop μ-loop
 loop-holds c = search counting
 
-gate-in-requires : tie.Need-gate-in-requires Inv-loop μ-loop
-gate-in-requires c κs = search counting
+gate-at-requires : tie.Need-gate-at-requires Inv-loop μ-loop
+gate-at-requires c κs = search counting
 
 own-coins-at-requires : tie.Need-own-coins-at-requires Inv-loop μ-loop
 own-coins-at-requires c κs = search counting
@@ -40,7 +40,7 @@ coins-below-spec =
     Inv-loop
     μ-loop
     loop-holds
-    gate-in-requires
+    gate-at-requires
     own-coins-at-requires
     add-k
     add-below

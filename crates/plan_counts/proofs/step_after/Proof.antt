@@ -16,8 +16,8 @@ loop-holds c = search stepping
 rounds-at-requires : tie.Need-rounds-at-requires Inv-loop μ-loop
 rounds-at-requires c κs = search stepping
 
-gate-in-requires : tie.Need-gate-in-requires Inv-loop μ-loop
-gate-in-requires c κs = search stepping
+gate-at-requires : tie.Need-gate-at-requires Inv-loop μ-loop
+gate-at-requires c κs = search stepping
 
 step-of-requires : tie.Need-step-of-requires Inv-loop μ-loop
 step-of-requires c κs = search stepping
@@ -48,7 +48,7 @@ step-after-spec =
     μ-loop
     loop-holds
     rounds-at-requires
-    gate-in-requires
+    gate-at-requires
     step-of-requires
     returns
     sub-left

@@ -12,8 +12,8 @@ abbrev μ-loop : tie.MeasureT-loop
 loop-holds : tie.Need-loop-holds Inv-loop μ-loop
 loop-holds c = search counting
 
-gate-in-requires : tie.Need-gate-in-requires Inv-loop μ-loop
-gate-in-requires c κs = search counting
+gate-at-requires : tie.Need-gate-at-requires Inv-loop μ-loop
+gate-at-requires c κs = search counting
 
 kind-requires : tie.Need-kind-requires Inv-loop μ-loop
 kind-requires c κs = search counting
@@ -64,7 +64,7 @@ tally-of-spec =
     Inv-loop
     μ-loop
     loop-holds
-    gate-in-requires
+    gate-at-requires
     kind-requires
     one-if-requires
     add-inputs

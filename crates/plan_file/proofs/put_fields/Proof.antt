@@ -2,32 +2,23 @@ use Rattle.plan_file.proofs.Writing.{writing}
 use Rattle.plan_file.proofs.put_fields.Statement.{statement}
 use Rattle.plan_file.proofs.put_fields.Tie as tie
 
-returns : tie.Need-returns
-returns c = search writing
+layout-for-requires : tie.Need-layout-for-requires
+layout-for-requires c κs = search writing
 
-mul-at : tie.Need-mul-at
-mul-at c = search writing
+put-narrow-requires : tie.Need-put-narrow-requires
+put-narrow-requires c κs = search writing
 
-add-at : tie.Need-add-at
-add-at c = search writing
-
-put-two-requires : tie.Need-put-two-requires
-put-two-requires c κs = search writing
-
-add-put-word : tie.Need-add-put-word
-add-put-word c = search writing
-
-put-word-requires : tie.Need-put-word-requires
-put-word-requires c κs = search writing
-
-add-put-word-2 : tie.Need-add-put-word-2
-add-put-word-2 c = search writing
-
-put-word-requires-2 : tie.Need-put-word-requires-2
-put-word-requires-2 c κs = search writing
+put-wide-requires : tie.Need-put-wide-requires
+put-wide-requires c κs = search writing
 
 same-length : tie.Need-same-length
 same-length c = search writing
+
+returns : tie.Need-returns
+returns c = search writing
+
+same-length-2 : tie.Need-same-length-2
+same-length-2 c = search writing
 
 returns-2 : tie.Need-returns-2
 returns-2 c = search writing
@@ -36,13 +27,10 @@ pub put-fields-spec : {M : Type 1} → statement M
 put-fields-spec =
     tie.close
     (tie.spec
-    returns
-    mul-at
-    add-at
-    put-two-requires
-    add-put-word
-    put-word-requires
-    add-put-word-2
-    put-word-requires-2
+    layout-for-requires
+    put-narrow-requires
+    put-wide-requires
     same-length
+    returns
+    same-length-2
     returns-2)

@@ -2,17 +2,8 @@ use Rattle.plan_file.proofs.Writing.{writing}
 use Rattle.plan_file.proofs.put_out.Statement.{statement}
 use Rattle.plan_file.proofs.put_out.Tie as tie
 
-mul-at : tie.Need-mul-at
-mul-at c = search writing
-
-add-at : tie.Need-add-at
-add-at c = search writing
-
-mul-at-2 : tie.Need-mul-at-2
-mul-at-2 c = search writing
-
-add-at-2 : tie.Need-add-at-2
-add-at-2 c = search writing
+out-start-requires : tie.Need-out-start-requires
+out-start-requires c κs = search writing
 
 cast-put : tie.Need-cast-put
 cast-put c = search writing
@@ -36,10 +27,7 @@ pub put-out-spec : {M : Type 1} → statement M
 put-out-spec =
     tie.close
     (tie.spec
-    mul-at
-    add-at
-    mul-at-2
-    add-at-2
+    out-start-requires
     cast-put
     put-requires
     add-put-word

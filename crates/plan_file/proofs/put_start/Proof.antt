@@ -8,11 +8,14 @@ put-magic-requires c κs = search writing
 cast-put-two : tie.Need-cast-put-two
 cast-put-two c = search writing
 
+cast-put-two-2 : tie.Need-cast-put-two-2
+cast-put-two-2 c = search writing
+
 put-two-requires : tie.Need-put-two-requires
 put-two-requires c κs = search writing
 
-cast-put-two-2 : tie.Need-cast-put-two-2
-cast-put-two-2 c = search writing
+cast-put-two-3 : tie.Need-cast-put-two-3
+cast-put-two-3 c = search writing
 
 put-two-requires-2 : tie.Need-put-two-requires-2
 put-two-requires-2 c κs = search writing
@@ -29,8 +32,9 @@ put-start-spec =
     (tie.spec
     put-magic-requires
     cast-put-two
-    put-two-requires
     cast-put-two-2
+    put-two-requires
+    cast-put-two-3
     put-two-requires-2
     same-length
     returns)

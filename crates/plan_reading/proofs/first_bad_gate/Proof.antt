@@ -14,17 +14,17 @@ abbrev μ-loop : tie.MeasureT-loop
 byte-requires : tie.Need-byte-requires Inv-loop μ-loop
 byte-requires c κs = search seeking
 
-word-requires : tie.Need-word-requires Inv-loop μ-loop
-word-requires c κs = search seeking
+field-requires : tie.Need-field-requires Inv-loop μ-loop
+field-requires c κs = search seeking
 
-word-requires-2 : tie.Need-word-requires-2 Inv-loop μ-loop
-word-requires-2 c κs = search seeking
+field-requires-2 : tie.Need-field-requires-2 Inv-loop μ-loop
+field-requires-2 c κs = search seeking
 
 loop-holds : tie.Need-loop-holds Inv-loop μ-loop
 loop-holds c = search seeking
 
-gate-in-requires : tie.Need-gate-in-requires Inv-loop μ-loop
-gate-in-requires c κs = search seeking
+gate-at-requires : tie.Need-gate-at-requires Inv-loop μ-loop
+gate-at-requires c κs = search seeking
 
 gate-ok-requires : tie.Need-gate-ok-requires Inv-loop μ-loop
 gate-ok-requires c κs = search seeking
@@ -51,10 +51,10 @@ first-bad-gate-spec =
     Inv-loop
     μ-loop
     byte-requires
-    word-requires
-    word-requires-2
+    field-requires
+    field-requires-2
     loop-holds
-    gate-in-requires
+    gate-at-requires
     gate-ok-requires
     returns
     add-g

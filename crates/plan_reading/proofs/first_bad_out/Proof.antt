@@ -14,11 +14,11 @@ abbrev μ-loop : tie.MeasureT-loop
 byte-requires : tie.Need-byte-requires Inv-loop μ-loop
 byte-requires c κs = search seeking
 
-word-requires : tie.Need-word-requires Inv-loop μ-loop
-word-requires c κs = search seeking
+field-requires : tie.Need-field-requires Inv-loop μ-loop
+field-requires c κs = search seeking
 
-word-requires-2 : tie.Need-word-requires-2 Inv-loop μ-loop
-word-requires-2 c κs = search seeking
+field-requires-2 : tie.Need-field-requires-2 Inv-loop μ-loop
+field-requires-2 c κs = search seeking
 
 loop-holds : tie.Need-loop-holds Inv-loop μ-loop
 loop-holds c = search seeking
@@ -51,8 +51,8 @@ first-bad-out-spec =
     Inv-loop
     μ-loop
     byte-requires
-    word-requires
-    word-requires-2
+    field-requires
+    field-requires-2
     loop-holds
     out-at-requires
     out-ok-requires

@@ -5,11 +5,11 @@ use Rattle.plan_reading.proofs.first_bad_point.Tie as tie
 byte-requires : tie.Need-byte-requires
 byte-requires c κs = search pointing
 
-word-requires : tie.Need-word-requires
-word-requires c κs = search pointing
+field-requires : tie.Need-field-requires
+field-requires c κs = search pointing
 
-byte-requires-2 : tie.Need-byte-requires-2
-byte-requires-2 c κs = search pointing
+layout-of-requires : tie.Need-layout-of-requires
+layout-of-requires c κs = search pointing
 
 returns : tie.Need-returns
 returns c = search pointing
@@ -23,4 +23,10 @@ returns-2 c = search pointing
 pub first-bad-point-spec : {M : Type 1} → statement M
 first-bad-point-spec =
     tie.close
-    (tie.spec byte-requires word-requires byte-requires-2 returns seek-point-requires returns-2)
+    (tie.spec
+    byte-requires
+    field-requires
+    layout-of-requires
+    returns
+    seek-point-requires
+    returns-2)

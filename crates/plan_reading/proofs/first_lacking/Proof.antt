@@ -23,8 +23,8 @@ mul-if1 c = search majorities
 returns : tie.Need-returns Inv-loop μ-loop
 returns c = search majorities
 
-word-requires : tie.Need-word-requires Inv-loop μ-loop
-word-requires c κs = search majorities
+field-requires : tie.Need-field-requires Inv-loop μ-loop
+field-requires c κs = search majorities
 
 loop-holds : tie.Need-loop-holds Inv-loop μ-loop
 loop-holds c = search majorities
@@ -60,7 +60,7 @@ first-lacking-spec =
     byte-requires-2
     mul-if1
     returns
-    word-requires
+    field-requires
     loop-holds
     gate-at-requires
     multiplies-requires

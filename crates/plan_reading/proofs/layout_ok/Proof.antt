@@ -8,29 +8,23 @@ byte-requires c κs = search laying
 returns : tie.Need-returns
 returns c = search laying
 
-head-requires : tie.Need-head-requires
-head-requires c κs = search laying
+field-requires : tie.Need-field-requires
+field-requires c κs = search laying
 
-word-requires : tie.Need-word-requires
-word-requires c κs = search laying
+gate-place-requires : tie.Need-gate-place-requires
+gate-place-requires c κs = search laying
 
 returns-2 : tie.Need-returns-2
 returns-2 c = search laying
 
-word-requires-2 : tie.Need-word-requires-2
-word-requires-2 c κs = search laying
+field-requires-2 : tie.Need-field-requires-2
+field-requires-2 c κs = search laying
 
 is-between-requires : tie.Need-is-between-requires
 is-between-requires c κs = search laying
 
 returns-3 : tie.Need-returns-3
 returns-3 c = search laying
-
-mul-outs-placed : tie.Need-mul-outs-placed
-mul-outs-placed c = search laying
-
-add-outs-placed : tie.Need-add-outs-placed
-add-outs-placed c = search laying
 
 outs-placed-requires : tie.Need-outs-placed-requires
 outs-placed-requires c κs = search laying
@@ -44,13 +38,11 @@ layout-ok-spec =
     (tie.spec
     byte-requires
     returns
-    head-requires
-    word-requires
+    field-requires
+    gate-place-requires
     returns-2
-    word-requires-2
+    field-requires-2
     is-between-requires
     returns-3
-    mul-outs-placed
-    add-outs-placed
     outs-placed-requires
     returns-4)

@@ -1,4 +1,4 @@
-use Rattle.plan.proofs.Ways.{reads, word-small}
+use Rattle.plan.proofs.Ways.{reads}
 use Rattle.plan_reading.proofs.read.Statement.{statement}
 use Rattle.plan_reading.proofs.read.Tie as tie
 
@@ -15,10 +15,10 @@ enum-known-r : tie.Need-enum-known-r
 enum-known-r c = search reads
 
 returns : tie.Need-returns
-returns c = record { eq = search reads; small = word-small _ 8 (c .before .before .before .before .shared-slice-known .given 8) (c .before .before .before .before .shared-slice-known .given 9) }
+returns c = record { eq = search reads }
 
 returns-2 : tie.Need-returns-2
-returns-2 c = record { eq = search reads; small = word-small _ 8 (c .before .before .before .before .shared-slice-known .given 8) (c .before .before .before .before .shared-slice-known .given 9) }
+returns-2 c = record { eq = search reads }
 
 pub read-spec : {M : Type 1} → statement M
 read-spec =

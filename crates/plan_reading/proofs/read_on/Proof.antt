@@ -5,8 +5,8 @@ use Rattle.plan_reading.proofs.read_on.Tie as tie
 byte-requires : tie.Need-byte-requires
 byte-requires c κs = search reads
 
-word-requires : tie.Need-word-requires
-word-requires c κs = search reads
+field-requires : tie.Need-field-requires
+field-requires c κs = search reads
 
 cast-field-above : tie.Need-cast-field-above
 cast-field-above c = search reads
@@ -26,11 +26,11 @@ returns c = search reads
 byte-requires-2 : tie.Need-byte-requires-2
 byte-requires-2 c κs = search reads
 
-word-requires-2 : tie.Need-word-requires-2
-word-requires-2 c κs = search reads
+field-requires-2 : tie.Need-field-requires-2
+field-requires-2 c κs = search reads
 
-word-requires-3 : tie.Need-word-requires-3
-word-requires-3 c κs = search reads
+field-requires-3 : tie.Need-field-requires-3
+field-requires-3 c κs = search reads
 
 check-body-requires : tie.Need-check-body-requires
 check-body-requires c κs = search reads
@@ -46,15 +46,15 @@ read-on-spec =
     tie.close
     (tie.spec
     byte-requires
-    word-requires
+    field-requires
     cast-field-above
     field-above-requires
     enum-known-field
     enum-told
     returns
     byte-requires-2
-    word-requires-2
-    word-requires-3
+    field-requires-2
+    field-requires-3
     check-body-requires
     reading-of-requires
     returns-2)

@@ -20,6 +20,9 @@ code-requires c κs = search answering
 returns : tie.Need-returns
 returns c = search answering
 
+version-for-requires : tie.Need-version-for-requires
+version-for-requires c κs = search answering
+
 file-size-requires : tie.Need-file-size-requires
 file-size-requires c κs = search answering
 
@@ -39,6 +42,7 @@ pool-sheet-size-spec =
     refusal-requires
     code-requires
     returns
+    version-for-requires
     file-size-requires
     value-requires
     returns-2)

@@ -2,17 +2,8 @@ use Rattle.run_views.proofs.ViewLaws.{sorting}
 use Rattle.run_views.proofs.is_input_at.Statement.{statement}
 use Rattle.run_views.proofs.is_input_at.Tie as tie
 
-head-requires : tie.Need-head-requires
-head-requires c κs = search sorting
-
-mul-at : tie.Need-mul-at
-mul-at c = search sorting
-
-add-at : tie.Need-add-at
-add-at c = search sorting
-
-shared-slice-read-if1 : tie.Need-shared-slice-read-if1
-shared-slice-read-if1 c = search sorting
+byte-requires : tie.Need-byte-requires
+byte-requires c κs = search sorting
 
 returns : tie.Need-returns
 returns c = search sorting
@@ -28,13 +19,4 @@ returns-2 c = search sorting
 
 pub is-input-at-spec : {M : Type 1} → statement M
 is-input-at-spec =
-    tie.close
-    (tie.spec
-    head-requires
-    mul-at
-    add-at
-    shared-slice-read-if1
-    returns
-    gate-at-requires
-    is-input-of-requires
-    returns-2)
+    tie.close (tie.spec byte-requires returns gate-at-requires is-input-of-requires returns-2)

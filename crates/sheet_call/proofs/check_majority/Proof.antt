@@ -23,6 +23,9 @@ enum-told-2 c = search majorities
 returns-2 : tie.Need-returns-2
 returns-2 c = search majorities
 
+version-for-requires : tie.Need-version-for-requires
+version-for-requires c κs = search majorities
+
 file-size-requires : tie.Need-file-size-requires
 file-size-requires c κs = search majorities
 
@@ -36,7 +39,7 @@ slice-aggregate-write-sheet-2 : tie.Need-slice-aggregate-write-sheet-2
 slice-aggregate-write-sheet-2 c = search majorities
 
 write-sheet-requires : tie.Need-write-sheet-requires
-write-sheet-requires c κs = search majorities
+write-sheet-requires c κs = (search majorities, search majorities)
 
 array-share-prefix-room : tie.Need-array-share-prefix-room
 array-share-prefix-room c = search majorities
@@ -61,6 +64,7 @@ check-majority-spec =
     enum-told
     enum-told-2
     returns-2
+    version-for-requires
     file-size-requires
     slice-aggregate-write-sheet
     array-borrow-prefix-room

@@ -20,6 +20,9 @@ refusal-requires c κs = search compiling
 returns : tie.Need-returns
 returns c = search compiling
 
+version-for-requires : tie.Need-version-for-requires
+version-for-requires c κs = search compiling
+
 file-size-requires : tie.Need-file-size-requires
 file-size-requires c κs = search compiling
 
@@ -30,7 +33,7 @@ slice-aggregate-write-sheet : tie.Need-slice-aggregate-write-sheet
 slice-aggregate-write-sheet c = search compiling
 
 write-sheet-requires : tie.Need-write-sheet-requires
-write-sheet-requires c κs = search compiling
+write-sheet-requires c κs = (search compiling, search compiling)
 
 same-length : tie.Need-same-length
 same-length c = search compiling
@@ -48,6 +51,7 @@ compile-spec =
     enum-told
     refusal-requires
     returns
+    version-for-requires
     file-size-requires
     returns-2
     slice-aggregate-write-sheet

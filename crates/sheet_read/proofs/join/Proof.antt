@@ -14,6 +14,9 @@ returns c = search joining
 returns-2 : tie.Need-returns-2
 returns-2 c = search joining
 
+version-for-requires : tie.Need-version-for-requires
+version-for-requires c κs = search joining
+
 put-gate-requires : tie.Need-put-gate-requires
 put-gate-requires c κs = search joining
 
@@ -67,6 +70,7 @@ join-spec =
     enum-told
     returns
     returns-2
+    version-for-requires
     put-gate-requires
     next-requires
     same-length

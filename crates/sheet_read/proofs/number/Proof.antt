@@ -14,6 +14,9 @@ enum-told c = search leaving
 returns : tie.Need-returns
 returns c = search leaving
 
+version-for-requires : tie.Need-version-for-requires
+version-for-requires c κs = search leaving
+
 next-requires : tie.Need-next-requires
 next-requires c κs = search leaving
 
@@ -43,6 +46,7 @@ number-spec =
     enum-known-v
     enum-told
     returns
+    version-for-requires
     next-requires
     put-gate-requires
     put-gate-requires-2

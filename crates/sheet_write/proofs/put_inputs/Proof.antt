@@ -5,19 +5,16 @@ use Rattle.sheet_write.proofs.put_inputs.Statement.{statement}
 use Rattle.sheet_write.proofs.put_inputs.Tie as tie
 
 abbrev Inv-loop : tie.InvT-loop
-Inv-loop names count out₀ i₀ out i = Listing count names out₀ i out
+Inv-loop names count version out₀ i₀ out i = Listing version count names out₀ i out
 
 abbrev μ-loop : tie.MeasureT-loop
-μ-loop names count out₀ i₀ out i = count - i
+μ-loop names count version out₀ i₀ out i = count - i
 
 loop-holds : tie.Need-loop-holds Inv-loop μ-loop
 loop-holds c = search listing
 
-party-at-requires : tie.Need-party-at-requires Inv-loop μ-loop
-party-at-requires c κs = search listing
-
-put-gate-requires : tie.Need-put-gate-requires Inv-loop μ-loop
-put-gate-requires c κs = search listing
+put-input-requires : tie.Need-put-input-requires Inv-loop μ-loop
+put-input-requires c κs = search listing
 
 add-i : tie.Need-add-i Inv-loop μ-loop
 add-i c = search listing
@@ -41,8 +38,7 @@ put-inputs-spec =
     Inv-loop
     μ-loop
     loop-holds
-    party-at-requires
-    put-gate-requires
+    put-input-requires
     add-i
     loop-less
     loop-again

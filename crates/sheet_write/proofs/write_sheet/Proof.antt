@@ -2,6 +2,9 @@ use Rattle.sheet_write.proofs.Passing.{compiling}
 use Rattle.sheet_write.proofs.write_sheet.Statement.{statement}
 use Rattle.sheet_write.proofs.write_sheet.Tie as tie
 
+version-for-requires : tie.Need-version-for-requires
+version-for-requires c κs = search compiling
+
 put-contents-requires : tie.Need-put-contents-requires
 put-contents-requires c κs = search compiling
 
@@ -26,8 +29,8 @@ same-length-2 c = search compiling
 returns : tie.Need-returns
 returns c = search compiling
 
-put-out-requires : tie.Need-put-out-requires
-put-out-requires c κs = search compiling
+put-end-requires : tie.Need-put-end-requires
+put-end-requires c κs = search compiling
 
 same-length-3 : tie.Need-same-length-3
 same-length-3 c = search compiling
@@ -42,6 +45,7 @@ pub write-sheet-spec : {M : Type 1} → statement M
 write-sheet-spec =
     tie.close
     (tie.spec
+    version-for-requires
     put-contents-requires
     put-inputs-requires
     read-sheet-requires
@@ -50,7 +54,7 @@ write-sheet-spec =
     same-length
     same-length-2
     returns
-    put-out-requires
+    put-end-requires
     same-length-3
     same-length-4
     returns-2)
