@@ -18,7 +18,7 @@ fn name(random: &mut Random, n: u16) -> String {
 }
 
 /// Words of a formula of so many names and numbers, in brackets of this depth.
-fn grow(random: &mut Random, words: &mut Vec<String>, n: u16, p: u16, operands: usize, depth: usize) {
+fn grow(random: &mut Random, words: &mut Vec<String>, n: u16, p: u32, operands: usize, depth: usize) {
     let (mut left, operators) = (operands, random.pick(&["+-*", "+-*", "+*", "-*", "+-"]));
     while left > 0 {
         if left < operands {
@@ -51,7 +51,7 @@ fn is_operator(word: &str) -> bool {
 
 impl Formula {
     /// A formula of so many names and numbers, a name among them.
-    pub fn new(random: &mut Random, n: u16, p: u16, operands: usize) -> Formula {
+    pub fn new(random: &mut Random, n: u16, p: u32, operands: usize) -> Formula {
         let mut formula = Formula { words: Vec::new() };
         grow(random, &mut formula.words, n, p, operands, 0);
         if !formula.words.iter().any(|word| is_name(word)) {

@@ -1,6 +1,7 @@
 //! Circuits in Bristol Fashion, imported into plans (document 02, R-1).
 
-use crate::plan::{plan_check, plan_file, refuse, require, Gate, Out, Refusal};
+use crate::field::Field;
+use crate::plan::{file, plan_check, refuse, require, Gate, Out, Refusal};
 
 /// What a gate of a circuit does with the wires it reads.
 #[derive(Clone, Copy, Debug, PartialEq, Eq)]
@@ -116,7 +117,7 @@ impl Circuit {
     }
 
     /// The plan's gates and outs, modulo a prime.
-    fn plan(&self, p: u16) -> (Vec<Gate>, Vec<Out>) {
+    fn plan(&self, p: u32) -> (Vec<Gate>, Vec<Out>) {
         let mut gates = Vec::new();
         for (value, &width) in self.inputs.iter().enumerate() {
             gates.extend(vec![Gate::Input(value as u16 + 1); width]);
@@ -164,8 +165,15 @@ impl Circuit {
 pub fn plan_sizes(n: u32, t: u32, p: u32) -> Result<(), Refusal> {
     require((1..=15).contains(&n), 3, 0)?;
     require(t < n, 4, 0)?;
-    let prime = |p: u32| p >= 2 && (2..).take_while(|d| d * d <= p).all(|d| p % d != 0);
-    require(p <= 65_535 && prime(p) && p > n, 5, 0)
+    require(Field::new(p).is_some() && p > n, 5, 0)
+}
+
+/// The file of a made plan that passes: of version 1, or of version 3 with points 1 to n where p is above 65,535.
+pub fn made_file(n: u32, t: u32, p: u32, gates: &[Gate], outs: &[Out]) -> Result<Vec<u8>, Refusal> {
+    let points: Vec<u32> = (1..=n).collect();
+    let file = file(if p > 65_535 { 3 } else { 1 }, (n as u8, t as u8, p), gates, outs, &points);
+    plan_check(&file)?;
+    Ok(file)
 }
 
 /// The plan's file, or the refusal: 23, 24, then those of any plan.
@@ -175,10 +183,8 @@ pub fn import_file(text: &[u8], n: u32, t: u32, p: u32) -> Result<Vec<u8>, Refus
     };
     require(circuit.size() <= 1024 && circuit.outputs.iter().sum::<usize>() <= 64, 24, 0)?;
     plan_sizes(n, t, p)?;
-    let (gates, outs) = circuit.plan(p as u16);
-    let file = plan_file(n as u8, t as u8, p as u16, &gates, &outs);
-    plan_check(&file)?;
-    Ok(file)
+    let (gates, outs) = circuit.plan(p);
+    made_file(n, t, p, &gates, &outs)
 }
 
 /// Imports a circuit into a lent buffer.

@@ -5,12 +5,14 @@
 //! plan without multiply gates needs only t < n.
 
 pub mod charge;
+pub mod convert;
 pub mod field;
 pub mod formulas;
 pub mod import;
 pub mod library;
 pub mod matching;
 pub mod plan;
+pub mod primes;
 pub mod program;
 pub mod random;
 pub mod run;

@@ -1,6 +1,7 @@
 //! The C interface: the product's library, and the reference in the same form.
 
 use crate::charge::charge;
+use crate::convert::{convert, convert_file};
 use crate::import::{import, import_file};
 use crate::matching::matching;
 use crate::plan::{plan_check, refuse, Plan, Refusal};
@@ -23,6 +24,8 @@ pub struct Interface {
     pub sheet: fn(&[u8], u32, u32, u32, u32, &mut [u8]) -> u64,
     pub sheet_size: fn(&[u8], u32, u32, u32, u32) -> u64,
     pub charge: fn(&[u8], u32, &mut [u8]) -> u64,
+    pub convert: fn(&[u8], &mut [u8]) -> u64,
+    pub convert_size: fn(&[u8]) -> u64,
 }
 
 /// An answer's 64 bits.
@@ -38,7 +41,7 @@ fn seat_size(plan: &[u8], seat: u16, call: u16, what: u16) -> Result<usize, Refu
     let plan = Plan::read(plan)?;
     plan.seat(seat)?;
     let call = usize::from(call);
-    Ok(2 * match what {
+    Ok(4 * match what {
         0 => plan.figures_of(seat),
         1 => plan.coins_of(seat),
         2 => 1 + plan.gates.len(),
@@ -52,7 +55,7 @@ fn seat_size(plan: &[u8], seat: u16, call: u16, what: u16) -> Result<usize, Refu
 fn run_size(plan: &[u8], set: u16, what: u16) -> Result<usize, Refusal> {
     let plan = Plan::read(plan)?;
     let Ok(view) = plan.view(set) else { return refuse(9) };
-    Ok(2 * match what {
+    Ok(4 * match what {
         0 => plan.inputs.len(),
         1 => plan.coins(),
         2 => view,
@@ -77,6 +80,8 @@ pub const REFERENCE: Interface = Interface {
     sheet: |text, n, t, p, seat, plan| answer(sheet(text, n, t, p, seat, plan).map(|_| 0)),
     sheet_size: |text, n, t, p, seat| answer(sheet_file(text, n, t, p, seat).map(|file| file.len())),
     charge: |plan, price, parts| answer(charge(plan, price, parts)),
+    convert: |plan, out| answer(convert(plan, out).map(|_| 0)),
+    convert_size: |plan| answer(convert_file(plan).map(|file| file.len())),
 };
 
 /// The product's static library.
@@ -149,6 +154,8 @@ pub const LIBRARY: Interface = {
             ) -> u64;
             pub fn pool_sheet_size(text: Bytes, text_len: usize, n: u32, t: u32, p: u32, seat: u32) -> u64;
             pub fn pool_charge(plan: Bytes, plan_len: usize, price: u32, parts: *mut u8, parts_len: usize) -> u64;
+            pub fn pool_convert(plan: Bytes, plan_len: usize, out: *mut u8, out_len: usize) -> u64;
+            pub fn pool_convert_size(plan: Bytes, plan_len: usize) -> u64;
         }
     }
     Interface {
@@ -211,6 +218,8 @@ pub const LIBRARY: Interface = {
         charge: |plan, price, parts| unsafe {
             c::pool_charge(plan.as_ptr(), plan.len(), price, parts.as_mut_ptr(), parts.len())
         },
+        convert: |plan, out| unsafe { c::pool_convert(plan.as_ptr(), plan.len(), out.as_mut_ptr(), out.len()) },
+        convert_size: |plan| unsafe { c::pool_convert_size(plan.as_ptr(), plan.len()) },
     }
 };
 

@@ -20,7 +20,7 @@ pub fn matching(
     let first = first.below(p, 11)?.to_vec();
     let second = second.below(p, 11)?.to_vec();
     let coins = List::new(coins, plan.coins(), 12)?.below(p, 13)?.to_vec();
-    require(matched.len() == 2 * coins.len(), 19, 0)?;
+    require(matched.len() == 4 * coins.len(), 19, 0)?;
     let differs = plan.figure_seats().enumerate().find(|&(i, seat)| members.contains(&seat) && first[i] != second[i]);
     require(differs.is_none(), 21, differs.map_or(0, |(i, _)| i))?;
     let (granted, asked) = (ideal(&plan, &first), ideal(&plan, &second));
@@ -31,14 +31,14 @@ pub fn matching(
 }
 
 /// Steps both runs side by side; each dealing by a non-member is moved by its change times δ.
-fn matched_coins(plan: &Plan, members: &[u16], figures: [&[u16]; 2], mut coins: Vec<u16>) -> Vec<u16> {
+fn matched_coins(plan: &Plan, members: &[u16], figures: [&[u32]; 2], mut coins: Vec<u32>) -> Vec<u32> {
     let field = plan.field;
-    let points: Vec<u16> = members.iter().map(|&seat| plan.point(seat)).collect();
+    let points: Vec<u32> = members.iter().map(|&seat| plan.point(seat)).collect();
     let delta = field.delta(&points, plan.t);
     let tables = Tables::new(plan);
     let mut shares: [Vec<Seats>; 2] = Default::default();
     let mut place = 0;
-    let mut deal_both = |dealer: u16, values: [u16; 2]| -> [Seats; 2] {
+    let mut deal_both = |dealer: u16, values: [u32; 2]| -> [Seats; 2] {
         let own = &mut coins[place..place + plan.t];
         place += plan.t;
         let before = tables.deal(plan, values[0], own);

@@ -28,8 +28,8 @@ pub fn require(holds: bool, number: u8, place: usize) -> Result<(), Refusal> {
 pub enum Gate {
     Input(u16),
     Add(usize, usize),
-    Scale(usize, u16),
-    Offset(usize, u16),
+    Scale(usize, u32),
+    Offset(usize, u32),
     Multiply(usize, usize),
 }
 
@@ -48,7 +48,7 @@ pub struct Plan {
     pub t: usize,
     pub field: Field,
     /// Each seat's point, seat 1 first.
-    pub points: Vec<u16>,
+    pub points: Vec<u32>,
     pub gates: Vec<Gate>,
     pub outs: Vec<Out>,
     /// The input gates in gate order: wire and seat.
@@ -62,12 +62,76 @@ pub fn number(bytes: &[u8], i: usize) -> u16 {
     u16::from_le_bytes([bytes[i], bytes[i + 1]])
 }
 
-/// A gate's six bytes, unless the gate at `g` breaks its kind's rule.
-fn gate(bytes: &[u8], g: usize, n: u16, p: u16) -> Option<Gate> {
-    let (a, b) = (number(bytes, 2), number(bytes, 4));
-    let (wire_a, wire_b) = (usize::from(a), usize::from(b));
+/// The number of `width` bytes, two or four, at `i`.
+fn number_of(bytes: &[u8], i: usize, width: usize) -> u32 {
+    if width == 2 {
+        u32::from(number(bytes, i))
+    } else {
+        u32::from_le_bytes([bytes[i], bytes[i + 1], bytes[i + 2], bytes[i + 3]])
+    }
+}
+
+/// The four-byte number at `i`, low byte first.
+pub fn long(bytes: &[u8], i: usize) -> u32 {
+    number_of(bytes, i, 4)
+}
+
+/// A version's layout: the bytes of a number, and where the bodies begin. p stands at byte 8, and after it the gates'
+/// offset, G, the outs' offset, O and, but for version 1, the points' offset.
+#[derive(Clone, Copy, Debug, PartialEq, Eq)]
+pub struct Layout {
+    pub width: usize,
+    pub head: usize,
+}
+
+impl Layout {
+    pub fn of(version: u8) -> Layout {
+        match version {
+            1 => Layout { width: 2, head: 18 },
+            2 => Layout { width: 2, head: 20 },
+            _ => Layout { width: 4, head: 32 },
+        }
+    }
+
+    /// Where field k stands; field 0 is p.
+    pub fn place(self, k: usize) -> usize {
+        8 + k * self.width
+    }
+
+    /// The bytes of a gate.
+    pub fn gate(self) -> usize {
+        2 + 2 * self.width
+    }
+
+    /// Whether there is a body of points.
+    pub fn has_points(self) -> bool {
+        self.head == self.place(6)
+    }
+
+    fn field(self, bytes: &[u8], k: usize) -> usize {
+        number_of(bytes, self.place(k), self.width) as usize
+    }
+
+    /// Where the gates, the outs and the points begin: refusal 6 unless all of it is in its place.
+    fn bodies(self, bytes: &[u8]) -> Result<[usize; 3], Refusal> {
+        require(bytes.len() >= self.head, 6, 0)?;
+        let [first_gate, gates, first_out, outs] = [1, 2, 3, 4].map(|k| self.field(bytes, k));
+        require((1..=1024).contains(&gates) && (1..=64).contains(&outs), 6, 0)?;
+        require(bytes[7] == 0 && first_gate == self.head && first_out == self.head + self.gate() * gates, 6, 0)?;
+        let first_point = first_out + 3 * outs;
+        let points = if self.has_points() { self.width * usize::from(bytes[5]) } else { 0 };
+        require(!self.has_points() || self.field(bytes, 5) == first_point, 6, 0)?;
+        require(bytes.len() == first_point + points, 6, 0)?;
+        Ok([first_gate, first_out, first_point])
+    }
+}
+
+/// A gate's bytes, `W` a number, unless the gate at `g` breaks its kind's rule.
+fn gate<const W: usize>(bytes: &[u8], g: usize, n: u16, p: u32) -> Option<Gate> {
+    let (a, b) = (number_of(bytes, 2, W), number_of(bytes, 2 + W, W));
+    let (wire_a, wire_b) = (a as usize, b as usize);
     match (bytes[0], bytes[1]) {
-        (1, 0) if (1..=n).contains(&a) && b == 0 => Some(Gate::Input(a)),
+        (1, 0) if (1..=u32::from(n)).contains(&a) && b == 0 => Some(Gate::Input(a as u16)),
         (2, 0) if wire_a < g && wire_b < g => Some(Gate::Add(wire_a, wire_b)),
         (3, 0) if wire_a < g && b < p => Some(Gate::Scale(wire_a, b)),
         (4, 0) if wire_a < g && b < p => Some(Gate::Offset(wire_a, b)),
@@ -76,43 +140,31 @@ fn gate(bytes: &[u8], g: usize, n: u16, p: u16) -> Option<Gate> {
     }
 }
 
+/// Reads the gates, handing each to `take`: whether one of them multiplies, or the first that breaks its kind's rule.
+fn gates<const W: usize>(bytes: &[u8], n: u16, p: u32, mut take: impl FnMut(Gate)) -> Result<bool, Refusal> {
+    let mut multiplies = false;
+    for (g, bytes) in bytes.chunks_exact(2 + 2 * W).enumerate() {
+        let Some(gate) = gate::<W>(bytes, g, n, p) else { return Err(Refusal { number: 7, place: g }) };
+        multiplies |= matches!(gate, Gate::Multiply(..));
+        take(gate);
+    }
+    Ok(multiplies)
+}
+
 /// An out's three bytes, unless its seat or wire isn't in the plan.
 fn out(bytes: &[u8], gates: usize, n: u16) -> Option<Out> {
     let out = Out { seat: u16::from(bytes[0]), wire: usize::from(number(bytes, 1)) };
     ((1..=n).contains(&out.seat) && out.wire < gates).then_some(out)
 }
 
-/// Where the bodies of a version's plan begin.
-pub fn head(version: u8) -> usize {
-    if version == 1 {
-        18
-    } else {
-        20
-    }
-}
-
-/// Where the gates, the outs and the points begin: refusal 6 unless all of it follows the version's layout.
-fn layout(bytes: &[u8]) -> Result<[usize; 3], Refusal> {
-    let (version, n) = (bytes[4], usize::from(bytes[5]));
-    let head = head(version);
-    require(bytes.len() >= head, 6, 0)?;
-    let [first_gate, gates, first_out, outs] = [10, 12, 14, 16].map(|i| usize::from(number(bytes, i)));
-    let first_point = first_out + 3 * outs;
-    require((1..=1024).contains(&gates) && (1..=64).contains(&outs), 6, 0)?;
-    require(bytes[7] == 0 && first_gate == head && first_out == head + 6 * gates, 6, 0)?;
-    require(version == 1 || usize::from(number(bytes, 18)) == first_point, 6, 0)?;
-    require(bytes.len() == first_point + if version == 1 { 0 } else { 2 * n }, 6, 0)?;
-    Ok([first_gate, first_out, first_point])
-}
-
-/// The seats' points, unless one is 0, isn't below p or equals an earlier one.
-fn points(bytes: &[u8], n: u16, p: u16) -> Option<Vec<u16>> {
+/// The seats' points, 1 to n where there is no body of them, unless one is 0, isn't below p or equals an earlier one.
+fn points(bytes: &[u8], n: u16, p: u32, width: usize) -> Option<Vec<u32>> {
     if bytes.is_empty() {
-        return Some((1..=n).collect());
+        return Some((1..=u32::from(n)).collect());
     }
     let mut points = Vec::with_capacity(15);
-    for two in bytes.chunks_exact(2) {
-        let point = number(two, 0);
+    for number in bytes.chunks_exact(width) {
+        let point = number_of(number, 0, width);
         if point == 0 || point >= p || points.contains(&point) {
             return None;
         }
@@ -122,30 +174,31 @@ fn points(bytes: &[u8], n: u16, p: u16) -> Option<Vec<u16>> {
 }
 
 /// A plan's n, t, field and points.
-type Sizes = (u16, usize, Field, Vec<u16>);
+type Sizes = (u16, usize, Field, Vec<u32>);
 
 /// The plan check, refusals 1 to 8, 25 and 26; it hands every gate and out it has read to `take`.
 fn check(bytes: &[u8], mut take: impl FnMut(Result<Gate, Out>)) -> Result<Sizes, Refusal> {
     require(bytes.len() >= 18 && &bytes[..4] == b"POOL", 1, 0)?;
-    require((1..=2).contains(&bytes[4]), 2, 0)?;
+    require((1..=3).contains(&bytes[4]), 2, 0)?;
+    let layout = Layout::of(bytes[4]);
     let (n, t) = (u16::from(bytes[5]), usize::from(bytes[6]));
     require((1..=15).contains(&n), 3, 0)?;
     require(t < usize::from(n), 4, 0)?;
-    let Some(field) = Field::new(number(bytes, 8)).filter(|field| field.p() > n) else { return refuse(5) };
-    let [first_gate, first_out, first_point] = layout(bytes)?;
-    let gates = (first_out - first_gate) / 6;
-    let mut multiplies = false;
-    for (g, six) in bytes[first_gate..first_out].chunks_exact(6).enumerate() {
-        let Some(gate) = gate(six, g, n, field.p()) else { return Err(Refusal { number: 7, place: g }) };
-        multiplies |= matches!(gate, Gate::Multiply(..));
-        take(Ok(gate));
-    }
+    let p = number_of(bytes, layout.place(0), layout.width);
+    let Some(field) = Field::new(p).filter(|_| p > u32::from(n)) else { return refuse(5) };
+    let [first_gate, first_out, first_point] = layout.bodies(bytes)?;
+    let body = &bytes[first_gate..first_out];
+    let multiplies = if layout.width == 2 {
+        gates::<2>(body, n, p, |gate| take(Ok(gate)))?
+    } else {
+        gates::<4>(body, n, p, |gate| take(Ok(gate)))?
+    };
     for (o, three) in bytes[first_out..first_point].chunks_exact(3).enumerate() {
-        let Some(out) = out(three, gates, n) else { return Err(Refusal { number: 8, place: o }) };
+        let Some(out) = out(three, body.len() / layout.gate(), n) else { return Err(Refusal { number: 8, place: o }) };
         take(Err(out));
     }
     require(!multiplies || 2 * t < usize::from(n), 25, 0)?;
-    let Some(points) = points(&bytes[first_point..], n, field.p()) else { return refuse(26) };
+    let Some(points) = points(&bytes[first_point..], n, p, layout.width) else { return refuse(26) };
     Ok((n, t, field, points))
 }
 
@@ -175,17 +228,21 @@ impl Plan {
 
     /// The plan's file with these outs instead of its own.
     pub fn file(&self, outs: &[Out]) -> Vec<u8> {
-        let points = if self.version == 1 { &[][..] } else { &self.points };
-        file((self.n as u8, self.t as u8, self.field.p()), &self.gates, outs, points)
+        self.file_of(self.version, outs, &self.points)
+    }
+
+    /// The plan's file in a version that holds it, with these outs and points.
+    pub fn file_of(&self, version: u8, outs: &[Out], points: &[u32]) -> Vec<u8> {
+        file(version, (self.n as u8, self.t as u8, self.field.p()), &self.gates, outs, points)
     }
 
     /// The seat's point.
-    pub fn point(&self, seat: u16) -> u16 {
+    pub fn point(&self, seat: u16) -> u32 {
         self.points[usize::from(seat) - 1]
     }
 
     /// The weights at 0 by which each seat sums the dealers' pieces.
-    pub fn product_weights(&self) -> Vec<u16> {
+    pub fn product_weights(&self) -> Vec<u32> {
         self.field.weights(&self.points[..usize::from(self.dealers())], 0)
     }
 
@@ -302,75 +359,90 @@ impl Plan {
     }
 }
 
-/// A list of numbers lent as bytes.
+/// A list of numbers lent as bytes, four each.
 #[derive(Clone, Copy)]
 pub struct List<'a>(&'a [u8]);
 
 impl<'a> List<'a> {
     /// The list, unless it hasn't `count` numbers.
     pub fn new(bytes: &'a [u8], count: usize, refusal: u8) -> Result<List<'a>, Refusal> {
-        require(bytes.len() == 2 * count, refusal, 0).map(|_| List(bytes))
+        require(bytes.len() == 4 * count, refusal, 0).map(|_| List(bytes))
     }
 
     /// The list, unless a number isn't below `p`.
-    pub fn below(self, p: u16, refusal: u8) -> Result<List<'a>, Refusal> {
+    pub fn below(self, p: u32, refusal: u8) -> Result<List<'a>, Refusal> {
         match self.iter().position(|x| x >= p) {
             Some(place) => Err(Refusal { number: refusal, place }),
             None => Ok(self),
         }
     }
 
-    pub fn iter(self) -> impl Iterator<Item = u16> + 'a {
-        self.0.chunks_exact(2).map(|two| number(two, 0))
+    pub fn iter(self) -> impl Iterator<Item = u32> + 'a {
+        self.0.chunks_exact(4).map(|four| long(four, 0))
     }
 
-    pub fn to_vec(self) -> Vec<u16> {
+    pub fn to_vec(self) -> Vec<u32> {
         self.iter().collect()
     }
 }
 
-/// The bytes of a list.
-pub fn bytes(list: &[u16]) -> Vec<u8> {
-    list.iter().flat_map(|x| x.to_le_bytes()).collect()
+/// The numbers of bytes, `width` each.
+pub fn numbers(bytes: &[u8], width: usize) -> Vec<u32> {
+    bytes.chunks_exact(width).map(|number| number_of(number, 0, width)).collect()
+}
+
+/// The bytes of a list, four a number.
+pub fn bytes(list: &[u32]) -> Vec<u8> {
+    bytes_of(list, 4)
+}
+
+/// The bytes of a list, `width` a number.
+pub fn bytes_of(list: &[u32], width: usize) -> Vec<u8> {
+    list.iter().flat_map(|x| x.to_le_bytes().into_iter().take(width)).collect()
 }
 
 /// Writes a list over bytes of its length.
-pub fn write(list: &[u16], bytes: &mut [u8]) {
-    for (two, x) in bytes.chunks_exact_mut(2).zip(list) {
-        two.copy_from_slice(&x.to_le_bytes());
+pub fn write(list: &[u32], bytes: &mut [u8]) {
+    for (four, x) in bytes.chunks_exact_mut(4).zip(list) {
+        four.copy_from_slice(&x.to_le_bytes());
     }
 }
 
 /// A plan file of version 1, written as it is asked for and not checked.
-pub fn plan_file(n: u8, t: u8, p: u16, gates: &[Gate], outs: &[Out]) -> Vec<u8> {
-    file((n, t, p), gates, outs, &[])
+pub fn plan_file(n: u8, t: u8, p: u32, gates: &[Gate], outs: &[Out]) -> Vec<u8> {
+    file(1, (n, t, p), gates, outs, &[])
 }
 
-/// A plan file, written as it is asked for and not checked: of version 2 if there are points, else of version 1.
-pub fn file((n, t, p): (u8, u8, u16), gates: &[Gate], outs: &[Out], points: &[u16]) -> Vec<u8> {
-    let version = if points.is_empty() { 1 } else { 2 };
-    let first_gate = head(version);
-    let first_out = first_gate + 6 * gates.len();
+/// A plan file, written as it is asked for and not checked; version 1 has no points.
+pub fn file(version: u8, (n, t, p): (u8, u8, u32), gates: &[Gate], outs: &[Out], points: &[u32]) -> Vec<u8> {
+    let layout = Layout::of(version);
+    let put = |file: &mut Vec<u8>, list: &[u32]| file.extend(bytes_of(list, layout.width));
+    let first_out = layout.head + layout.gate() * gates.len();
+    let first_point = first_out + 3 * outs.len();
     let mut file = b"POOL".to_vec();
     file.extend([version, n, t, 0]);
-    file.extend(bytes(&[p, first_gate as u16, gates.len() as u16, first_out as u16, outs.len() as u16]));
-    if version == 2 {
-        file.extend(bytes(&[(first_out + 3 * outs.len()) as u16]));
+    put(&mut file, &[p]);
+    put(&mut file, &[layout.head, gates.len(), first_out, outs.len()].map(|x| x as u32));
+    if layout.has_points() {
+        put(&mut file, &[first_point as u32]);
     }
     for gate in gates {
         let (kind, a, b) = match *gate {
-            Gate::Input(seat) => (1, seat, 0),
-            Gate::Add(a, b) => (2, a as u16, b as u16),
-            Gate::Scale(a, c) => (3, a as u16, c),
-            Gate::Offset(a, c) => (4, a as u16, c),
-            Gate::Multiply(a, b) => (5, a as u16, b as u16),
+            Gate::Input(seat) => (1, u32::from(seat), 0),
+            Gate::Add(a, b) => (2, a as u32, b as u32),
+            Gate::Scale(a, c) => (3, a as u32, c),
+            Gate::Offset(a, c) => (4, a as u32, c),
+            Gate::Multiply(a, b) => (5, a as u32, b as u32),
         };
-        file.extend(bytes(&[kind, a, b]));
+        file.extend([kind, 0]);
+        put(&mut file, &[a, b]);
     }
     for out in outs {
         file.push(out.seat as u8);
-        file.extend(bytes(&[out.wire as u16]));
+        file.extend((out.wire as u16).to_le_bytes());
     }
-    file.extend(bytes(points));
+    if layout.has_points() {
+        put(&mut file, points);
+    }
     file
 }

@@ -1,6 +1,6 @@
 //! Random plans, figures and coins from a fixed seed.
 
-use crate::plan::{file, number, plan_file, Gate, Out, Plan};
+use crate::plan::{file, plan_file, Gate, Out, Plan};
 
 /// A small generator (splitmix64).
 pub struct Random(pub u64);
@@ -34,17 +34,17 @@ impl Random {
     }
 
     /// An element of the field modulo `p`, its ends often.
-    pub fn element(&mut self, p: u16) -> u16 {
+    pub fn element(&mut self, p: u32) -> u32 {
         match self.below(10) {
             0 => 0,
             1 => p - 1,
             2 => 1,
-            _ => self.below(usize::from(p)) as u16,
+            _ => self.below(p as usize) as u32,
         }
     }
 
     /// A list of elements; once in ten, all of them are p − 1.
-    pub fn elements(&mut self, count: usize, p: u16) -> Vec<u16> {
+    pub fn elements(&mut self, count: usize, p: u32) -> Vec<u32> {
         if self.once_in(10) {
             return vec![p - 1; count];
         }
@@ -53,13 +53,13 @@ impl Random {
 }
 
 /// Primes of all sizes, each the smallest or largest of a neighbourhood.
-const PRIMES: [u16; 24] = [
+const PRIMES: [u32; 24] = [
     2, 3, 5, 7, 11, 13, 17, 19, 31, 37, 101, 127, 251, 257, 509, 1021, 4099, 8191, 16381, 32749, 32771, 65497, 65519,
     65521,
 ];
 
 /// A plan's size: seats, threshold, prime.
-pub fn size(random: &mut Random) -> (u16, usize, u16) {
+pub fn size(random: &mut Random) -> (u16, usize, u32) {
     let n = match random.below(8) {
         0 => 1,
         1 => 15,
@@ -72,8 +72,8 @@ pub fn size(random: &mut Random) -> (u16, usize, u16) {
 }
 
 /// A prime above n, often the smallest.
-fn prime(random: &mut Random, n: u16) -> u16 {
-    let primes: Vec<u16> = PRIMES.iter().copied().filter(|&p| p > n).collect();
+fn prime(random: &mut Random, n: u16) -> u32 {
+    let primes: Vec<u32> = PRIMES.iter().copied().filter(|&p| p > u32::from(n)).collect();
     if random.once_in(3) {
         primes[0]
     } else {
@@ -82,7 +82,7 @@ fn prime(random: &mut Random, n: u16) -> u16 {
 }
 
 /// The size of a plan whose threshold is at least half its seats.
-pub fn wide_size(random: &mut Random) -> (u16, usize, u16) {
+pub fn wide_size(random: &mut Random) -> (u16, usize, u32) {
     let n = match random.below(6) {
         0 | 1 => 15,
         2 => 2,
@@ -94,7 +94,7 @@ pub fn wide_size(random: &mut Random) -> (u16, usize, u16) {
 }
 
 /// The random gates of a plan: inputs anywhere, at most `gates` of them and `multiplies` multiplies.
-pub fn gates(random: &mut Random, n: u16, p: u16, gates: usize, multiplies: usize) -> Vec<Gate> {
+pub fn gates(random: &mut Random, n: u16, p: u32, gates: usize, multiplies: usize) -> Vec<Gate> {
     let mut list: Vec<Gate> = Vec::with_capacity(gates);
     let mut left = multiplies;
     let inputs = random.range(2, 12);
@@ -147,7 +147,7 @@ pub fn wide_plan(random: &mut Random, most: usize) -> Vec<u8> {
     with_gates(random, size, count, 0)
 }
 
-fn with_gates(random: &mut Random, (n, t, p): (u16, usize, u16), count: usize, multiplies: usize) -> Vec<u8> {
+fn with_gates(random: &mut Random, (n, t, p): (u16, usize, u32), count: usize, multiplies: usize) -> Vec<u8> {
     let gates = gates(random, n, p, count, multiplies);
     let count = if random.once_in(12) { 64 } else { random.range(1, 6) };
     let outs = outs(random, n, gates.len(), count);
@@ -155,10 +155,10 @@ fn with_gates(random: &mut Random, (n, t, p): (u16, usize, u16), count: usize, m
 }
 
 /// Distinct points below p, not 0, of n seats: often 1 to n, in order or not.
-pub fn points(random: &mut Random, n: u16, p: u16) -> Vec<u16> {
+pub fn points(random: &mut Random, n: u16, p: u32) -> Vec<u32> {
     let seats = usize::from(n);
-    let mut points: Vec<u16> = Vec::with_capacity(seats);
-    let most = if random.once_in(4) { n + 1 } else { p };
+    let mut points: Vec<u32> = Vec::with_capacity(seats);
+    let most = if random.once_in(4) { u32::from(n) + 1 } else { p };
     while points.len() < seats {
         let point = random.element(most);
         if point != 0 && !points.contains(&point) {
@@ -166,22 +166,68 @@ pub fn points(random: &mut Random, n: u16, p: u16) -> Vec<u16> {
         }
     }
     if random.once_in(5) {
-        points = (1..=n).collect();
+        points = (1..=u32::from(n)).collect();
     }
     points
 }
 
-/// The plan of a version 1 file in version 2, with these points.
-pub fn with_points(plan: &[u8], points: &[u16]) -> Vec<u8> {
+/// The plan of a file in another version, with these points.
+pub fn with_points(version: u8, plan: &[u8], points: &[u32]) -> Vec<u8> {
     let plan = Plan::read(plan).expect("a plan that passes");
-    file((plan.n as u8, plan.t as u8, plan.field.p()), &plan.gates, &plan.outs, points)
+    plan.file_of(version, &plan.outs, points)
+}
+
+/// The plan of a file in another version, with random points.
+pub fn pointed(random: &mut Random, version: u8, file: &[u8]) -> Vec<u8> {
+    let plan = Plan::read(file).expect("a plan that passes");
+    let points = points(random, plan.n, plan.field.p());
+    with_points(version, file, &points)
 }
 
 /// A random plan file of version 2 of at most `most` gates that passes.
 pub fn pointed_plan(random: &mut Random, most: usize) -> Vec<u8> {
     let file = if random.once_in(4) { wide_plan(random, most) } else { plan(random, most) };
-    let points = points(random, u16::from(file[5]), number(&file, 8));
-    with_points(&file, &points)
+    pointed(random, 2, &file)
+}
+
+/// Primes above 65,535, the smallest and the largest among them.
+pub const LARGE_PRIMES: [u32; 14] = [
+    65537,
+    65539,
+    99991,
+    131071,
+    1_000_003,
+    8_388_593,
+    16_777_213,
+    16_777_259,
+    536_870_909,
+    1_073_741_789,
+    1_073_741_827,
+    2_147_483_587,
+    2_147_483_629,
+    2_147_483_647,
+];
+
+/// A prime above 65,535, often the largest.
+pub fn large_prime(random: &mut Random) -> u32 {
+    if random.once_in(3) {
+        LARGE_PRIMES[LARGE_PRIMES.len() - 1]
+    } else {
+        random.pick(&LARGE_PRIMES)
+    }
+}
+
+/// A random plan file of version 3 of at most `most` gates that passes.
+pub fn large_plan(random: &mut Random, most: usize) -> Vec<u8> {
+    let wide = random.once_in(4);
+    let (n, t, small) = if wide { wide_size(random) } else { size(random) };
+    let p = if random.once_in(4) { small } else { large_prime(random) };
+    let count = random.range(1, most);
+    let gates = gates(random, n, p, count, if wide { 0 } else { count });
+    let count = if random.once_in(12) { 64 } else { random.range(1, 6) };
+    let outs = outs(random, n, gates.len(), count);
+    let points = points(random, n, p);
+    file(3, (n as u8, t as u8, p), &gates, &outs, &points)
 }
 
 /// A set of at most `t` of the `n` seats.

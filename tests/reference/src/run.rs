@@ -1,11 +1,11 @@
 //! The whole run: by the seats' calls, and directly wire by wire; the plan's own arithmetic; the set's view.
 
-use crate::plan::{bytes, number, require, write, Gate, List, Plan, Refusal};
+use crate::plan::{bytes, long, require, write, Gate, List, Plan, Refusal};
 use crate::seat::seat_call;
 
 /// The wires' values: the plan's own arithmetic, without shares.
-pub fn ideal(plan: &Plan, figures: &[u16]) -> Vec<u16> {
-    let mut values: Vec<u16> = Vec::with_capacity(plan.gates.len());
+pub fn ideal(plan: &Plan, figures: &[u32]) -> Vec<u32> {
+    let mut values: Vec<u32> = Vec::with_capacity(plan.gates.len());
     let mut figures = figures.iter();
     for gate in &plan.gates {
         values.push(match *gate {
@@ -20,7 +20,7 @@ pub fn ideal(plan: &Plan, figures: &[u16]) -> Vec<u16> {
 }
 
 /// Those entries of a list that are the seat's own.
-pub fn own(list: &[u16], seats: impl IntoIterator<Item = u16>, seat: u16) -> Vec<u16> {
+pub fn own(list: &[u32], seats: impl IntoIterator<Item = u16>, seat: u16) -> Vec<u32> {
     list.iter().zip(seats).filter(|(_, owner)| *owner == seat).map(|(&x, _)| x).collect()
 }
 
@@ -39,13 +39,13 @@ pub struct Step {
 /// A run's mail, by round and seat, its results by seat, and the count of elements sent.
 #[derive(Clone, Debug, Default, PartialEq, Eq)]
 pub struct Run {
-    pub mail: Vec<Vec<Vec<u16>>>,
-    pub results: Vec<Vec<u16>>,
+    pub mail: Vec<Vec<Vec<u32>>>,
+    pub results: Vec<Vec<u32>>,
     pub sent: usize,
 }
 
 /// The run by every seat's calls, with the mail carried over; `watch` sees each call with the state before it.
-pub fn run_by_calls(file: &[u8], figures: &[u16], coins: &[u16], mut watch: impl FnMut(&Step)) -> Result<Run, Refusal> {
+pub fn run_by_calls(file: &[u8], figures: &[u32], coins: &[u32], mut watch: impl FnMut(&Step)) -> Result<Run, Refusal> {
     let plan = Plan::read(file)?;
     let mut steps: Vec<Step> = (1..=plan.n)
         .map(|seat| Step {
@@ -53,7 +53,7 @@ pub fn run_by_calls(file: &[u8], figures: &[u16], coins: &[u16], mut watch: impl
             call: 0,
             figures: bytes(&own(figures, plan.figure_seats(), seat)),
             coins: bytes(&own(coins, plan.coin_seats(), seat)),
-            state: vec![0; 2 * (1 + plan.gates.len())],
+            state: vec![0; 4 * (1 + plan.gates.len())],
             mail: Vec::new(),
             written: Vec::new(),
         })
@@ -63,13 +63,13 @@ pub fn run_by_calls(file: &[u8], figures: &[u16], coins: &[u16], mut watch: impl
         let mut carried = vec![Vec::new(); usize::from(plan.n)];
         for step in &mut steps {
             step.call = call;
-            step.written = vec![0; 2 * plan.outgoing(step.seat, call)];
+            step.written = vec![0; 4 * plan.outgoing(step.seat, call)];
             let mut state = step.state.clone();
             let Step { seat, figures, coins, mail, written, .. } = step;
             seat_call(file, *seat, figures, coins, &mut state, mail, written)?;
             watch(step);
             step.state = state;
-            let mut rest = step.written.chunks_exact(2).map(|two| number(two, 0));
+            let mut rest = step.written.chunks_exact(4).map(|four| long(four, 0));
             if call == plan.last_call() {
                 run.results.push(rest.collect());
                 continue;
@@ -90,7 +90,7 @@ pub fn run_by_calls(file: &[u8], figures: &[u16], coins: &[u16], mut watch: impl
 }
 
 /// The members' view of a run: for each its figures, its coins, each round's mail, its results.
-pub fn view(plan: &Plan, members: &[u16], figures: &[u16], coins: &[u16], run: &Run) -> Vec<u16> {
+pub fn view(plan: &Plan, members: &[u16], figures: &[u32], coins: &[u32], run: &Run) -> Vec<u32> {
     let mut view = Vec::new();
     for &seat in members {
         view.extend(own(figures, plan.figure_seats(), seat));
@@ -104,12 +104,12 @@ pub fn view(plan: &Plan, members: &[u16], figures: &[u16], coins: &[u16], run: &
 }
 
 /// One number for each seat, seat 1 first.
-pub type Seats = [u16; 15];
+pub type Seats = [u32; 15];
 
 /// The tables of a plan's dealings and products.
 pub struct Tables {
-    powers: Vec<Vec<u16>>,
-    weights: Vec<u16>,
+    powers: Vec<Vec<u32>>,
+    weights: Vec<u32>,
 }
 
 impl Tables {
@@ -121,7 +121,7 @@ impl Tables {
     }
 
     /// A dealing: each seat's piece.
-    pub fn deal(&self, plan: &Plan, value: u16, coins: &[u16]) -> Seats {
+    pub fn deal(&self, plan: &Plan, value: u32, coins: &[u32]) -> Seats {
         let mut pieces = [0; 15];
         for (piece, powers) in pieces.iter_mut().zip(&self.powers) {
             *piece = plan.field.dot(value, coins, powers);
@@ -131,13 +131,18 @@ impl Tables {
 
     /// The shares of a multiply's wire, from its grid of pieces, one row a dealer.
     pub fn reduce(&self, plan: &Plan, grid: &[Seats]) -> Seats {
-        let mut sums = [0u64; 15];
+        let sums = if plan.field.wide() { self.sums::<true>(plan, grid) } else { self.sums::<false>(plan, grid) };
+        sums.map(|sum| plan.field.reduce(sum))
+    }
+
+    fn sums<const WIDE: bool>(&self, plan: &Plan, grid: &[Seats]) -> [u64; 15] {
+        let mut sums = [0; 15];
         for (row, &weight) in grid.iter().zip(&self.weights) {
             for (sum, &piece) in sums.iter_mut().zip(row) {
-                *sum += u64::from(u32::from(weight) * u32::from(piece));
+                *sum = plan.field.gather::<WIDE>(*sum, weight, piece);
             }
         }
-        sums.map(|sum| (sum % u64::from(plan.field.p())) as u16)
+        sums
     }
 }
 
@@ -153,7 +158,7 @@ pub fn work(plan: &Plan, gate: Gate, shares: &[Seats]) -> Seats {
 }
 
 /// The direct run: every wire's shares, and each multiply's grid handed to `seen`.
-pub fn shares(plan: &Plan, figures: &[u16], coins: &[u16], mut seen: impl FnMut(&[Seats])) -> Vec<Seats> {
+pub fn shares(plan: &Plan, figures: &[u32], coins: &[u32], mut seen: impl FnMut(&[Seats])) -> Vec<Seats> {
     let tables = Tables::new(plan);
     let mut shares: Vec<Seats> = Vec::with_capacity(plan.gates.len());
     let (mut figures, mut coins) = (figures.iter(), coins);
@@ -186,7 +191,7 @@ pub fn bench(file: &[u8], set: u16, figures: &[u8], coins: &[u8], view: &mut [u8
     let members = plan.members(set)?;
     let figures = List::new(figures, plan.inputs.len(), 10)?.below(plan.field.p(), 11)?.to_vec();
     let coins = List::new(coins, plan.coins(), 12)?.below(plan.field.p(), 13)?.to_vec();
-    require(view.len() == 2 * plan.view(set)?, 19, 0)?;
+    require(view.len() == 4 * plan.view(set)?, 19, 0)?;
 
     let mut columns = vec![Vec::new(); members.len()];
     let shares = shares(&plan, &figures, &coins, |grid| {
@@ -196,7 +201,7 @@ pub fn bench(file: &[u8], set: u16, figures: &[u8], coins: &[u8], view: &mut [u8
     });
     let coin_seats = if members.is_empty() { Vec::new() } else { plan.coin_seats() };
     let weights = plan.field.weights(&plan.points[..plan.t + 1], 0);
-    let mut seen = Vec::with_capacity(view.len() / 2);
+    let mut seen = Vec::with_capacity(view.len() / 4);
     for (&seat, column) in members.iter().zip(&columns) {
         seen.extend(own(&figures, plan.figure_seats(), seat));
         seen.extend(own(&coins, coin_seats.iter().copied(), seat));

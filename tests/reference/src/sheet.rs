@@ -1,7 +1,7 @@
 //! Formula sheets compiled into plans (document 02, R-5) by two stacks: operators that wait, and wires.
 
-use crate::import::plan_sizes;
-use crate::plan::{plan_check, plan_file, refuse, require, Gate, Out, Refusal};
+use crate::import::{made_file, plan_sizes};
+use crate::plan::{refuse, require, Gate, Out, Refusal};
 
 /// The depth that brackets may be nested to.
 pub const DEPTH: usize = 16;
@@ -132,7 +132,7 @@ impl Sheet {
     }
 
     /// The plan's gates and the result's wire, modulo a prime.
-    fn gates(&self, p: u16) -> (Vec<Gate>, usize) {
+    fn gates(&self, p: u32) -> (Vec<Gate>, usize) {
         let mut gates: Vec<Gate> = self.names.iter().map(|name| Gate::Input(name.1 as u16)).collect();
         let mut wires: Vec<usize> = Vec::new();
         for &step in &self.steps {
@@ -140,7 +140,7 @@ impl Sheet {
                 Step::Name(place) => place,
                 Step::Number(value) => {
                     gates.push(Gate::Scale(0, 0));
-                    gates.push(Gate::Offset(gates.len() - 1, value as u16));
+                    gates.push(Gate::Offset(gates.len() - 1, value as u32));
                     gates.len() - 1
                 }
                 Step::Operator(operator) => {
@@ -203,10 +203,8 @@ pub fn sheet_file(text: &[u8], n: u32, t: u32, p: u32, seat: u32) -> Result<Vec<
     require(sheet.size() <= 1024, 24, 0)?;
     plan_sizes(n, t, p)?;
     require((1..=n).contains(&seat), 8, 0)?;
-    let (gates, wire) = sheet.gates(p as u16);
-    let file = plan_file(n as u8, t as u8, p as u16, &gates, &[Out { seat: seat as u16, wire }]);
-    plan_check(&file)?;
-    Ok(file)
+    let (gates, wire) = sheet.gates(p);
+    made_file(n, t, p, &gates, &[Out { seat: seat as u16, wire }])
 }
 
 /// Compiles a sheet into a lent buffer.

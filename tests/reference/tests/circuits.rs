@@ -42,9 +42,9 @@ fn plans_give_the_circuits_bits() {
         let plan = Plan::read(&file).expect("a plan that passes");
         for _ in 0..10 {
             let bits: Vec<bool> = (0..circuit.inputs.iter().sum()).map(|_| random.once_in(2)).collect();
-            let values = ideal(&plan, &bits.iter().map(|&bit| u16::from(bit)).collect::<Vec<u16>>());
-            let results: Vec<u16> = plan.outs.iter().map(|out| values[out.wire]).collect();
-            assert_eq!(results, circuit.bits(&bits).into_iter().map(u16::from).collect::<Vec<u16>>());
+            let values = ideal(&plan, &bits.iter().map(|&bit| u32::from(bit)).collect::<Vec<u32>>());
+            let results: Vec<u32> = plan.outs.iter().map(|out| values[out.wire]).collect();
+            assert_eq!(results, circuit.bits(&bits).into_iter().map(u32::from).collect::<Vec<u32>>());
         }
     }
 }

@@ -21,7 +21,7 @@ fn calls_equal_the_direct_bench_and_the_plans_arithmetic() {
         let run = run_by_calls(&file, &figures, &coins, |_| ()).unwrap();
         let values = ideal(&plan, &figures);
         for seat in 1..=plan.n {
-            let granted: Vec<u16> = plan.outs_of(seat).map(|out| values[out.wire]).collect();
+            let granted: Vec<u32> = plan.outs_of(seat).map(|out| values[out.wire]).collect();
             assert_eq!(run.results[usize::from(seat) - 1], granted);
         }
         let set = random::set(&mut random, plan.n, plan.t);
@@ -43,7 +43,7 @@ fn matched_runs_give_the_same_view() {
         let set = random::set(&mut random, plan.n, plan.t);
         let members = plan.members(set).unwrap();
         let first = random.elements(plan.inputs.len(), p);
-        let second: Vec<u16> = (plan.figure_seats().zip(&first))
+        let second: Vec<u32> = (plan.figure_seats().zip(&first))
             .map(|(seat, &x)| if members.contains(&seat) { x } else { random.element(p) })
             .collect();
         let (granted, asked) = (ideal(&plan, &first), ideal(&plan, &second));
@@ -59,11 +59,11 @@ fn matched_runs_give_the_same_view() {
 }
 
 /// Every setting of `count` coins below `p`.
-fn settings(count: usize, p: u16) -> impl Iterator<Item = Vec<u16>> {
-    (0..usize::from(p).pow(count as u32)).map(move |mut x| {
+fn settings(count: usize, p: u32) -> impl Iterator<Item = Vec<u32>> {
+    (0..(p as usize).pow(count as u32)).map(move |mut x| {
         let mut digit = || {
-            let coin = (x % usize::from(p)) as u16;
-            x /= usize::from(p);
+            let coin = (x % p as usize) as u32;
+            x /= p as usize;
             coin
         };
         (0..count).map(|_| digit()).collect()
@@ -75,7 +75,7 @@ fn matching_is_a_bijection((n, t): (u8, u8), gates: &[Gate], outs: &[Out], set: 
     let file = plan_file(n, t, 5, gates, outs);
     let plan = Plan::read(&file).unwrap();
     let members = plan.members(set).unwrap();
-    let agree = |first: &[u16], second: &[u16]| {
+    let agree = |first: &[u32], second: &[u32]| {
         let (granted, asked) = (ideal(&plan, first), ideal(&plan, second));
         plan.figure_seats().enumerate().all(|(i, seat)| !members.contains(&seat) || first[i] == second[i])
             && plan.outs.iter().all(|out| !members.contains(&out.seat) || granted[out.wire] == asked[out.wire])

@@ -82,8 +82,8 @@ fn plans_give_the_formulas_values() {
         let (n, t, p) = random::size(&mut random);
         let operands = random.range(1, 60);
         let text = Formula::new(&mut random, n, p, operands).bytes(&mut random, true);
-        let names = Sheet::read(&text, u32::from(n), u32::from(p)).expect("a sheet").names;
-        let file = sheet_file(&text, u32::from(n), t as u32, u32::from(p), u32::from(n)).expect("a plan");
+        let names = Sheet::read(&text, u32::from(n), p).expect("a sheet").names;
+        let file = sheet_file(&text, u32::from(n), t as u32, p, u32::from(n)).expect("a plan");
         let plan = Plan::read(&file).expect("a plan that passes");
         for _ in 0..10 {
             let figures = random.elements(names.len(), p);

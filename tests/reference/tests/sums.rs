@@ -2,19 +2,19 @@
 
 use reference::field::Field;
 use reference::matching::matching;
-use reference::plan::{bytes, plan_check, plan_file, Gate, List, Out, Plan, Refusal};
+use reference::plan::{bytes, bytes_of, plan_check, plan_file, Gate, List, Out, Plan, Refusal};
 use reference::program::program;
 use reference::run::{bench, ideal, run_by_calls, shares};
 use reference::seat::seat_call;
 
-const FIGURES: [u16; 2] = [4, 5];
-const COINS: [u16; 5] = [2, 3, 1, 5, 7];
+const FIGURES: [u32; 2] = [4, 5];
+const COINS: [u32; 5] = [2, 3, 1, 5, 7];
 
 fn k_gates() -> Vec<Gate> {
     vec![Gate::Input(1), Gate::Input(2), Gate::Multiply(0, 1), Gate::Add(2, 0)]
 }
 
-fn sized(n: u8, t: u8, p: u16) -> Vec<u8> {
+fn sized(n: u8, t: u8, p: u32) -> Vec<u8> {
     plan_file(n, t, p, &k_gates(), &[Out { seat: 3, wire: 3 }])
 }
 
@@ -27,14 +27,14 @@ fn refused<T>(number: u8, place: usize) -> Result<T, Refusal> {
 }
 
 /// The set's view on the bench, or the refusal.
-fn bench_view(file: &[u8], set: u16, figures: &[u16], coins: &[u16]) -> Result<(Vec<u16>, usize), Refusal> {
+fn bench_view(file: &[u8], set: u16, figures: &[u32], coins: &[u32]) -> Result<(Vec<u32>, usize), Refusal> {
     let length = Plan::read(file)?.view(set)?;
-    let mut view = vec![0; 2 * length];
+    let mut view = vec![0; 4 * length];
     let sent = bench(file, set, &bytes(figures), &bytes(coins), &mut view)?;
     Ok((List::new(&view, length, 0)?.to_vec(), sent))
 }
 
-fn k_shares() -> Vec<Vec<u16>> {
+fn k_shares() -> Vec<Vec<u32>> {
     let plan = Plan::read(&k()).unwrap();
     shares(&plan, &FIGURES, &COINS, |_| ()).iter().map(|wire| wire[..3].to_vec()).collect()
 }
@@ -49,7 +49,7 @@ fn p2_weights_and_products() {
     let field = Field::new(11).unwrap();
     assert_eq!(field.weights(&[1, 2, 3], 0), [3, 8, 1]);
     let shares = k_shares();
-    let products: Vec<u16> = (0..3).map(|i| field.mul(shares[0][i], shares[1][i])).collect();
+    let products: Vec<u32> = (0..3).map(|i| field.mul(shares[0][i], shares[1][i])).collect();
     assert_eq!(products, [4, 0, 8]);
     assert_eq!(field.dot(0, &field.weights(&[1, 2, 3], 0), &products), 9);
 }
@@ -71,7 +71,7 @@ fn p4_delta() {
 
 #[test]
 fn p5_matching() {
-    let mut matched = [0; 10];
+    let mut matched = [0; 20];
     matching(&k(), 4, &bytes(&FIGURES), &bytes(&[1, 1]), &bytes(&COINS), &mut matched).unwrap();
     assert_eq!(matched.to_vec(), bytes(&[3, 8, 5, 2, 7]));
     let first = bench_view(&k(), 4, &FIGURES, &COINS).unwrap();
@@ -96,8 +96,8 @@ fn p7_primes() {
     assert_eq!(plan_check(&sized(3, 1, 9)), refused(5, 0));
     assert_eq!(plan_check(&sized(3, 1, 65521)), Ok(()));
     assert_eq!(plan_check(&sized(3, 1, 65535)), refused(5, 0));
-    let slow = |p: u16| p > 1 && (2..p).all(|d| !p.is_multiple_of(d));
-    assert!((0..=u16::MAX).step_by(7).chain(0..500).all(|p| Field::new(p).is_some() == slow(p)));
+    let slow = |p: u32| p > 1 && (2..p).all(|d| !p.is_multiple_of(d));
+    assert!((0..=65535).step_by(7).chain(0..500).all(|p| Field::new(p).is_some() == slow(p)));
 }
 
 #[test]
@@ -136,21 +136,22 @@ fn gate_0_reads_nothing() {
 fn shares_off_the_polynomial() {
     let mut state = bytes(&[3, 10, 3, 5, 4]);
     let before = state.clone();
-    let mut call = |mail: [u16; 3]| {
-        let mut out = [9, 9];
+    let mut call = |mail: [u32; 3]| {
+        let mut out = [9; 4];
         let result = seat_call(&k(), 3, &[], &bytes(&[7]), &mut state, &bytes(&mail), &mut out);
         (result, state.clone(), out)
     };
-    assert_eq!(call([10, 7, 5]), (refused(20, 3), before.clone(), [9, 9]));
+    assert_eq!(call([10, 7, 5]), (refused(20, 3), before.clone(), [9; 4]));
     let mut after = before;
     after[0] = 4;
-    assert_eq!(call([10, 7, 4]), (Ok(()), after.clone(), [2, 0]));
-    assert_eq!(call([10, 7, 4]), (refused(16, 0), after, [9, 9]));
+    assert_eq!(call([10, 7, 4]), (Ok(()), after.clone(), [2, 0, 0, 0]));
+    assert_eq!(call([10, 7, 4]), (refused(16, 0), after, [9; 4]));
 }
 
 /// The bench program's input.
-fn program_input(file: &[u8], set: u16, numbers: &[u16]) -> Vec<u8> {
-    [&bytes(&[file.len() as u16])[..], file, &bytes(&[set]), &bytes(numbers)].concat()
+fn program_input(file: &[u8], set: u16, numbers: &[u32]) -> Vec<u8> {
+    let two = |list: &[u32]| bytes_of(list, 2);
+    [&two(&[file.len() as u32])[..], file, &two(&[u32::from(set)]), &two(numbers)].concat()
 }
 
 #[test]

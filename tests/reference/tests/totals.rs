@@ -5,17 +5,17 @@ mod common;
 use common::{direct, matched};
 use reference::field::Field;
 use reference::import::import_file;
-use reference::plan::{bytes, plan_check, plan_file, Gate, Out, Plan, Refusal};
+use reference::plan::{bytes_of, plan_check, plan_file, Gate, Out, Plan, Refusal};
 use reference::program::program;
 use reference::run::{run_by_calls, shares};
 use reference::sheet::sheet_file;
 
-const FIGURES: [u16; 4] = [2, 1, 1, 0];
+const FIGURES: [u32; 4] = [2, 1, 1, 0];
 /// The coefficients of 2, 1 + X², 1 + 2X and 3X + 2X² above the first.
-const COINS: [u16; 8] = [0, 0, 0, 1, 2, 0, 3, 2];
+const COINS: [u32; 8] = [0, 0, 0, 1, 2, 0, 3, 2];
 
 /// An input of each seat, and their sum at the last wire, which every seat is given.
-fn total(n: u16, t: u8, p: u16) -> Vec<u8> {
+fn total(n: u16, t: u8, p: u32) -> Vec<u8> {
     let seats = usize::from(n);
     let mut gates: Vec<Gate> = (1..=n).map(Gate::Input).collect();
     gates.extend((1..seats).map(|seat| Gate::Add(if seat == 1 { 0 } else { seats + seat - 2 }, seat)));
@@ -32,7 +32,7 @@ fn the_example_of_001() {
     let file = total(4, 2, 5);
     let plan = Plan::read(&file).unwrap();
     let shares = shares(&plan, &FIGURES, &COINS, |_| ());
-    let rows: Vec<&[u16]> = shares.iter().map(|wire| &wire[..4]).collect();
+    let rows: Vec<&[u32]> = shares.iter().map(|wire| &wire[..4]).collect();
     assert_eq!(rows[..4], [[2, 2, 2, 2], [2, 0, 0, 2], [3, 0, 2, 4], [0, 4, 2, 4]]);
     assert_eq!(rows[6], [2, 1, 1, 2]);
     let run = run_by_calls(&file, &FIGURES, &COINS, |_| ()).unwrap();
@@ -54,7 +54,8 @@ fn the_matchings_of_001() {
 #[test]
 fn the_program_of_001() {
     let file = total(4, 2, 5);
-    let input = [&bytes(&[file.len() as u16])[..], &file, &bytes(&[0b1001]), &bytes(&FIGURES), &bytes(&COINS)].concat();
+    let two = |list: &[u32]| bytes_of(list, 2);
+    let input = [&two(&[file.len() as u32])[..], &file, &two(&[0b1001]), &two(&FIGURES), &two(&COINS)].concat();
     let seats = "view 1 2 0 0\nround 0 2 2 3 0\nround 1 2 1 1 2\nview 4 0 3 2\nround 0 2 2 4 4\nround 1 2 1 1 2\n";
     assert_eq!(program(&input), format!("plan 4 2 5 7 4\n{seats}out 0 1 4\nout 3 4 4\nsent 32\n"));
 }
@@ -71,8 +72,8 @@ fn two_plants() {
 fn fourteen_members() {
     let (file, set) = (total(15, 14, 17), (1 << 14) - 1);
     let plan = Plan::read(&file).unwrap();
-    let figures: Vec<u16> = (0..15).collect();
-    let coins: Vec<u16> = (0..plan.coins() as u16).map(|i| i * i % 17).collect();
+    let figures: Vec<u32> = (0..15).collect();
+    let coins: Vec<u32> = (0..plan.coins() as u32).map(|i| i * i % 17).collect();
     let run = run_by_calls(&file, &figures, &coins, |_| ()).unwrap();
     assert_eq!(run.results, [[105 % 17]; 15]);
     let silent = plan_file(15, 14, 17, &plan.gates, &[Out { seat: 15, wire: 28 }]);

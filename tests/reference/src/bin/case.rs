@@ -1,15 +1,16 @@
 //! Writes a random case for the host program: `case SEED FOLDER` fills FOLDER with `plan`, `figures-I` and `coins-I` for each seat I,
 //! `results-I` with what the plan's own arithmetic grants it, and `bench-I` with the bench program's input for the set of seat I alone.
 //! `case K FOLDER` writes plan K of document 01 with the numbers of P1, `case long FOLDER` a plan of 15 seats, all of them dealers, with 120
-//! multiplies in turn, `case wide FOLDER` one in which a seat's mail has many shares from one sender, and `case late FOLDER` one with a seat
-//! that deals nothing.
+//! multiplies in turn, `case wide FOLDER` one in which a seat's mail has many shares from one sender, `case late FOLDER` one with a seat that
+//! deals nothing, and `case large FOLDER` one of version 3 over the largest prime.
 
-use reference::plan::{bytes, plan_file, Gate, Out, Plan};
+use reference::field::MOST;
+use reference::plan::{bytes_of, file, plan_file, Gate, Layout, Out, Plan};
 use reference::random::{plan, Random};
 use reference::run::{ideal, own};
 use std::fs::write;
 
-fn lines(list: &[u16]) -> String {
+fn lines(list: &[u32]) -> String {
     list.iter().map(|x| format!("{x}\n")).collect()
 }
 
@@ -45,6 +46,15 @@ fn late() -> Vec<u8> {
     plan_file(4, 1, 65521, &gates, &[Out { seat: 1, wire: 5 }, Out { seat: 4, wire: 4 }])
 }
 
+/// 5 seats with points of their choosing: their total, its square, and that times 70,000 plus 2,000,000,000.
+fn large() -> Vec<u8> {
+    let mut gates: Vec<Gate> = (1..=5).map(Gate::Input).collect();
+    gates.extend([Gate::Add(0, 1), Gate::Add(5, 2), Gate::Add(6, 3), Gate::Add(7, 4), Gate::Multiply(8, 8)]);
+    gates.extend([Gate::Scale(9, 70_000), Gate::Offset(10, 2_000_000_000), Gate::Multiply(11, 8)]);
+    let outs: Vec<Out> = (1..=5).map(|seat| Out { seat, wire: 7 + usize::from(seat) }).collect();
+    file(3, (5, 2, MOST), &gates, &outs, &[MOST - 1, 70_000, 3, 1, 65_536])
+}
+
 fn main() {
     let args: Vec<String> = std::env::args().collect();
     let (seed, folder) = (&args[1], &args[2]);
@@ -58,6 +68,7 @@ fn main() {
         "long" => long(),
         "wide" => wide(),
         "late" => late(),
+        "large" => large(),
         _ => plan(&mut random, 24),
     };
     let plan = Plan::read(&file).expect("a plan that passes");
@@ -66,13 +77,14 @@ fn main() {
     let coins = if known { vec![2, 3, 1, 5, 7] } else { random.elements(plan.coins(), p) };
     let values = ideal(&plan, &figures);
     std::fs::create_dir_all(folder).expect("a folder");
+    let two = |x: u32| bytes_of(&[x], 2);
+    let width = Layout::of(plan.version).width;
+    let numbers = [bytes_of(&figures, width), bytes_of(&coins, width)].concat();
     let put = |name: &str, contents: &[u8]| write(format!("{folder}/{name}"), contents).expect("a file");
     put("plan", &file);
     for seat in 1..=plan.n {
-        let granted: Vec<u16> = plan.outs_of(seat).map(|out| values[out.wire]).collect();
-        let input =
-            [&bytes(&[file.len() as u16])[..], &file, &bytes(&[1 << (seat - 1)]), &bytes(&figures), &bytes(&coins)]
-                .concat();
+        let granted: Vec<u32> = plan.outs_of(seat).map(|out| values[out.wire]).collect();
+        let input = [&two(file.len() as u32)[..], &file, &two(1 << (seat - 1)), &numbers].concat();
         put(&format!("figures-{seat}"), lines(&own(&figures, plan.figure_seats(), seat)).as_bytes());
         put(&format!("coins-{seat}"), lines(&own(&coins, plan.coin_seats(), seat)).as_bytes());
         put(&format!("results-{seat}"), lines(&granted).as_bytes());

@@ -4,10 +4,11 @@
 //! buffers that are only read must afterwards be as with the reference. Where a case is damaged on purpose, the
 //! reference's own answer must be the earliest damage's refusal.
 
-use reference::field::Field;
+use reference::field::{Field, MOST};
 use reference::formulas::{self, Formula};
 use reference::library::{Interface, LIBRARY, LINKED, REFERENCE};
-use reference::plan::{bytes, head, number, plan_file, Gate, Out, Plan};
+use reference::plan::{bytes, bytes_of, file, long, plan_file, Gate, Layout, Out, Plan};
+use reference::primes::prime;
 use reference::program::program;
 use reference::random::{self, Random};
 use reference::run::{ideal, run_by_calls, Step};
@@ -32,10 +33,12 @@ enum Case {
     Sheet { text: Vec<u8>, sizes: [u32; 4], plan: Vec<u8> },
     SheetSize { text: Vec<u8>, sizes: [u32; 4] },
     Charge { plan: Vec<u8>, price: u32, parts: Vec<u8> },
+    Convert { plan: Vec<u8>, out: Vec<u8> },
+    ConvertSize { plan: Vec<u8> },
 }
 
 /// Kinds of calls; the refusals and none.
-const KINDS: usize = 11;
+const KINDS: usize = 13;
 const NUMBERS: usize = 32;
 
 const NAMES: [&str; KINDS] = [
@@ -50,14 +53,17 @@ const NAMES: [&str; KINDS] = [
     "sheet",
     "sheet size",
     "charge",
+    "convert",
+    "conv. size",
 ];
 
 const IMPORT: usize = 6;
 const SHEET: usize = 8;
 const CHARGE: usize = 10;
+const CONVERT: usize = 11;
 
 /// How often a call must meet a refusal: kind of call, refusal, times.
-const MET: [(usize, usize, usize); 13] = [
+const MET: [(usize, usize, usize); 16] = [
     (IMPORT, 23, 500),
     (IMPORT, 24, 500),
     (SHEET, 27, 500),
@@ -71,6 +77,9 @@ const MET: [(usize, usize, usize); 13] = [
     (SHEET, 25, 200),
     (CHARGE, 25, 50),
     (CHARGE, 26, 50),
+    (CONVERT, 0, 200),
+    (CONVERT, 2, 200),
+    (CONVERT, 26, 50),
 ];
 
 /// How often all calls together must meet a refusal.
@@ -120,6 +129,8 @@ impl Case {
             Case::Sheet { .. } => SHEET,
             Case::SheetSize { .. } => 9,
             Case::Charge { .. } => CHARGE,
+            Case::Convert { .. } => CONVERT,
+            Case::ConvertSize { .. } => 12,
         }
     }
 
@@ -131,7 +142,7 @@ impl Case {
         match self {
             Case::Check { plan } | Case::Call { plan, .. } | Case::Bench { plan, .. } => Some(plan),
             Case::Match { plan, .. } | Case::SeatSize { plan, .. } | Case::RunSize { plan, .. } => Some(plan),
-            Case::Charge { plan, .. } => Some(plan),
+            Case::Charge { plan, .. } | Case::Convert { plan, .. } | Case::ConvertSize { plan } => Some(plan),
             Case::Import { .. } | Case::ImportSize { .. } | Case::Sheet { .. } | Case::SheetSize { .. } => None,
         }
     }
@@ -169,6 +180,11 @@ impl Case {
                 let mut parts = Lent::new(parts);
                 ((with.charge)(plan, *price, parts.slice()), vec![parts.0])
             }
+            Case::Convert { plan, out } => {
+                let mut out = Lent::new(out);
+                ((with.convert)(plan, out.slice()), vec![out.0])
+            }
+            Case::ConvertSize { plan } => ((with.convert_size)(plan), vec![]),
         }
     }
 
@@ -178,7 +194,7 @@ impl Case {
         let mut list = |name: &str, bytes: &[u8]| write!(text, "\n  {name} {}", hex(bytes)).unwrap();
         let mut numbers = String::new();
         match self {
-            Case::Check { plan } => list("plan", plan),
+            Case::Check { plan } | Case::ConvertSize { plan } => list("plan", plan),
             Case::Call { plan, seat, figures, coins, state, mail, out } => {
                 write!(numbers, "\n  seat {seat}").unwrap();
                 let parts = [("plan", plan), ("figures", figures), ("coins", coins), ("state", state), ("mail", mail)];
@@ -224,6 +240,10 @@ impl Case {
                 write!(numbers, "\n  price {price} room {}", parts.len()).unwrap();
                 list("plan", plan);
             }
+            Case::Convert { plan, out } => {
+                write!(numbers, "\n  room {}", out.len()).unwrap();
+                list("plan", plan);
+            }
         }
         text + &numbers
     }
@@ -236,19 +256,49 @@ fn hex(bytes: &[u8]) -> String {
 /// What has been counted so far.
 #[derive(Default)]
 struct Tally {
+    /// How often each part was worked.
+    parts: [usize; PARTS.len()],
     /// Cases by kind of call and refusal; 0 is a call that went through.
     met: [[usize; NUMBERS]; KINDS],
     /// Matchings that changed a coin.
     moved: usize,
-    /// Plans of version 2 that were refused 6.
-    second_layout: usize,
+    /// Plans lent, and plans refused 6, by version.
+    versions: [usize; 4],
+    layouts: [usize; 4],
     /// Runs of a sheet's plan whose result was compared with the formula's value.
     values: usize,
+    /// Inputs of the bench program.
+    inputs: usize,
     passed: usize,
     differences: usize,
 }
 
 impl Tally {
+    /// Every counter, in a fixed order.
+    fn counters(&mut self) -> Vec<&mut usize> {
+        let lists = [&mut self.parts[..], self.met.as_flattened_mut(), &mut self.versions, &mut self.layouts];
+        let single = [&mut self.moved, &mut self.values, &mut self.inputs, &mut self.passed, &mut self.differences];
+        lists.into_iter().flatten().chain(single).collect()
+    }
+
+    /// The counters as text, a line each.
+    fn text(&mut self) -> String {
+        self.counters().iter().map(|counter| format!("{counter}\n")).collect()
+    }
+
+    /// Adds the counters of a text; false if it isn't one of counters.
+    fn add(&mut self, text: &str) -> bool {
+        let (counters, lines) = (self.counters(), text.lines().map(str::parse::<usize>).collect::<Result<Vec<_>, _>>());
+        let Some(lines) = lines.ok().filter(|lines| lines.len() == counters.len()) else { return false };
+        counters.into_iter().zip(lines).for_each(|(counter, line)| *counter += line);
+        true
+    }
+
+    /// All cases.
+    fn cases(&self) -> usize {
+        self.met.iter().flatten().sum::<usize>() + self.inputs
+    }
+
     /// Compares one case; `expected` is the refusal the case was damaged for.
     fn compare(&mut self, case: &Case, expected: Option<u8>) {
         let reference = case.make(&REFERENCE);
@@ -256,7 +306,10 @@ impl Tally {
         let library = lent.make(&LIBRARY);
         let refusal = (reference.0 & 255) as usize;
         self.met[case.kind()][refusal] += 1;
-        self.second_layout += usize::from(refusal == 6 && lent.lent_plan().is_some_and(|plan| plan[4] == 2));
+        if let Some(&mut version @ 1..=3) = lent.lent_plan().and_then(|plan| plan.get_mut(4)) {
+            self.versions[usize::from(version)] += 1;
+            self.layouts[usize::from(version)] += usize::from(refusal == 6);
+        }
         if let Case::Match { coins, .. } = case {
             self.moved += usize::from(refusal == 0 && reference.1[0] != Lent::new(coins).0);
         }
@@ -282,14 +335,31 @@ impl Tally {
             }
         }
     }
+
+    /// Compares the bench program's text on one input.
+    fn compare_program(&mut self, input: &[u8]) {
+        let path = std::env::var("POOL_PROGRAM").expect("POOL_PROGRAM: the path of the bench program");
+        let (reference, product) = (program(input), product_text(&path, input));
+        self.inputs += 1;
+        if product.as_ref().is_ok_and(|text| text == reference.as_bytes()) {
+            self.passed += 1;
+            return;
+        }
+        self.differences += 1;
+        if self.differences <= 20 {
+            println!("DIFFERENCE: bench program\n  input {}\n  reference {reference:?}", hex(input));
+            println!("  product   {:?}", product.map(|text| String::from_utf8_lossy(&text).into_owned()));
+        }
+    }
 }
 
 /// A plan that passes, with a list of figures and a setting of coins, and the refusals that its cases are damaged for.
+#[derive(Clone)]
 struct World {
     file: Vec<u8>,
     plan: Plan,
-    figures: Vec<u16>,
-    coins: Vec<u16>,
+    figures: Vec<u32>,
+    coins: Vec<u32>,
     order: &'static [u8],
 }
 
@@ -309,7 +379,7 @@ impl World {
             set,
             figures: bytes(&self.figures),
             coins: bytes(&self.coins),
-            view: filler(random, 2 * self.plan.view(set).expect("a set that passes")),
+            view: list(random, self.plan.view(set).expect("a set that passes")),
         }
     }
 
@@ -321,7 +391,7 @@ impl World {
             coins: step.coins.clone(),
             state: step.state.clone(),
             mail: step.mail.clone(),
-            out: filler(random, step.written.len()),
+            out: list(random, step.written.len() / 4),
         }
     }
 
@@ -366,7 +436,7 @@ impl World {
             first: bytes(&self.figures),
             second: bytes(&second),
             coins: bytes(&self.coins),
-            matched: filler(random, 2 * self.coins.len()),
+            matched: list(random, self.coins.len()),
         }
     }
 }
@@ -376,15 +446,20 @@ fn filler(random: &mut Random, length: usize) -> Vec<u8> {
     (0..length).map(|_| random.bits() as u8).collect()
 }
 
-/// Another number of bytes: odd, one number more or less, none, many.
-fn wrong_length(random: &mut Random, list: &mut Vec<u8>) {
+/// What a list of so many numbers holds before it is written.
+fn list(random: &mut Random, count: usize) -> Vec<u8> {
+    (0..2 * count).flat_map(|_| (random.bits() as u16).to_le_bytes()).collect()
+}
+
+/// Another number of bytes: odd, one number of `width` bytes more or less, none, many.
+fn wrong_length(random: &mut Random, list: &mut Vec<u8>, width: usize) {
     let before = list.len();
     while list.len() == before {
         let length = match random.below(6) {
             0 => before + 1,
             1 => before.saturating_sub(1),
-            2 => before + 2,
-            3 => before.saturating_sub(2),
+            2 => before + width,
+            3 => before.saturating_sub(width),
             4 => 0,
             _ => before + random.range(1, 40),
         };
@@ -393,92 +468,107 @@ fn wrong_length(random: &mut Random, list: &mut Vec<u8>) {
 }
 
 /// Puts a number that isn't below `p` into a list, sometimes two; false if the list is empty.
-fn too_large(random: &mut Random, list: &mut [u8], p: u16) -> bool {
-    if list.len() < 2 {
+fn too_large(random: &mut Random, list: &mut [u8], p: u32) -> bool {
+    if list.len() < 4 {
         return false;
     }
     for _ in 0..random.range(1, 2) {
-        let i = 2 * random.below(list.len() / 2);
-        let any = random.range(usize::from(p), 65535) as u16;
-        put(list, i, random.pick(&[p, p + 1, u16::MAX, p | 0x8000, any]));
+        let i = 4 * random.below(list.len() / 4);
+        let any = random.range(p as usize, u32::MAX as usize) as u32;
+        put(list, i, random.pick(&[p, p + 1, u32::MAX, p | 0x8000_0000, p + 65536, any]));
     }
     true
 }
 
-fn put(list: &mut [u8], i: usize, x: u16) {
-    list[i..i + 2].copy_from_slice(&x.to_le_bytes());
+fn put(list: &mut [u8], i: usize, x: u32) {
+    put_of(list, i, x, 4);
+}
+
+/// Writes a number of `width` bytes.
+fn put_of(bytes: &mut [u8], i: usize, x: u32, width: usize) {
+    bytes[i..i + width].copy_from_slice(&x.to_le_bytes()[..width]);
+}
+
+/// Writes a plan's field k; field 0 is p.
+fn put_field(file: &mut [u8], plan: &Plan, k: usize, x: u32) {
+    let layout = Layout::of(plan.version);
+    put_of(file, layout.place(k), x, layout.width);
+}
+
+/// Where the outs, and where the points begin.
+fn ends(plan: &Plan) -> (usize, usize) {
+    let layout = Layout::of(plan.version);
+    let end = layout.head + layout.gate() * plan.gates.len();
+    (end, end + 3 * plan.outs.len())
+}
+
+/// A number of 1 to 2,147,483,647 or more that is no plan's p.
+fn no_prime(random: &mut Random) -> u32 {
+    let squares = [2_147_117_569, 2_147_302_921, 4_294_836_225];
+    let any = loop {
+        let x = random.bits() as u32;
+        if Field::new(x).is_none() {
+            break x;
+        }
+    };
+    let edges = [0, 65535, MOST - 1, MOST + 1, MOST + 2, 4_294_967_291, u32::MAX];
+    match random.below(3) {
+        0 => random.pick(&squares),
+        1 => random.pick(&edges),
+        _ => any,
+    }
 }
 
 /// Damages a plan file so that it gets the refusal, 1 to 8, 25 or 26, if no earlier one; false if that can't be done to it.
 fn damage_plan(random: &mut Random, file: &mut Vec<u8>, plan: &Plan, refusal: u8) -> bool {
-    let (n, p, gates, outs) = (plan.n, plan.field.p(), plan.gates.len(), plan.outs.len());
-    let start = head(plan.version);
-    let end = start + 6 * gates;
+    let [n, gates, outs] = [usize::from(plan.n), plan.gates.len(), plan.outs.len()].map(|x| x as u32);
+    let (p, layout, (end, _)) = (plan.field.p(), Layout::of(plan.version), ends(plan));
+    let most = if layout.width == 2 { 65535 } else { u32::MAX };
     match refusal {
         1 if random.once_in(2) => file.truncate(random.below(18)),
         1 => file[random.below(4)] ^= 1 << random.below(8),
-        2 => file[4] = random.pick(&[0, 5, 3, 129, 255]),
+        2 => file[4] = random.pick(&[0, 5, 6, 129, 255]),
         3 => file[5] = random.pick(&[0, 16, 17, 128, 255]),
         4 => file[6] = random.pick(&[n as u8 + 1, n as u8, 127, 128, 255]),
+        5 if plan.version == 3 && random.once_in(2) => put_field(file, plan, 0, no_prime(random)),
         5 => {
             let composite = loop {
-                let x = random.below(65536) as u16;
+                let x = random.below(65536) as u32;
                 if Field::new(x).is_none() {
                     break x;
                 }
             };
-            let small = random.below(usize::from(n) + 1) as u16;
-            put(file, 8, random.pick(&[0, 1, n, small, 9, 25, 49, 63001, 65025, 65535, composite, composite]));
+            let small = random.below(n as usize + 1) as u32;
+            let others = [0, 1, n, small, 9, 25, 49, 63001, 65025, 65535, composite, composite];
+            put_field(file, plan, 0, random.pick(&others));
         }
-        6 if plan.version == 2 && random.once_in(3) => second_layout(random, file, plan),
-        6 => match random.below(10) {
-            0 => file[7] = random.range(1, 255) as u8,
-            1 => put(file, 10, random.pick(&[0, start as u16 - 1, start as u16 + 1, start as u16 + 256, 65535])),
-            2 => put(file, 12, random.pick(&[0, 1025, gates as u16 + 1, gates as u16 - 1, 65535])),
-            3 => put(file, 14, random.pick(&[0, 18, end as u16 + 1, end as u16 - 1, end as u16 - 6])),
-            4 => put(file, 16, random.pick(&[0, 65, outs as u16 + 1, outs as u16 - 1, 65535])),
-            5 => {
-                file.pop();
-            }
-            6 => file.truncate(random.range(18, file.len() - 1)),
-            7 => file.extend(vec![0; random.range(1, 7)]),
-            8 => {
-                put(file, 12, 0);
-                put(file, 14, start as u16);
-                move_points(file, plan, start + 3 * outs);
-                file.drain(start..end);
-            }
-            _ => {
-                let outs = random.pick(&[0, 65]);
-                put(file, 16, outs);
-                let first_point = end + 3 * usize::from(outs);
-                move_points(file, plan, first_point);
-                file.resize(first_point + if plan.version == 1 { 0 } else { 2 * usize::from(n) }, 1);
-            }
-        },
+        6 if layout.has_points() && random.once_in(3) => own_layout(random, file, plan),
+        6 => wrong_layout(random, file, plan, most),
         7 => {
-            let g = random.below(gates);
-            let gate = &mut file[start + 6 * g..][..6];
-            let high = 0x8000 | random.below(g + 1) as u16;
-            let wire = random.pick(&[g as u16, g as u16 + 1, gates as u16, high, u16::MAX]);
-            let constant = random.pick(&[p, p + 1, u16::MAX]);
+            let g = random.below(gates as usize);
+            let gate = &mut file[layout.head + layout.gate() * g..][..layout.gate()];
+            let (a, b) = (2, 2 + layout.width);
+            let high = most / 2 + 1 + random.below(g + 1) as u32;
+            let wire = random.pick(&[g as u32, g as u32 + 1, gates, high, most]);
+            let constant = random.pick(&[p, p + 1, most]);
+            let mut put = |i, x| put_of(gate, i, x, layout.width);
             match (random.below(4), plan.gates[g]) {
                 (0, _) => gate[1] = random.range(1, 255) as u8,
                 (1, _) => gate[0] = random.pick(&[0, 6, 7, 129, 255]),
-                (2, Gate::Input(_)) => put(gate, 4, random.pick(&[1, 256, u16::MAX])),
-                (3, Gate::Scale(..) | Gate::Offset(..)) => put(gate, 4, constant),
-                (3, Gate::Add(..) | Gate::Multiply(..)) => put(gate, 4, wire),
-                (_, Gate::Input(_)) => put(gate, 2, random.pick(&[0, n + 1, 16, 256 + n, u16::MAX])),
-                _ => put(gate, 2, wire),
+                (2, Gate::Input(_)) => put(b, random.pick(&[1, 256, most])),
+                (3, Gate::Scale(..) | Gate::Offset(..)) => put(b, constant),
+                (3, Gate::Add(..) | Gate::Multiply(..)) => put(b, wire),
+                (_, Gate::Input(_)) => put(a, random.pick(&[0, n + 1, 16, (most >> 8) + 1 + n, most])),
+                _ => put(a, wire),
             }
         }
         8 => {
-            let out = &mut file[end + 3 * random.below(outs)..];
+            let out = &mut file[end + 3 * random.below(outs as usize)..];
             if random.once_in(2) {
                 out[0] = random.pick(&[0, n as u8 + 1, 16, 128 + n as u8, 255]);
             } else {
-                let high = 0x8000 | random.below(gates) as u16;
-                put(out, 1, random.pick(&[gates as u16, gates as u16 + 1, 1024, high, u16::MAX]));
+                let high = 0x8000 | random.below(gates as usize) as u32;
+                put_of(out, 1, random.pick(&[gates, gates + 1, 1024, high, 65535]), 2);
             }
         }
         25 => return too_few_seats(random, file, plan),
@@ -488,52 +578,89 @@ fn damage_plan(random: &mut Random, file: &mut Vec<u8>, plan: &Plan, refusal: u8
     true
 }
 
-/// Writes the points' offset, where the version has one.
-fn move_points(file: &mut [u8], plan: &Plan, offset: usize) {
-    if plan.version == 2 {
-        put(file, 18, offset as u16);
+/// Breaks the layout in a way that every version has.
+fn wrong_layout(random: &mut Random, file: &mut Vec<u8>, plan: &Plan, most: u32) {
+    let layout = Layout::of(plan.version);
+    let ((end, _), points) = (ends(plan), file.len() - ends(plan).1);
+    let [head, end_at, gates, outs] = [layout.head, end, plan.gates.len(), plan.outs.len()].map(|x| x as u32);
+    match random.below(10) {
+        0 => file[7] = random.range(1, 255) as u8,
+        1 => put_field(file, plan, 1, random.pick(&[0, head - 1, head + 1, head + 256, most])),
+        2 => put_field(file, plan, 2, random.pick(&[0, 1025, gates + 1, gates - 1, most])),
+        3 => put_field(file, plan, 3, random.pick(&[0, 18, end_at + 1, end_at - 1, end_at - 6])),
+        4 => put_field(file, plan, 4, random.pick(&[0, 65, outs + 1, outs - 1, most])),
+        5 => {
+            file.pop();
+        }
+        6 => file.truncate(random.range(18, file.len() - 1)),
+        7 => file.extend(vec![0; random.range(1, 7)]),
+        8 => {
+            put_field(file, plan, 2, 0);
+            put_field(file, plan, 3, head);
+            move_points(file, plan, layout.head + 3 * plan.outs.len());
+            file.drain(layout.head..end);
+        }
+        _ => {
+            let outs = random.pick(&[0, 65]);
+            put_field(file, plan, 4, outs);
+            let first_point = end + 3 * outs as usize;
+            move_points(file, plan, first_point);
+            file.resize(first_point + points, 1);
+        }
     }
 }
 
-/// Breaks what only version 2's layout has.
-fn second_layout(random: &mut Random, file: &mut Vec<u8>, plan: &Plan) {
-    let first = file.len() - 2 * usize::from(plan.n);
-    let offset = first as u16;
+/// Writes the points' offset, where the version has one.
+fn move_points(file: &mut [u8], plan: &Plan, offset: usize) {
+    if Layout::of(plan.version).has_points() {
+        put_field(file, plan, 5, offset as u32);
+    }
+}
+
+/// Breaks what only a layout with points has.
+fn own_layout(random: &mut Random, file: &mut Vec<u8>, plan: &Plan) {
+    let (layout, (end, first)) = (Layout::of(plan.version), ends(plan));
+    let (offset, head) = (first as u32, layout.head as u32);
     match random.below(6) {
-        0 => put(file, 18, random.pick(&[0, 18, 20, offset - 2, offset - 1, offset + 1, offset + 2, u16::MAX])),
-        1 => file.truncate(random.pick(&[18, 19, 20])),
-        2 => file[4] = 1,
+        0 => {
+            let others = [0, 18, head, offset - 2, offset - 1, offset + 1, offset + 2, 65535];
+            put_field(file, plan, 5, random.pick(&others));
+        }
+        1 => file.truncate(random.pick(&[18, 19, layout.head])),
+        2 if plan.version == 2 => file[4] = 1,
+        2 => {
+            let fields = [(1, layout.head), (2, plan.gates.len()), (3, end), (4, plan.outs.len()), (5, first)];
+            let (k, x) = random.pick(&fields);
+            put_field(file, plan, k, x as u32 + random.pick(&[1 << 16, 1 << 24, 1 << 31]));
+        }
         3 => file.truncate(random.range(first, file.len() - 1)),
-        4 => file.extend([1, 0]),
+        4 => file.extend(bytes_of(&[1], layout.width)),
         _ => {
-            // version 1's places
-            for (i, before) in [(10, 20), (14, end_of_gates(plan)), (18, first)] {
-                put(file, i, before as u16 - 2);
+            // bodies that stand where they would two bytes earlier
+            for (k, x) in [(1, layout.head), (3, end), (5, first)] {
+                put_field(file, plan, k, x as u32 - 2);
             }
         }
     }
 }
 
-fn end_of_gates(plan: &Plan) -> usize {
-    head(plan.version) + 6 * plan.gates.len()
-}
-
 /// A point that is 0, isn't below p or equals an earlier one; false in version 1.
 fn wrong_point(random: &mut Random, file: &mut [u8], plan: &Plan) -> bool {
-    let seats = usize::from(plan.n);
-    if plan.version == 1 {
+    let (layout, seats) = (Layout::of(plan.version), usize::from(plan.n));
+    if !layout.has_points() {
         return false;
     }
-    let (first, seat) = (file.len() - 2 * seats, random.below(seats));
-    let any = random.range(usize::from(plan.field.p()), 65535) as u16;
+    let (p, most) = (plan.field.p(), if layout.width == 2 { 65535 } else { u32::MAX });
+    let seat = random.below(seats);
+    let any = random.range(p as usize, most as usize) as u32;
     let other = random.below(seats);
     let point = match random.below(4) {
         0 => 0,
-        1 => random.pick(&[plan.field.p(), any, u16::MAX]),
+        1 => random.pick(&[p, any, most]),
         _ if other != seat => plan.points[other],
         _ => 0,
     };
-    put(file, first + 2 * seat, point);
+    put_of(file, ends(plan).1 + layout.width * seat, point, layout.width);
     true
 }
 
@@ -546,7 +673,8 @@ fn too_few_seats(random: &mut Random, file: &mut [u8], plan: &Plan) -> bool {
         if adds.is_empty() {
             return false;
         }
-        file[head(plan.version) + 6 * random.pick(&adds)] = 5;
+        let layout = Layout::of(plan.version);
+        file[layout.head + layout.gate() * random.pick(&adds)] = 5;
     }
     if 2 * plan.t < seats && seats > 1 {
         file[6] = random.range(seats.div_ceil(2), seats - 1) as u8;
@@ -571,7 +699,7 @@ fn damage(random: &mut Random, case: &mut Case, world: &Plan, refusal: u8) -> bo
     if refusal <= 8 || refusal > 22 {
         return damage_plan(random, case.plan(), world, refusal);
     }
-    let (p, last) = (world.field.p(), world.last_call() as u16);
+    let (p, last) = (world.field.p(), world.last_call() as u32);
     match (case, refusal) {
         (Case::Call { seat, .. } | Case::SeatSize { seat, .. }, 9) => {
             *seat = random.pick(&[0, world.n + 1, 16, 256 + *seat, u16::MAX]);
@@ -579,10 +707,10 @@ fn damage(random: &mut Random, case: &mut Case, world: &Plan, refusal: u8) -> bo
         (Case::Bench { set, .. } | Case::Match { set, .. } | Case::RunSize { set, .. }, 9) => {
             *set = wrong_set(random, world);
         }
-        (Case::Call { figures, .. } | Case::Bench { figures, .. }, 10) => wrong_length(random, figures),
+        (Case::Call { figures, .. } | Case::Bench { figures, .. }, 10) => wrong_length(random, figures, 4),
         (Case::Match { first, second, .. }, 10) => {
             let list = if random.once_in(2) { first } else { second };
-            wrong_length(random, list);
+            wrong_length(random, list, 4);
         }
         (Case::Call { figures, .. } | Case::Bench { figures, .. }, 11) => return too_large(random, figures, p),
         (Case::Match { first, second, .. }, 11) => {
@@ -597,32 +725,34 @@ fn damage(random: &mut Random, case: &mut Case, world: &Plan, refusal: u8) -> bo
             }
         }
         (Case::Call { coins, .. } | Case::Bench { coins, .. } | Case::Match { coins, .. }, 12) => {
-            wrong_length(random, coins);
+            wrong_length(random, coins, 4);
         }
         (Case::Call { coins, .. } | Case::Bench { coins, .. } | Case::Match { coins, .. }, 13) => {
             return too_large(random, coins, p);
         }
-        (Case::Call { state, .. }, 14) => wrong_length(random, state),
+        (Case::Call { state, .. }, 14) => wrong_length(random, state, 4),
         (Case::Call { state, .. }, 15) => {
             if random.once_in(3) {
-                put(state, 0, random.pick(&[last + 2, last + 3, last + 2 + 256, 0x8000 | last, u16::MAX]));
+                let high = 65536 + last;
+                put(state, 0, random.pick(&[last + 2, last + 3, last + 2 + 256, 0x8000_0000 | last, high, u32::MAX]));
             } else {
-                return too_large(random, &mut state[2..], p);
+                return too_large(random, &mut state[4..], p);
             }
         }
         (Case::Call { state, .. }, 16) => put(state, 0, last + 1),
-        (Case::Call { mail, .. }, 17) => wrong_length(random, mail),
+        (Case::Call { mail, .. }, 17) => wrong_length(random, mail, 4),
         (Case::Call { mail, .. }, 18) => return too_large(random, mail, p),
-        (Case::Call { out, .. }, 19) => wrong_length(random, out),
-        (Case::Bench { view, .. }, 19) => wrong_length(random, view),
-        (Case::Match { matched, .. }, 19) => wrong_length(random, matched),
+        (Case::Call { out, .. }, 19) => wrong_length(random, out, 4),
+        (Case::Convert { out, .. }, 19) => wrong_length(random, out, 2),
+        (Case::Bench { view, .. }, 19) => wrong_length(random, view, 4),
+        (Case::Match { matched, .. }, 19) => wrong_length(random, matched, 4),
         (Case::Call { state, mail, .. }, 20) => {
-            if number(state, 0) != last || mail.is_empty() || world.t + 1 == usize::from(world.n) {
+            if long(state, 0) != last || mail.is_empty() || world.t + 1 == usize::from(world.n) {
                 return false;
             }
-            let i = 2 * random.below(mail.len() / 2);
-            let change = random.range(1, usize::from(p) - 1) as u16;
-            let x = world.field.add(number(mail, i), change);
+            let i = 4 * random.below(mail.len() / 4);
+            let change = random.range(1, p as usize - 1) as u32;
+            let x = world.field.add(long(mail, i), change);
             put(mail, i, x);
         }
         (Case::Match { set, second, .. }, 21) => {
@@ -631,9 +761,9 @@ fn damage(random: &mut Random, case: &mut Case, world: &Plan, refusal: u8) -> bo
             if own.is_empty() {
                 return false;
             }
-            let i = 2 * random.pick(&own);
-            let change = random.range(1, usize::from(p) - 1) as u16;
-            let x = world.field.add(number(second, i), change);
+            let i = 4 * random.pick(&own);
+            let change = random.range(1, p as usize - 1) as u32;
+            let x = world.field.add(long(second, i), change);
             put(second, i, x);
         }
         _ => return false,
@@ -689,7 +819,7 @@ fn off_line(random: &mut Random, tally: &mut Tally, case: &Case, plan: &Plan) {
     let (seats, above) = (usize::from(plan.n), plan.t + 2);
     let mut off = case.clone();
     let Case::Call { mail, .. } = &mut off else { return };
-    let own = mail.len() / 2 / seats;
+    let own = mail.len() / 4 / seats;
     if own == 0 || above > seats {
         return;
     }
@@ -698,9 +828,9 @@ fn off_line(random: &mut Random, tally: &mut Tally, case: &Case, plan: &Plan) {
         let (j, x) = (i % own, i / own + 1);
         let also = j == out && x > seat || j > out;
         if j == out && x == seat || also && random.once_in(2) {
-            let change = random.range(1, usize::from(plan.field.p()) - 1) as u16;
-            let share = plan.field.add(number(mail, 2 * i), change);
-            put(mail, 2 * i, share);
+            let change = random.range(1, plan.field.p() as usize - 1) as u32;
+            let share = plan.field.add(long(mail, 4 * i), change);
+            put(mail, 4 * i, share);
         }
     }
     tally.compare(&off, Some(20));
@@ -745,9 +875,9 @@ fn calls(random: &mut Random, tally: &mut Tally, world: &World, often: usize) {
         step.call = random.below(last + 2);
         let (seat, wires) = (step.seat, plan.gates.len());
         let shares = if random.once_in(4) { vec![0; wires] } else { random.elements(wires, p) };
-        step.state = bytes(&[&[step.call as u16], &shares[..]].concat());
+        step.state = bytes(&[&[step.call as u32], &shares[..]].concat());
         step.mail = bytes(&random.elements(if step.call > last { 0 } else { plan.mail(seat, step.call) }, p));
-        step.written = vec![0; 2 * if step.call > last { 0 } else { plan.outgoing(seat, step.call) }];
+        step.written = vec![0; 4 * if step.call > last { 0 } else { plan.outgoing(seat, step.call) }];
         let case = world.call(random, &step);
         tally.compare(&case, (step.call > last).then_some(16));
         if step.call <= last {
@@ -846,7 +976,7 @@ fn layouts(tally: &mut Tally) {
         let plan = plan_file(3, 1, 11, &gates, &out[..outs]);
         tally.compare(&Case::Check { plan }, Some(refusal));
     }
-    for p in 0..=u16::MAX {
+    for p in 0..=65535 {
         if p % 16 == 1 || !(1000..=65000).contains(&p) {
             let plan = plan_file(5, 2, p, &[Gate::Input(1)], &out[..1]);
             let good = p > 5 && Field::new(p).is_some();
@@ -868,18 +998,20 @@ fn product_text(path: &str, input: &[u8]) -> std::io::Result<Vec<u8>> {
     Ok(child.wait_with_output()?.stdout)
 }
 
-/// Compares the product's bench program with the reference's; how many cases and how many differences.
-fn programs(random: &mut Random, path: &str, times: usize, plan: fn(&mut Random, usize) -> Vec<u8>) -> (usize, usize) {
+/// Compares the product's bench program with the reference's on random inputs.
+fn programs(random: &mut Random, tally: &mut Tally, times: usize, plan: fn(&mut Random, usize) -> Vec<u8>) {
     let mut inputs = vec![vec![], vec![0], vec![0; 2], vec![0; 4], vec![0; 32_768], vec![0; 32_769], vec![0; 32_770]];
     for _ in 0..times {
         let most = random.pick(&[30, 30, 200]);
         let file = plan(random, most);
         let world = World::new(random, file, &ORDER);
         let set = random::set(random, world.plan.n, world.plan.t);
-        let (length, set) = (bytes(&[world.file.len() as u16]), bytes(&[set]));
-        let mut input = [&length[..], &world.file, &set, &bytes(&world.figures), &bytes(&world.coins)].concat();
+        let width = Layout::of(world.plan.version).width;
+        let (length, set) = (bytes_of(&[world.file.len() as u32], 2), bytes_of(&[u32::from(set)], 2));
+        let mut input =
+            [&length[..], &world.file, &set, &bytes_of(&world.figures, width), &bytes_of(&world.coins, width)].concat();
         match random.below(4) {
-            0 => wrong_length(random, &mut input),
+            0 => wrong_length(random, &mut input, width),
             1 => {
                 let at = random.below(input.len());
                 let any = random.bits() as u8;
@@ -895,16 +1027,30 @@ fn programs(random: &mut Random, path: &str, times: usize, plan: fn(&mut Random,
         }
         inputs.push(input);
     }
-    let mut differences = 0;
-    for input in &inputs {
-        let (reference, product) = (program(input), product_text(path, input));
-        if !product.as_ref().is_ok_and(|text| text == reference.as_bytes()) {
-            differences += 1;
-            println!("DIFFERENCE: bench program\n  input {}\n  reference {reference:?}", hex(input));
-            println!("  product   {:?}", product.map(|text| String::from_utf8_lossy(&text).into_owned()));
+    inputs.iter().for_each(|input| tally.compare_program(input));
+}
+
+/// Inputs of refused plans and of every version, whole and cut: the version's byte says how wide their numbers are.
+fn widths(tally: &mut Tally) {
+    let gates = [Gate::Input(1), Gate::Input(2), Gate::Multiply(0, 1), Gate::Add(2, 0)];
+    let numbers = [4, 5, 2, 3, 1, 5, 7];
+    for layout in 1..=3 {
+        let plan = file(layout, (3, 1, 11), &gates, &[Out { seat: 3, wire: 3 }], &[1, 2, 3]);
+        for (version, width, cut) in [0, 1, 2, 3, 4, 5, 255]
+            .into_iter()
+            .flat_map(|v| [2, 4].into_iter().flat_map(move |w| (0..6).map(move |c| (v, w, c))))
+        {
+            let mut input =
+                [&bytes_of(&[plan.len() as u32], 2)[..], &plan, &[4, 0], &bytes_of(&numbers, width)].concat();
+            input[2 + 4] = version;
+            input.truncate(input.len() - cut);
+            tally.compare_program(&input);
+        }
+        for length in 0..plan.len() {
+            let input = [&bytes_of(&[length as u32], 2)[..], &plan[..length], &[4, 0, 1, 0]].concat();
+            tally.compare_program(&input);
         }
     }
-    (inputs.len(), differences)
 }
 
 /// One text made into a plan, in a buffer of its size, or of another; then its size. The case, where it has a plan.
@@ -921,7 +1067,7 @@ fn made(
     let plan = filler(random, room);
     if random.once_in(20) {
         let mut other = plan.clone();
-        wrong_length(random, &mut other);
+        wrong_length(random, &mut other, 2);
         tally.compare(&with_plan(other), if whole { Some(19) } else { expected });
     }
     let case = with_plan(plan);
@@ -948,7 +1094,7 @@ fn text_sizes(random: &mut Random, values: usize) -> [u32; 3] {
     while usize::from(n) < values {
         (n, t, p) = random::size(random);
     }
-    let mut sizes = [u32::from(n), t as u32, u32::from(p)];
+    let mut sizes = [u32::from(n), t as u32, p];
     if random.once_in(6) {
         let field = random.below(3);
         sizes[field] = any_size(random);
@@ -956,15 +1102,19 @@ fn text_sizes(random: &mut Random, values: usize) -> [u32; 3] {
             sizes[0] = 257;
         }
     }
-    not_wide(&mut sizes);
+    narrow(&mut sizes);
     sizes
 }
 
-/// A threshold of at least half the seats but below their number becomes one that is refused: `wide_texts` has such.
-fn not_wide(sizes: &mut [u32]) {
-    let (n, t) = (sizes[0], sizes[1]);
+/// A threshold of at least half the seats but below their number becomes one that is refused, and a prime above 65,535 the
+/// even number after it: `wide_texts` and `large_texts` have such.
+fn narrow(sizes: &mut [u32]) {
+    let (n, t, p) = (sizes[0], sizes[1], sizes[2]);
     if n <= 15 && t < n && 2 * t >= n {
         sizes[1] += n;
+    }
+    if p > 65_535 && Field::new(p).is_some() {
+        sizes[2] += 1;
     }
 }
 
@@ -1042,9 +1192,9 @@ fn by_value(random: &mut Random, tally: &mut Tally, case: &Case, text: &[u8], [n
     let plan = Plan::read(&written[17..written.len() - 17]);
     let names: Vec<Name> = Sheet::read(text, n, p).expect("a sheet").names;
     for _ in 0..2 {
-        let figures = random.elements(names.len(), p as u16);
+        let figures = random.elements(names.len(), p);
         let figure = |name| u64::from(figures[names.iter().position(|&other| other == name).expect("a name")]);
-        let value = formula_value(text, &figure, u64::from(p)) as u16;
+        let value = formula_value(text, &figure, u64::from(p)) as u32;
         let right = plan.as_ref().is_ok_and(|plan| {
             let belongs = names.iter().map(|name| name.1 as u16).eq(plan.figure_seats());
             let out = plan.outs[0];
@@ -1071,14 +1221,14 @@ fn sheets(random: &mut Random, tally: &mut Tally) {
             _ => random.range(2, 12),
         };
         let (n, t, p) = random::size(random);
-        let mut sizes = [u32::from(n), t as u32, u32::from(p), random.range(1, usize::from(n)) as u32];
+        let mut sizes = [u32::from(n), t as u32, p, random.range(1, usize::from(n)) as u32];
         let whole = Formula::new(random, n, p, operands);
         let loose = random.once_in(2);
         let bytes = whole.bytes(random, loose);
         sheet(random, tally, bytes.clone(), sizes, if operands < 200 { Some(0) } else { None });
         if random.once_in(3) {
             sizes[random.below(4)] = any_size(random);
-            not_wide(&mut sizes);
+            narrow(&mut sizes);
             sheet(random, tally, bytes.clone(), sizes, None);
         }
         let mut broken = whole.clone();
@@ -1150,7 +1300,7 @@ fn sheet_limits(random: &mut Random, tally: &mut Tally) {
         ("a1", [0, 0, 11, 1], 27),
         ("a1 + 0", [1, 0, 0, 1], 27),
         ("a1", [1, 0, 0, 1], 5),
-        ("a1", [1, 0, 65537, 1], 5),
+        ("a1", [1, 0, 65535, 1], 5),
         ("a1", [3, 3, 11, 0], 4),
         ("a1", [3, 1, 9, 0], 5),
         ("a3", [3, 1, 11, 0], 8),
@@ -1206,7 +1356,7 @@ fn charges(random: &mut Random, tally: &mut Tally, world: &World) {
     for mut case in [case(random, 1_000_000), dear] {
         let Case::Charge { parts, price, .. } = &mut case else { unreachable!("a charge") };
         let expected = if *price > 1_000_000 { 31 } else { 19 };
-        wrong_length(random, parts);
+        wrong_length(random, parts, 2);
         tally.compare(&case, Some(expected));
         let refusal = world.order[random.below(of_plans(world.order))];
         if damage_plan(random, case.plan(), &world.plan, refusal) {
@@ -1265,8 +1415,7 @@ fn wide_plans(random: &mut Random, tally: &mut Tally) {
 fn pointed_plans(random: &mut Random, tally: &mut Tally) {
     let mut files = Vec::new();
     for file in extremes(random).into_iter().chain(wide_extremes(random)) {
-        let points = random::points(random, u16::from(file[5]), number(&file, 8));
-        files.push((random::with_points(&file, &points), 8));
+        files.push((random::pointed(random, 2, &file), 8));
     }
     files.extend([2, 5, 8, 12, 20, 30].repeat(60).into_iter().map(|most| (random::pointed_plan(random, most), 8)));
     for (file, often) in files {
@@ -1279,33 +1428,35 @@ fn pointed_plans(random: &mut Random, tally: &mut Tally) {
     }
 }
 
-/// Checks of a version 2 plan: each way to break its layout or points, its version 1 twin, and any other points.
+/// Checks of a plan with points: each way to break its layout or points, its version 1 twin, and any other points.
 fn points(random: &mut Random, tally: &mut Tally, world: &World) {
-    let plan = &world.plan;
+    let (plan, layout) = (&world.plan, Layout::of(world.plan.version));
+    let first = ends(plan).1;
     for _ in 0..4 {
         for refusal in [6, 26] {
             let mut file = world.file.clone();
             if refusal == 6 {
-                second_layout(random, &mut file, plan);
+                own_layout(random, &mut file, plan);
             } else {
                 wrong_point(random, &mut file, plan);
             }
             tally.compare(&Case::Check { plan: file }, Some(refusal));
         }
         let mut file = world.file.clone();
-        let first = file.len() - 2 * usize::from(plan.n);
         for _ in 0..random.range(1, 3) {
             let at = random.range(first, file.len() - 1);
             file[at] = if random.once_in(3) { random.pick(&[0, 1, 255]) } else { random.bits() as u8 };
         }
         tally.compare(&Case::Check { plan: file }, None);
     }
-    let mut twin = plan_file(plan.n as u8, plan.t as u8, plan.field.p(), &plan.gates, &plan.outs);
-    tally.compare(&Case::Check { plan: twin.clone() }, Some(0));
-    twin[4] = 2;
-    tally.compare(&Case::Check { plan: twin }, Some(6));
+    if plan.version == 2 {
+        let mut twin = plan.file_of(1, &plan.outs, &[]);
+        tally.compare(&Case::Check { plan: twin.clone() }, Some(0));
+        twin[4] = 2;
+        tally.compare(&Case::Check { plan: twin }, Some(6));
+    }
     // short files: n, t and p are looked at before the layout
-    for length in [18, 19, 20, 21] {
+    for length in [18, 19, layout.head, layout.head + 1] {
         let mut file = world.file[..length].to_vec();
         tally.compare(&Case::Check { plan: file.clone() }, Some(6));
         let refusal = random.range(3, 5) as u8;
@@ -1314,11 +1465,173 @@ fn points(random: &mut Random, tally: &mut Tally, world: &World) {
     }
 }
 
+/// Plans of version 3 at the ends: the layout, the primes, and the most gates, outs and points.
+fn large_extremes(random: &mut Random) -> Vec<Vec<u8>> {
+    let mut files = Vec::new();
+    for (n, t, p, gates, multiplies) in [
+        (15, 7, MOST, 1024, 1023),
+        (15, 14, MOST, 1024, 0),
+        (15, 7, 2_147_483_629, 1024, 500),
+        (15, 7, 65537, 1024, 200),
+        (15, 7, 65521, 1024, 1023),
+        (1, 0, MOST, 1024, 1023),
+        (1, 0, 2, 1, 0),
+        (15, 7, 17, 30, 20),
+        (3, 1, MOST, 4, 2),
+    ] {
+        let gates = random::gates(random, n, p, gates, multiplies);
+        let outs = random::outs(random, n, gates.len(), 64);
+        let points: Vec<u32> = if random.once_in(2) {
+            (0..u32::from(n)).map(|seat| p - 1 - seat).collect()
+        } else {
+            random::points(random, n, p)
+        };
+        files.push(file(3, (n as u8, t, p), &gates, &outs, &points));
+    }
+    files
+}
+
+/// Checks of version 3's layout and primes.
+fn large_layouts(tally: &mut Tally) {
+    let out = [Out { seat: 1, wire: 0 }; 66];
+    for (gates, outs) in [(1024, 64), (1025, 1), (0, 1), (1, 0), (1, 65), (1024, 65), (65536 + 1, 1), (1, 65536 + 1)] {
+        let (gates, outs) = (vec![Gate::Input(1); gates], out.repeat(outs / 66 + 1)[..outs].to_vec());
+        let refusal = if gates.len() == 1024 && outs.len() == 64 { 0 } else { 6 };
+        let plan = file(3, (3, 1, MOST), &gates, &outs, &[1, 2, 3]);
+        tally.compare(&Case::Check { plan }, Some(refusal));
+    }
+    let around = |x: u32| x.saturating_sub(400)..=x.saturating_add(400);
+    for p in [0, 65536, 1 << 24, 46337 * 46337, 1 << 30, MOST, MOST + 400, u32::MAX].into_iter().flat_map(around) {
+        let plan = file(3, (1, 0, p), &[Gate::Input(1)], &out[..1], &[1]);
+        tally.compare(&Case::Check { plan }, Some(if p <= MOST && prime(p) { 0 } else { 5 }));
+    }
+    for version in 0..=255 {
+        let mut plan = file(3, (3, 1, MOST), &[Gate::Input(1)], &out[..1], &[1, 2, 3]);
+        plan[4] = version;
+        let expected = (version == 0 || version > 3).then_some(2);
+        let converted = if matches!(version, 1 | 2) { None } else { Some(2) };
+        tally.compare(&Case::Check { plan: plan.clone() }, expected);
+        tally.compare(&Case::ConvertSize { plan: plan.clone() }, converted);
+        tally.compare(&Case::Convert { plan, out: vec![7; 57] }, converted);
+    }
+}
+
+/// Plans of version 3: random ones and those at the ends.
+fn large_plans(random: &mut Random, tally: &mut Tally) {
+    large_layouts(tally);
+    let mut files: Vec<_> = large_extremes(random).into_iter().map(|file| (file, 8)).collect();
+    files.extend([2, 5, 8, 12, 20, 30].repeat(50).into_iter().map(|most| (random::large_plan(random, most), 8)));
+    for (file, often) in files {
+        let world = World::new(random, file, &POINTED_ORDER);
+        plans(random, tally, &world);
+        points(random, tally, &world);
+        calls(random, tally, &world, often);
+        runs(random, tally, &world, 2);
+        charges(random, tally, &world);
+        conversions(random, tally, &world);
+    }
+}
+
+/// Conversions of a world's plan: refused 2 where it is of version 3.
+fn conversions(random: &mut Random, tally: &mut Tally, world: &World) {
+    let expected = if world.plan.version == 3 { 2 } else { 0 };
+    let size = Case::ConvertSize { plan: world.file.clone() };
+    let room = 32 + 10 * world.plan.gates.len() + 3 * world.plan.outs.len() + 4 * usize::from(world.plan.n);
+    let whole = Case::Convert { plan: world.file.clone(), out: filler(random, room) };
+    for case in [&size, &whole] {
+        tally.compare(case, Some(expected));
+        if expected == 0 {
+            damaged(random, tally, case, &world.plan, world.order, 2);
+        }
+        for &refusal in &world.order[..of_plans(world.order)] {
+            let mut case = case.clone();
+            let first = refusal == 1 || expected == 0;
+            if damage_plan(random, case.plan(), &world.plan, refusal) {
+                tally.compare(&case, Some(if first { refusal } else { 2 }));
+            }
+        }
+    }
+    if expected == 0 {
+        let mut short = whole;
+        damage(random, &mut short, &world.plan, 19);
+        tally.compare(&short, Some(19));
+        let converted = conversion(&world.file);
+        tally.compare(&Case::Check { plan: converted.clone() }, Some(0));
+        // the converted plan: the same figures, coins, shares and results
+        let world = World { plan: Plan::read(&converted).expect("a plan"), file: converted, ..world.clone() };
+        runs(random, tally, &world, 1);
+    }
+}
+
+/// The library's conversion of a plan that passes.
+fn conversion(file: &[u8]) -> Vec<u8> {
+    let size = (LIBRARY.convert_size)(file) >> 8;
+    let mut converted = vec![0; size as usize];
+    (LIBRARY.convert)(file, &mut converted);
+    converted
+}
+
+/// The library's plan of a sheet, run on the bench and by seats.
+fn money(random: &mut Random, tally: &mut Tally, text: &[u8], [n, t, p, seat]: [u32; 4]) {
+    let mut file = vec![0; ((LIBRARY.sheet_size)(text, n, t, p, seat) >> 8) as usize];
+    (LIBRARY.sheet)(text, n, t, p, seat, &mut file);
+    if Plan::read(&file).is_ok() {
+        let world = World::new(random, file, &POINTED_ORDER);
+        calls(random, tally, &world, 4);
+        runs(random, tally, &world, 1);
+    }
+}
+
+/// Circuits and sheets for primes above 65,535, and numbers that are none.
+fn large_texts(random: &mut Random, tally: &mut Tally) {
+    for round in 0..1500 {
+        let wide = random.once_in(4);
+        let (n, t, _) = if wide { random::wide_size(random) } else { random::size(random) };
+        let (p, none) = (random::large_prime(random), no_prime(random));
+        let (gates, outputs) = (random.below(8), random.below(5));
+        let whole = Text::new(random, random_values(round).min(usize::from(n)), gates, round % 4, outputs);
+        let outs = whole.lines[2][1..].iter().any(|width| width != "0");
+        let multiplies = whole.lines[3..].iter().any(|line| line[line.len() - 1] != "INV");
+        let expected = match (outs, multiplies && wide) {
+            (false, _) => 6,
+            (true, true) => 25,
+            _ => 0,
+        };
+        let bytes = whole.bytes(random, true);
+        text(random, tally, bytes.clone(), [u32::from(n), t as u32, p], Some(expected));
+        text(random, tally, bytes, [u32::from(n), t as u32, none], Some(5));
+
+        let operands = random.range(1, 10);
+        let whole = Formula::new(random, n, p, operands);
+        let expected = if wide && whole.words.iter().any(|word| word == "*") { 25 } else { 0 };
+        let bytes = whole.bytes(random, true);
+        let seat = random.range(1, usize::from(n)) as u32;
+        sheet(random, tally, bytes.clone(), [u32::from(n), t as u32, p, seat], Some(expected));
+        sheet(random, tally, bytes.clone(), [u32::from(n), t as u32, none, seat], None);
+        if expected == 0 && round % 5 == 0 {
+            money(&mut Random(random.0), tally, &bytes, [u32::from(n), t as u32, p, seat]);
+        }
+        let mut broken = whole;
+        if broken.damage(random, u32::from(n), p, round % formulas::DAMAGES) {
+            let bytes = broken.bytes(random, false);
+            sheet(random, tally, bytes, [u32::from(n), t as u32, p, seat], Some(27));
+        }
+    }
+    for (p, expected) in [(65521, 0), (65535, 5), (65536, 5), (65537, 0), (MOST, 0), (2_147_483_629, 0), (MOST - 1, 5)]
+        .into_iter()
+        .chain([(MOST + 2, 5), (4_294_967_291, 5)])
+    {
+        sheet(random, tally, b"a1*70000 + b2*b2".to_vec(), [3, 1, p, 1], Some(if p > 70000 { expected } else { 27 }));
+        sheet(random, tally, b"a1 + b2*b2".to_vec(), [3, 1, p, 1], Some(expected));
+        text(random, tally, b"1 2\n1 1\n1 1\n2 1 0 0 1 XOR".to_vec(), [3, 1, p], Some(expected));
+    }
+}
+
 /// Circuits and sheets for thresholds of at least half the seats: refused 25 where they multiply.
 fn wide_texts(random: &mut Random, tally: &mut Tally) {
     for round in 0..1500 {
         let (n, t, p) = random::wide_size(random);
-        let sizes = [u32::from(n), t as u32, u32::from(p)];
+        let sizes = [u32::from(n), t as u32, p];
         let (gates, outputs) = (random.below(6), random.below(5));
         let whole = Text::new(random, random_values(round).min(usize::from(n)), gates, round % 4, outputs);
         let multiplies = whole.lines[3..].iter().any(|line| line[line.len() - 1] != "INV");
@@ -1351,42 +1664,94 @@ fn wide_texts(random: &mut Random, tally: &mut Tally) {
     }
 }
 
-fn main() -> ExitCode {
-    let start = Instant::now();
+/// Plans of version 1, circuits, and the bench program on such plans.
+fn first_plans(tally: &mut Tally) {
     let mut random = Random(20_260_101);
-    let mut tally = Tally::default();
-    layouts(&mut tally);
+    layouts(tally);
     for file in extremes(&mut random) {
         let world = World::new(&mut random, file, &ORDER);
-        plans(&mut random, &mut tally, &world);
-        calls(&mut random, &mut tally, &world, 20);
-        runs(&mut random, &mut tally, &world, 2);
+        plans(&mut random, tally, &world);
+        calls(&mut random, tally, &world, 20);
+        runs(&mut random, tally, &world, 2);
     }
     for most in [[2, 5, 8, 12, 20, 30].as_slice(); 130].concat().into_iter().chain([300; 8]) {
         let file = random::plan(&mut random, most);
         let world = World::new(&mut random, file, &ORDER);
-        plans(&mut random, &mut tally, &world);
-        calls(&mut random, &mut tally, &world, 8);
-        runs(&mut random, &mut tally, &world, 2);
+        plans(&mut random, tally, &world);
+        calls(&mut random, tally, &world, 8);
+        runs(&mut random, tally, &world, 2);
     }
-    circuits(&mut random, &mut tally);
-    sheets(&mut Random(20_260_205), &mut tally);
-    let mut other = Random(20_260_214);
-    let files = extremes(&mut other);
+    circuits(&mut random, tally);
+    programs(&mut random, tally, 300, random::plan);
+}
+
+/// Charges of version 1 plans.
+fn first_charges(tally: &mut Tally) {
+    let mut random = Random(20_260_214);
+    let files = extremes(&mut random);
     for most in [[2, 5, 12, 30].as_slice(); 200].concat() {
-        let file = random::plan(&mut other, most);
-        let world = World::new(&mut other, file, &ORDER);
-        charges(&mut other, &mut tally, &world);
+        let file = random::plan(&mut random, most);
+        let world = World::new(&mut random, file, &ORDER);
+        charges(&mut random, tally, &world);
     }
     for file in files {
-        let world = World::new(&mut other, file, &ORDER);
-        charges(&mut other, &mut tally, &world);
+        let world = World::new(&mut random, file, &ORDER);
+        charges(&mut random, tally, &world);
     }
-    wide_plans(&mut Random(20_260_303), &mut tally);
-    wide_texts(&mut Random(20_260_304), &mut tally);
-    pointed_plans(&mut Random(20_260_404), &mut tally);
+}
 
-    println!("library: {}", if LINKED { "libpool.a" } else { "none linked, the reference stands in" });
+/// Conversions of plans of versions 1 and 2.
+fn all_conversions(tally: &mut Tally) {
+    let mut random = Random(20_260_608);
+    for most in [2, 5, 12, 30].repeat(50) {
+        for plan in [random::plan, random::wide_plan, random::pointed_plan] {
+            let file = plan(&mut random, most);
+            let world = World::new(&mut random, file, &POINTED_ORDER);
+            conversions(&mut random, tally, &world);
+        }
+    }
+}
+
+/// The bench program on the other plans.
+fn other_programs(tally: &mut Tally) {
+    programs(&mut Random(20_260_305), tally, 100, random::wide_plan);
+    programs(&mut Random(20_260_405), tally, 150, random::pointed_plan);
+    programs(&mut Random(20_260_609), tally, 150, random::large_plan);
+    widths(tally);
+}
+
+/// Streams of cases, each from its own seed.
+type Part = &'static [fn(&mut Tally)];
+
+/// The streams in parts that take about as long; each may be worked in a process of its own.
+const PARTS: [Part; 2] = [
+    &[
+        first_plans,
+        |tally| sheets(&mut Random(20_260_205), tally),
+        first_charges,
+        |tally| wide_plans(&mut Random(20_260_303), tally),
+        |tally| wide_texts(&mut Random(20_260_304), tally),
+        |tally| pointed_plans(&mut Random(20_260_404), tally),
+        all_conversions,
+    ],
+    &[
+        |tally| large_plans(&mut Random(20_260_606), tally),
+        |tally| large_texts(&mut Random(20_260_607), tally),
+        other_programs,
+    ],
+];
+
+/// Works a part, counted from 0.
+fn work(tally: &mut Tally, part: usize) {
+    let start = Instant::now();
+    let before = tally.cases();
+    PARTS[part].iter().for_each(|stream| stream(tally));
+    tally.parts[part] += 1;
+    println!("part {}: {} cases, {:.1?}", part + 1, tally.cases() - before, start.elapsed());
+}
+
+/// Prints how often each refusal was met; how many were met too seldom.
+fn refusals(tally: &Tally) -> usize {
     println!("refusal  {}    all", NAMES.map(|name| format!("{name:>10}")).join(" "));
     let mut scarce = 0;
     for refusal in 0..NUMBERS {
@@ -1402,36 +1767,63 @@ fn main() -> ExitCode {
         scarce += usize::from(few);
         println!("{refusal:>7}  {} {all:>6}{}", row.join(" "), if few { "  TOO FEW" } else { "" });
     }
+    scarce
+}
+
+/// Prints all that was counted; whether nothing differs and every part and enough cases of each sort are there.
+fn report(tally: &Tally) -> bool {
+    println!("library: {}", if LINKED { "libpool.a" } else { "none linked, the reference stands in" });
+    let scarce = refusals(tally);
     println!("{} of the matchings changed a coin", tally.moved);
-    println!("{} plans of version 2 refused 6", tally.second_layout);
-    let [texts, sheets] = [IMPORT, SHEET].map(|kind| tally.met[kind].iter().sum::<usize>());
+    for version in 1..=3 {
+        println!("{} plans of version {version}, {} refused 6", tally.versions[version], tally.layouts[version]);
+    }
+    let [texts, sheets, bills] = [IMPORT, SHEET, CHARGE].map(|kind| tally.met[kind].iter().sum::<usize>());
     println!("{texts} texts imported or refused");
     println!("{sheets} sheets compiled or refused; {} runs of their plans compared with the formula", tally.values);
-    let bills: usize = tally.met[CHARGE].iter().sum();
     println!("{bills} charges");
-    let mut cases: usize = tally.met.iter().flatten().sum();
-    let path = std::env::var("POOL_PROGRAM").expect("POOL_PROGRAM: the path of the bench program");
-    let (mut wide, mut pointed) = (Random(20_260_305), Random(20_260_405));
-    for (random, times, plan) in [
-        (&mut random, 300, random::plan as fn(&mut Random, usize) -> Vec<u8>),
-        (&mut wide, 100, random::wide_plan),
-        (&mut pointed, 150, random::pointed_plan),
-    ] {
-        let (count, differences) = programs(random, &path, times, plan);
-        println!("bench program: {count} inputs, {differences} differ");
-        cases += count;
-        tally.passed += count - differences;
-        tally.differences += differences;
-    }
-    println!("{cases} cases, {} passed, {} differ, {:.1?}", tally.passed, tally.differences, start.elapsed());
-    if LINKED
+    println!("bench program: {} inputs", tally.inputs);
+    println!("{} cases, {} passed, {} differ", tally.cases(), tally.passed, tally.differences);
+    LINKED
+        && tally.parts == [1; PARTS.len()]
         && tally.differences == 0
+        && tally.passed == tally.cases()
         && scarce == 0
-        && cases >= 20_000
-        && tally.second_layout >= 200
+        && tally.cases() >= 100_000
+        && tally.versions[1..].iter().all(|&lent| lent >= 10_000)
+        && tally.layouts[1..].iter().all(|&refused| refused >= 200)
         && texts.min(sheets) >= 20_000
         && bills >= 5_000
-    {
+}
+
+/// `compare` works all parts, `compare part K FILE` part K alone and writes its counters to the file, `compare sum FILE..`
+/// adds up such files; `compare parts` prints how many parts there are.
+fn main() -> ExitCode {
+    let arguments: Vec<String> = std::env::args().skip(1).collect();
+    let mut tally = Tally::default();
+    let right = match arguments.iter().map(String::as_str).collect::<Vec<_>>()[..] {
+        [] => {
+            (0..PARTS.len()).for_each(|part| work(&mut tally, part));
+            report(&tally)
+        }
+        ["parts"] => {
+            println!("{}", PARTS.len());
+            true
+        }
+        ["part", part, path] => {
+            let part: usize = part.parse().expect("a part's number");
+            work(&mut tally, part - 1);
+            std::fs::write(path, tally.text()).expect("the counters' file");
+            tally.differences == 0
+        }
+        ["sum", ref paths @ ..] => {
+            let add = |path: &&str| tally.add(&std::fs::read_to_string(path).unwrap_or_default());
+            let whole = paths.iter().map(add).filter(|&added| added).count() == paths.len();
+            report(&tally) && whole
+        }
+        _ => panic!("compare | compare parts | compare part K FILE | compare sum FILE.."),
+    };
+    if right {
         ExitCode::SUCCESS
     } else {
         ExitCode::FAILURE
