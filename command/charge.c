@@ -26,6 +26,7 @@ static void charge(char **args)
     read_words(args, "plan", &path, options);
     uint32_t price = number_word("--price", word);
     struct plan plan = open_plan(path);
+    ask_sizes(&plan);
     struct bytes parts = fresh_bytes(bytes_of(plan.seats));
     uint64_t bill = value(pool_charge(plan.file.at, plan.file.len, price, parts.at, parts.len));
     struct report r;

@@ -19,7 +19,7 @@ struct command {
     void (*run)(char **args);
 };
 
-extern const struct command check_command, show_command, run_command, match_command, import_command, sheet_command, charge_command;
+extern const struct command check_command, show_command, run_command, match_command, import_command, sheet_command, convert_command, charge_command;
 
 /* The subcommand that runs; null before it is known. */
 extern const struct command *current;
@@ -35,7 +35,17 @@ struct option {
     bool needed;
 };
 
-/* Reads the words of a subcommand: its one operand, and its options, which a row without a name ends. Bad usage ends the program. */
+/* An operand: what it is in words, and where it is put. */
+struct operand {
+    const char *name;
+    const char **value;
+};
+
+/* Reads the words of a subcommand: its operands in order, all needed, and its options; a row without a name ends either table. Bad usage ends
+ * the program. */
+void read_operands(char **args, const struct operand *operands, const struct option *options);
+
+/* The same with one operand. */
 void read_words(char **args, const char *operand_name, const char **operand, const struct option *options);
 
 /* Ends the program: the message, and a hint. */
@@ -65,7 +75,7 @@ struct plan_numbers {
 #define PLAN_OPTIONS_HELP(others) \
     "  -n, --seats N        how many seats the plan has\n" \
     "  -t, --threshold T    the most seats that may put their views together\n" \
-    "  -p, --prime P        the prime\n" others \
+    "  -p, --prime P        the prime, at most 2147483647; above 65535 the plan is of version 3\n" others \
     "  -o, --output PLAN    the plan file that is written\n"
 
 struct plan_numbers plan_numbers_of(const struct plan_words *words);

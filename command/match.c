@@ -76,6 +76,7 @@ static void match(char **args)
     read_words(args, "plan", &path, options);
     uint16_t set = set_of(set_word);
     struct plan plan = open_plan(path);
+    ask_sizes(&plan);
     struct bytes first = list_of("--first", first_word), second = list_of("--second", second_word), coins = list_of("--coins", coins_word);
     struct bytes matched = matched_coins(&plan, set, first, second, coins);
     struct bytes views[] = {view_of(&plan, set, first, coins, NULL), view_of(&plan, set, second, matched, NULL)};

@@ -19,6 +19,7 @@ enum { VERSION_AT = 4, SEATS_AT = 5, THRESHOLD_AT = 6, GATE_HEAD = 2, OUT_HEAD =
 static const struct layout layouts[] = {
     [1] = {.prime = 8, .gates_at = 10, .gates = 12, .outs_at = 14, .outs = 16, .width = 2, .out_wire = 2},
     [2] = {.prime = 8, .gates_at = 10, .gates = 12, .outs_at = 14, .outs = 16, .points_at = 18, .width = 2, .out_wire = 2},
+    [3] = {.prime = 8, .gates_at = 12, .gates = 16, .outs_at = 20, .outs = 24, .points_at = 28, .width = 4, .out_wire = 2},
 };
 
 enum { LAYOUTS = sizeof layouts / sizeof *layouts };
@@ -81,9 +82,8 @@ static size_t ask_size(const struct plan *plan, unsigned seat, unsigned call, un
     return value(pool_seat_size(plan->file.at, plan->file.len, (uint16_t)seat, (uint16_t)call, (uint16_t)what));
 }
 
-static void ask_sizes(struct plan *plan)
+void ask_sizes(struct plan *plan)
 {
-    plan->calls = (unsigned)value(pool_calls(plan->file.at, plan->file.len));
     plan->mail = fresh(plan->calls * plan->seats, sizeof *plan->mail);
     plan->writes = fresh(plan->calls * plan->seats, sizeof *plan->writes);
     for (unsigned call = 0; call < plan->calls; call++)
@@ -136,7 +136,7 @@ struct plan plan_of(const char *name, struct bytes file)
     read_gates(&plan, l);
     read_outs(&plan, l);
     read_points(&plan, l);
-    ask_sizes(&plan);
+    plan.calls = (unsigned)value(pool_calls(plan.file.at, plan.file.len));
     return plan;
 }
 

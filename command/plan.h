@@ -39,7 +39,7 @@ struct plan {
     struct out *outs;
     struct figure *figures;
     unsigned calls;        /* of each seat; the last gives its results, the one before sends the outs */
-    size_t *mail, *writes; /* in bytes, by call and seat */
+    size_t *mail, *writes; /* in bytes, by call and seat; null before they are asked for */
 };
 
 /* Reads a plan file and asks the library to check it; a refusal ends the program. */
@@ -48,6 +48,10 @@ struct plan open_plan(const char *path);
 /* The same of a plan's bytes, which are the plan's from then on. */
 struct plan plan_of(const char *name, struct bytes file);
 void close_plan(struct plan *plan);
+
+/* Asks the library for the sizes of all calls, which mail_size, written_size, sent_by and part_of tell. Each answer checks the plan anew, and with it a
+ * prime of up to 31 bits: so who needs no sizes asks for none. */
+void ask_sizes(struct plan *plan);
 
 /* The bytes of a seat's list, as the library says (POOL_SEAT_FIGURES, POOL_SEAT_COINS, POOL_SEAT_STATE). */
 size_t seat_size(const struct plan *plan, unsigned seat, unsigned what);

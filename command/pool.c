@@ -15,6 +15,7 @@ static const struct command *const commands[] = {
     &match_command,
     &import_command,
     &sheet_command,
+    &convert_command,
     &charge_command,
 };
 

@@ -39,6 +39,7 @@ static void run(char **args)
     read_words(args, "plan", &path, options);
     uint16_t set = set_word ? set_of(set_word) : 0;
     struct plan plan = open_plan(path);
+    ask_sizes(&plan);
     struct bytes figures = list_of("--figures", figures_word), coins = coins_for(&plan, coins_word);
     struct bytes results[MAX_SEATS];
     struct report r;

@@ -130,6 +130,7 @@ static void show(char **args)
     const struct option options[] = {{.name = "dot", .flag = &dot}, {.name = "output", .letter = 'o', .value = &output}, {0}};
     read_words(args, "plan", &path, options);
     struct plan plan = open_plan(path);
+    ask_sizes(&plan);
     struct report r;
     open_report(&r);
     if (dot)

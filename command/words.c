@@ -45,25 +45,32 @@ static bool take_option(const struct option *options, const char *word, const ch
     return !after;
 }
 
-void read_words(char **args, const char *operand_name, const char **operand, const struct option *options)
+void read_operands(char **args, const struct operand *operands, const struct option *options)
 {
     bool only_operands = false;
+    const struct operand *next = operands;
     for (; *args; args++) {
         const char *word = *args;
         if (!only_operands && !strcmp(word, "--"))
             only_operands = true;
         else if (!only_operands && word[0] == '-' && word[1])
             args += take_option(options, word, args[1]);
-        else if (*operand)
+        else if (!next->name)
             bad_usage("'%s' is one word too many", word);
         else
-            *operand = word;
+            *next++->value = word;
     }
-    if (!*operand)
-        bad_usage("the %s is missing", operand_name);
+    if (next->name)
+        bad_usage("the %s is missing", next->name);
     for (const struct option *o = options; o->name; o++)
         if (o->needed && !*o->value)
             bad_usage("--%s is missing", o->name);
+}
+
+void read_words(char **args, const char *operand_name, const char **operand, const struct option *options)
+{
+    const struct operand one[] = {{operand_name, operand}, {0}};
+    read_operands(args, one, options);
 }
 
 uint32_t number_word(const char *option, const char *word)

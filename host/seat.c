@@ -386,6 +386,7 @@ static void take_part(const char *description, const char *key, const char *home
     pthread_cond_init(&changed, &clock);
     open_description(&run, description);
     plan = plan_of(run.plan_path, run.plan);
+    ask_sizes(&plan);
     if (plan.seats != run.seats)
         refuse("the plan is for %u seats, and the description has %u", plan.seats, run.seats);
     record.run = &run;

@@ -32,10 +32,28 @@
  * numbers of a plan file are is the file's own affair. Bytes left over at the
  * end of a list make its count wrong.
  *
- * A host that was written for lists of two bytes a number lends and reads twice
- * as many bytes, and pool_seat_size and pool_run_size answer twice what they
- * did. Plan files stay as they are; a state that is under way does not: run the
- * plan anew.
+ *
+ * Plan files
+ * ----------
+ *
+ * Versions 1, 2 and 3 are read. A number of the file takes two bytes in
+ * versions 1 and 2 and four in version 3, an out's wire two in all of them; so a
+ * prime above 65,535, up to 2,147,483,647, needs version 3. Version 1 has no
+ * points: they are 1 to n. pool_convert makes version 3 of the other two.
+ *
+ *
+ * What changed for a C host
+ * -------------------------
+ *
+ * Numbers of lists had two bytes each, and primes went up to 65,521. Now figures,
+ * coins, states, mail, results, views and matched coins have four bytes a number
+ * in every call, for plans of every version. A host that was written for two
+ * lends and reads twice as many bytes; pool_seat_size and pool_run_size answer
+ * twice what they did. p may be up to 2,147,483,647, so keep a number in
+ * uint32_t. pool_import and pool_sheet write version 3 where p is above 65,535,
+ * and version 1 as before elsewhere. Stored plans stay as they are and give the
+ * same results and shares; a state that is under way does not fit: run the plan
+ * anew.
  *
  *
  * Answers
@@ -80,7 +98,7 @@ extern "C" {
 #define POOL_STACK_BENCH 131072
 #define POOL_STACK_MATCH 262144
 #define POOL_STACK_IMPORT 81920
-#define POOL_STACK_SHEET 32768
+#define POOL_STACK_SHEET 40960
 
 /* The refusal's number in an answer, 0 where there is none; and its place. */
 #define POOL_REFUSAL(answer) ((unsigned)((answer) & 0xff))
@@ -106,7 +124,7 @@ static inline const char *pool_refusal_sentence(unsigned number)
 /*
  * Checks a plan.
  *
- * plan, plan_len: the bytes of a plan file of version 1 or 2, any number of
+ * plan, plan_len: the bytes of a plan file of version 1, 2 or 3, any number of
  *                 them.
  *
  * Answers 0 where the plan passes, else the first of refusals 1 to 8, 25 and
@@ -140,7 +158,9 @@ uint64_t pool_import_size(const uint8_t *text, size_t text_len, uint32_t n,
  * Imports a circuit: writes a plan that computes it.
  *
  * text, text_len, n, t, p: as above.
- * plan, plan_len:          written: the plan file, of exactly its size.
+ * plan, plan_len:          written: the plan file, of exactly its size; of
+ *                          version 1, or where p is above 65,535 of version 3
+ *                          with the points 1 to n.
  *
  * Input value k, counted from 1, belongs to party k: its figures are the bits
  * of that value, 0 or 1, in wire order. Party 1 gets the output bits, in wire
@@ -178,7 +198,9 @@ uint64_t pool_sheet_size(const uint8_t *text, size_t text_len, uint32_t n,
  * Compiles a formula sheet: writes a plan that computes it.
  *
  * text, text_len, n, t, p, seat: as above.
- * plan, plan_len:                written: the plan file, of exactly its size.
+ * plan, plan_len:                written: the plan file, of exactly its size;
+ *                                of version 1, or where p is above 65,535 of
+ *                                version 3 with the points 1 to n.
  *
  * Each name is an input of the party that it names, and the figures stand in
  * the order in which the names are first used. The result is the formula's
@@ -189,6 +211,34 @@ uint64_t pool_sheet_size(const uint8_t *text, size_t text_len, uint32_t n,
  */
 uint64_t pool_sheet(const uint8_t *text, size_t text_len, uint32_t n,
     uint32_t t, uint32_t p, uint32_t seat, uint8_t *plan, size_t plan_len);
+
+/*
+ * The size in bytes of a plan as a file of version 3.
+ *
+ * plan, plan_len: the bytes of a plan file of version 1 or 2, any number of
+ *                 them.
+ *
+ * Answers the size as its value: 32 and ten for each gate, three for each out,
+ * four for each party; or the first of refusals 1 to 8, 25 and 26, as
+ * pool_plan_check does, but with 2 for every version that is not 1 or 2.
+ */
+uint64_t pool_convert_size(const uint8_t *plan, size_t plan_len);
+
+/*
+ * Converts a plan: writes it as a file of version 3.
+ *
+ * plan, plan_len: as above.
+ * out, out_len:   written: the plan file of version 3, of exactly its size.
+ *
+ * n, t, p, gates, outs and points stay, in order; the points of a version 1
+ * plan are 1 to n. So every call answers and writes for both files the same,
+ * but for what speaks of the file itself: pool_convert, pool_convert_size.
+ *
+ * Answers 0 and has written out, or answers the first of refusals 1 to 8, 25 and
+ * 26, as above, and 19, and has written nothing.
+ */
+uint64_t pool_convert(const uint8_t *plan, size_t plan_len, uint8_t *out,
+    size_t out_len);
 
 /*
  * How many calls each party makes: M + 3, numbered 0 to M + 2, with M the

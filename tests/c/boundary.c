@@ -4,7 +4,7 @@
 
 #include "plans.h"
 
-enum { CASES = 3000 };
+enum { CASES = 6000 };
 
 struct slice {
     uint8_t *block, *at;
@@ -38,43 +38,59 @@ static struct slice lend_text(const char *text, size_t len)
     return s;
 }
 
-int main(void)
+/* The calls that take a plan: K, whole or not, and lists of any bytes. */
+static void plan_calls(const uint8_t *k, size_t k_len)
+{
+    static const size_t sizes[] = {0, BYTES(1), BYTES(2), BYTES(3), BYTES(5), BYTES(10), BYTES(20)};
+    struct slice s[6], parts = lend(NULL, below(3) ? 12 : below(20)), converted = lend(NULL, below(3) ? 87 : below(100));
+    s[0] = lend_text((const char *)k, k_len);
+    for (unsigned j = 1; j < 6; j++)
+        s[j] = lend(NULL, below(3) ? sizes[below(7)] : below(BYTES(25)));
+    if (!below(3))
+        s[3].len = s[3].len > BYTES(5) ? BYTES(5) : s[3].len;
+    uint16_t seat = (uint16_t)(below(4) ? below(5) : below(65536));
+    check(pool_plan_check(s[0].at, s[0].len));
+    check(pool_calls(s[0].at, s[0].len));
+    check(pool_seat_size(s[0].at, s[0].len, seat, (uint16_t)below(6), (uint16_t)below(6)));
+    check(pool_run_size(s[0].at, s[0].len, seat, (uint16_t)below(4)));
+    check(pool_seat_call(s[0].at, s[0].len, seat, s[1].at, s[1].len, s[2].at, s[2].len, s[3].at, s[3].len, s[4].at, s[4].len, s[5].at, s[5].len));
+    check(pool_bench(s[0].at, s[0].len, seat, s[1].at, s[1].len, s[2].at, s[2].len, s[3].at, s[3].len));
+    check(pool_match(s[0].at, s[0].len, seat, s[1].at, s[1].len, s[2].at, s[2].len, s[4].at, s[4].len, s[5].at, s[5].len));
+    check(pool_charge(s[0].at, s[0].len, below(2) ? 1000000 - below(3) : 1000000 + below(3), parts.at, parts.len));
+    check(pool_convert_size(s[0].at, s[0].len));
+    check(pool_convert(s[0].at, s[0].len, converted.at, converted.len));
+    free(parts.block);
+    free(converted.block);
+    for (unsigned j = 0; j < 6; j++)
+        free(s[j].block);
+}
+
+/* The calls that take a text. */
+static void text_calls(unsigned p)
 {
     static const char circuit[] = "3 7\n2 2 2\n1 1\n\n2 1 0 2 4 XOR\n2 1 1 3 5 AND\n2 1 4 5 6 XOR\n";
     static const char sheet[] = "2*a1 + a1*(b2 - 3)";
-    uint8_t k[64];
-    size_t k_len = plan_k(k);
+    uint16_t seat = (uint16_t)(below(4) ? below(5) : below(65536));
+    struct slice text = lend_text(circuit, sizeof circuit - 1), plan = lend(NULL, below(3) ? (p < 65536 ? 99 : 177) : below(200));
+    check(pool_import_size(text.at, text.len, 3, 1, p));
+    check(pool_import(text.at, text.len, 3, 1, p, plan.at, plan.len));
+    free(text.block);
+    free(plan.block);
+    text = lend_text(sheet, sizeof sheet - 1);
+    plan = lend(NULL, below(3) ? (p < 65536 ? 87 : 157) : below(200));
+    check(pool_sheet_size(text.at, text.len, 3, 1, p, seat));
+    check(pool_sheet(text.at, text.len, 3, 1, p, seat, plan.at, plan.len));
+    free(text.block);
+    free(plan.block);
+}
+
+int main(void)
+{
+    uint8_t first[64], k[128];
+    plan_k(first);
     for (unsigned i = 0; i < CASES; i++) {
-        static const size_t sizes[] = {0, BYTES(1), BYTES(2), BYTES(3), BYTES(5), BYTES(10), BYTES(20)};
-        struct slice s[6];
-        s[0] = lend_text((const char *)k, k_len);
-        for (unsigned j = 1; j < 6; j++)
-            s[j] = lend(NULL, below(3) ? sizes[below(7)] : below(BYTES(25)));
-        if (!below(3))
-            s[3].len = s[3].len > BYTES(5) ? BYTES(5) : s[3].len;
-        uint16_t seat = (uint16_t)(below(4) ? below(5) : below(65536));
-        check(pool_plan_check(s[0].at, s[0].len));
-        check(pool_calls(s[0].at, s[0].len));
-        check(pool_seat_size(s[0].at, s[0].len, seat, (uint16_t)below(6), (uint16_t)below(6)));
-        check(pool_run_size(s[0].at, s[0].len, seat, (uint16_t)below(4)));
-        check(pool_seat_call(s[0].at, s[0].len, seat, s[1].at, s[1].len, s[2].at, s[2].len, s[3].at, s[3].len, s[4].at, s[4].len, s[5].at, s[5].len));
-        check(pool_bench(s[0].at, s[0].len, seat, s[1].at, s[1].len, s[2].at, s[2].len, s[3].at, s[3].len));
-        check(pool_match(s[0].at, s[0].len, seat, s[1].at, s[1].len, s[2].at, s[2].len, s[4].at, s[4].len, s[5].at, s[5].len));
-        struct slice parts = lend(NULL, below(3) ? 12 : below(20));
-        check(pool_charge(s[0].at, s[0].len, below(2) ? 1000000 - below(3) : 1000000 + below(3), parts.at, parts.len));
-        free(parts.block);
-        for (unsigned j = 0; j < 6; j++)
-            free(s[j].block);
-        s[0] = lend_text(circuit, sizeof circuit - 1);
-        s[1] = lend(NULL, below(3) ? 99 : below(120));
-        check(pool_import_size(s[0].at, s[0].len, 3, 1, 11));
-        check(pool_import(s[0].at, s[0].len, 3, 1, 11, s[1].at, s[1].len));
-        s[2] = lend_text(sheet, sizeof sheet - 1);
-        s[3] = lend(NULL, below(3) ? 87 : below(120));
-        check(pool_sheet_size(s[2].at, s[2].len, 3, 1, 11, seat));
-        check(pool_sheet(s[2].at, s[2].len, 3, 1, 11, seat, s[3].at, s[3].len));
-        for (unsigned j = 0; j < 4; j++)
-            free(s[j].block);
+        plan_calls(k, in_version(1 + i % VERSIONS, k, first, (const unsigned[]){1, 2, 3}));
+        text_calls(i % 2 ? 11 : MOST_PRIME);
     }
     passed = failed == 0;
     printf("%d passed, %d failed\n", passed, failed);

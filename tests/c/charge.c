@@ -6,7 +6,7 @@
 
 enum { SEATS = 15, GATES = 1024, OUTS = 64, ROOM = BYTES(SEATS + 1) };
 
-static uint8_t plan[18 + 6 * GATES + 3 * OUTS], parts[ROOM];
+static uint8_t plan[MOST_PLAN], parts[ROOM];
 static size_t plan_len;
 
 static void expect_number(const char *what, uint64_t got, uint64_t want)
@@ -153,7 +153,7 @@ static void few_dealers(void)
             plan_len = plan_k(plan);
             plan[5] = (uint8_t)n;
             plan[6] = (uint8_t)t;
-            put_field(plan + 8, 17);
+            put_field(plan, PRIME, 17);
             uint64_t sent[SEATS];
             for (unsigned i = 0; i < n; i++)
                 sent[i] = (i < 2 ? n : 0) + (i < 2 * t + 1 ? n : 0) + 1;
@@ -168,12 +168,11 @@ static void few_dealers(void)
 
 static void largest(unsigned n, unsigned t, unsigned inputs)
 {
-    contents(plan, n, t, 65521, GATES, OUTS);
+    plan_len = contents(plan, n, t, 65521, GATES, OUTS);
     for (unsigned g = 0; g < GATES; g++)
         gate(plan, g, g < inputs ? 1 : 5, g < inputs ? 1 + g % n : g - 1, g < inputs ? 0 : g / 2);
     for (unsigned o = 0; o < OUTS; o++)
         out(plan, GATES, o, 1, GATES - 1);
-    plan_len = sizeof plan;
 }
 
 static void large(void)
@@ -198,10 +197,11 @@ static void large(void)
 
 static void random_plans(void)
 {
-    static const unsigned primes[] = {17, 257, 65521};
+    static const unsigned primes[] = {17, 257, 65521, 65537, MOST_PRIME};
     for (unsigned round = 0; round < 300; round++) {
         unsigned n = 1 + below(SEATS), t = below((n + 1) / 2), gates = 1 + below(30), outs = 1 + below(6);
-        contents(plan, n, t, primes[below(3)], gates, outs);
+        unsigned version = 1 + below(VERSIONS);
+        plan_len = contents_in(version, plan, n, t, primes[below(version == 3 ? 5 : 3)], gates, outs);
         for (unsigned g = 0; g < gates; g++)
             if (g == 0 || below(2))
                 gate(plan, g, 1, 1 + below(n), 0);
@@ -209,7 +209,6 @@ static void random_plans(void)
                 gate(plan, g, below(2) ? 5 : 2, below(g), below(g));
         for (unsigned o = 0; o < outs; o++)
             out(plan, gates, o, 1 + below(n), below(gates));
-        plan_len = 18 + 6 * gates + 3 * outs;
         by_calls("a random plan", below(3) ? below(5000) : below(1000001));
     }
 }

@@ -37,15 +37,22 @@ static void imports(const char *what, const char *from, size_t len, unsigned n, 
     expect(what, pool_plan_check(plan, size), 0, 0);
 }
 
+/* The worked example's plan; two gates scale by p - 2. */
+static size_t worked_plan(uint8_t *want, unsigned p)
+{
+    static const uint8_t gates[13][3] = {{1, 1, 0}, {1, 1, 0}, {1, 2, 0}, {1, 2, 0}, {5, 0, 2},   {3, 4, 0},  {2, 0, 2},
+                                         {2, 6, 5}, {5, 1, 3}, {5, 7, 8}, {3, 9, 0}, {2, 7, 8}, {2, 11, 10}};
+    size_t len = contents_in(version_for(p), want, 3, 1, p, 13, 1);
+    for (unsigned g = 0; g < 13; g++)
+        gate(want, g, gates[g][0], gates[g][1], gates[g][0] == 3 ? p - 2 : gates[g][2]);
+    out(want, 13, 0, 1, 12);
+    return len;
+}
+
 static void worked(void)
 {
-    static const uint8_t gates[13][3] = {{1, 1, 0}, {1, 1, 0}, {1, 2, 0}, {1, 2, 0}, {5, 0, 2},   {3, 4, 9},  {2, 0, 2},
-                                         {2, 6, 5}, {5, 1, 3}, {5, 7, 8}, {3, 9, 9}, {2, 7, 8}, {2, 11, 10}};
     uint8_t want[99];
-    contents(want, 3, 1, 11, 13, 1);
-    for (unsigned g = 0; g < 13; g++)
-        gate(want, g, gates[g][0], gates[g][1], gates[g][2]);
-    out(want, 13, 0, 1, 12);
+    worked_plan(want, 11);
     imports("the worked example", example, sizeof example - 1, 3, 1, 11, sizeof want);
     expect_bytes("the worked example's plan", plan, want, sizeof want);
     expect("a buffer one byte short", import(example, sizeof example - 1, 3, 1, 11, 98), 19, 0);
@@ -54,6 +61,21 @@ static void worked(void)
     static const char loose[] = "\n  \n 3   7 \n\n2 2 2\n  1 1  \n2 1 0 2 4 XOR   \n  2 1 1 3 5 AND\n2  1  4  5  6  XOR\n  \n\n";
     imports("blanks and empty lines", loose, sizeof loose - 1, 3, 1, 11, sizeof want);
     expect_bytes("blanks and empty lines change nothing", plan, want, sizeof want);
+}
+
+/* Version 1 up to 65,535, version 3 with points 1 to n above. */
+static void versions_of(void)
+{
+    static const unsigned primes[] = {5, 65521, 65537, 65539, 2147483629, MOST_PRIME};
+    for (unsigned k = 0; k < sizeof primes / sizeof *primes; k++) {
+        uint8_t want[256];
+        size_t len = worked_plan(want, primes[k]);
+        hold("the file's size", len == (primes[k] < 65536 ? 18 + 6 * 13 + 3 : 32 + 10 * 13 + 3 + 4 * 3));
+        imports("the example over this prime", example, sizeof example - 1, 3, 1, primes[k], len);
+        expect_bytes("the example's plan over this prime", plan, want, len);
+        expect("a buffer one byte short", import(example, sizeof example - 1, 3, 1, primes[k], len - 1), 19, 0);
+        expect("a buffer one byte long", import(example, sizeof example - 1, 3, 1, primes[k], len + 1), 19, 0);
+    }
 }
 
 static void breaks(void)
@@ -107,7 +129,12 @@ static void others(void)
     refused("t of 2^31", example, 3, 1u << 31, 11, 4);
     refused("p not prime", example, 3, 1, 9, 5);
     refused("p not above n", example, 3, 1, 3, 5);
-    refused("p above 65,535", example, 3, 1, 65537, 5);
+    refused("p of 65,535", example, 3, 1, 65535, 5);
+    refused("p of 65,536", example, 3, 1, 65536, 5);
+    refused("p below 2^31 - 1 and no prime", example, 3, 1, MOST_PRIME - 1, 5);
+    refused("p of 2^31", example, 3, 1, 1u << 31, 5);
+    refused("a prime above 2^31", example, 3, 1, 2147483659u, 5);
+    refused("the largest prime of 32 bits", example, 3, 1, 4294967291u, 5);
     refused("p of 0", example, 3, 1, 0, 5);
     refused("no outs", "0 1\n1 1\n0\n", 3, 1, 11, 6);
     refused("no gates", "0 0\n0\n0\n", 3, 1, 11, 6);
@@ -130,10 +157,12 @@ static void limits(void)
     const char *from = (const char *)text;
     chain(2, 511, 1);
     imports("1,024 gates", from, text_len, 3, 1, 11, 18 + 6 * 1024 + 3);
+    imports("1,024 gates in version 3", from, text_len, 3, 1, 65537, 32 + 10 * 1024 + 3 + 4 * 3);
     chain(1, 512, 1);
     expect("1,025 gates", import(from, text_len, 3, 1, 11, 18 + 6 * 1025 + 3), 24, 0);
     chain(64, 0, 64);
     imports("64 outs", from, text_len, 3, 1, 11, 18 + 6 * 64 + 3 * 64);
+    imports("64 outs in version 3", from, text_len, 15, 7, MOST_PRIME, 32 + 10 * 64 + 3 * 64 + 4 * 15);
     chain(65, 0, 65);
     expect("65 outs", import(from, text_len, 3, 1, 11, 18 + 6 * 65 + 3 * 65), 24, 0);
     chain(1, 65534, 1);
@@ -216,9 +245,9 @@ static unsigned alone(size_t plan_len, unsigned bits, unsigned a, unsigned b)
 
 static void comparators(void)
 {
-    static const unsigned primes[] = {5, 11, 257, 65521};
+    static const unsigned primes[] = {5, 11, 257, 65521, 65537, MOST_PRIME};
     comparator(16, 2);
-    for (unsigned i = 0; i < 4; i++) {
+    for (unsigned i = 0; i < sizeof primes / sizeof *primes; i++) {
         uint64_t answer = pool_import_size(text, text_len, 3, 1, primes[i]);
         size_t size = (size_t)POOL_VALUE(answer);
         expect("a comparator's size", POOL_REFUSAL(answer), 0, 0);
@@ -243,6 +272,7 @@ static void comparators(void)
 int main(void)
 {
     worked();
+    versions_of();
     breaks();
     others();
     limits();

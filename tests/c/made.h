@@ -4,8 +4,6 @@
 
 #include "plans.h"
 
-enum { MOST_PLAN = 18 + 6 * 1024 + 3 * 64 };
-
 static uint8_t plan[MOST_PLAN + 1], plan_before[sizeof plan];
 
 /* Before a call that writes the plan: any bytes. */
@@ -40,7 +38,7 @@ static inline int64_t result_on_bench(size_t plan_len, unsigned party, const uin
     size_t coins_len = (size_t)POOL_VALUE(pool_run_size(plan, plan_len, set, POOL_RUN_COINS));
     size_t view_len = (size_t)POOL_VALUE(pool_run_size(plan, plan_len, set, POOL_RUN_VIEW));
     for (size_t i = 0; i < coins_len; i += BYTES(1))
-        put(coins + i, below(get_field(plan + 8)));
+        put(coins + i, below(get_field(plan, PRIME)));
     uint64_t answer = pool_bench(plan, plan_len, set, figures, figures_len, coins, coins_len, view, view_len);
     return POOL_REFUSAL(answer) ? -1 : (int64_t)get(view + view_len - BYTES(1));
 }

@@ -8,16 +8,6 @@ enum { P = 5, COINS = 5, SETTINGS = 3125, MOST = BYTES(32) };
 static uint8_t plan[64];
 static size_t plan_len;
 
-static void hold(const char *what, int ok)
-{
-    if (ok) {
-        passed++;
-    } else {
-        failed++;
-        printf("%s\n", what);
-    }
-}
-
 static void list(uint8_t *to, unsigned setting, unsigned count)
 {
     for (unsigned i = 0; i < count; i++, setting /= P)
@@ -64,7 +54,7 @@ int main(void)
     static const unsigned owned[] = {0, 2, 2, 1};
     unsigned pairs = 0, moved = 0;
     plan_len = plan_k(plan);
-    put_field(plan + 8, P);
+    put_field(plan, PRIME, P);
     for (unsigned member = 0; member <= 3; member++) {
         for (unsigned both = 0; both < 625; both++) {
             uint8_t first[BYTES(2)], second[BYTES(2)], coins[BYTES(COINS)] = {0}, matched[BYTES(COINS)];

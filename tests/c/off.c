@@ -3,7 +3,7 @@
 
 enum { MOST = 15, GATES = 1, OUTS = 5, OWN = 3, LAST_CALL = 2 };
 
-static uint8_t plan[64];
+static uint8_t plan[128];
 static size_t plan_len;
 static unsigned n, t, p;
 static unsigned shares[OWN][MOST];
@@ -18,11 +18,10 @@ static unsigned draw(unsigned below)
 /* An input of seat 1, and five outs of it: the first, third and fifth for seat n, the others for seat 1. */
 static void make_plan(void)
 {
-    contents(plan, n, t, p, GATES, OUTS);
+    plan_len = contents_in(version_for(p), plan, n, t, p, GATES, OUTS);
     gate(plan, 0, 1, 1, 0);
     for (unsigned o = 0; o < OUTS; o++)
         out(plan, GATES, o, o % 2 ? 1 : n, 0);
-    plan_len = 18 + 6 * GATES + 3 * OUTS;
 }
 
 /* Each own out's shares, on a polynomial of degree t or less; its value at 0 is the out's. */
@@ -109,7 +108,8 @@ static void plan_of(unsigned seats, unsigned threshold, unsigned prime)
 int main(void)
 {
     static const unsigned plans[][3] = {{2, 0, 3}, {3, 1, 5}, {3, 0, 65521}, {4, 1, 5}, {5, 1, 7}, {5, 2, 65521}, {7, 3, 11},
-                                        {9, 2, 65521}, {15, 0, 17}, {15, 1, 17}, {15, 4, 251}, {15, 7, 17}, {15, 7, 65521}};
+                                        {9, 2, 65521}, {15, 0, 17}, {15, 1, 17}, {15, 4, 251}, {15, 7, 17}, {15, 7, 65521},
+                                        {3, 1, 65537}, {9, 2, 2147483629}, {15, 0, MOST_PRIME}, {15, 7, MOST_PRIME}};
     for (size_t i = 0; i < sizeof plans / sizeof *plans; i++)
         plan_of(plans[i][0], plans[i][1], plans[i][2]);
     printf("%d passed, %d failed\n", passed, failed);

@@ -18,43 +18,50 @@ static struct seat {
     unsigned made;
 } seat[MOST_SEATS + 1];
 
+/* The sizes of the seats' lists, asked for once a plan, since each answer checks the plan. */
+static size_t sizes[MOST_SEATS + 1][MOST_CALLS][POOL_SEAT_OUT + 1];
+
 static size_t size(unsigned s, unsigned k, unsigned what)
 {
-    return (size_t)POOL_VALUE(pool_seat_size(plan, plan_len, (uint16_t)s, (uint16_t)k, (uint16_t)what));
+    return sizes[s][k][what];
 }
 
-/* A plan of either version with gates of every kind at random; the first is an input, and none multiplies where 2t is not below n. t is 1 at
+static void ask_sizes(void)
+{
+    calls = (unsigned)POOL_VALUE(pool_calls(plan, plan_len));
+    for (unsigned i = 0; i < seats * calls; i++)
+        for (unsigned what = 0; what <= POOL_SEAT_OUT; what++)
+            sizes[1 + i / calls][i % calls][what] = (size_t)POOL_VALUE(pool_seat_size(plan, plan_len, (uint16_t)(1 + i / calls), (uint16_t)(i % calls), (uint16_t)what));
+}
+
+/* A plan of any version with gates of every kind at random; the first is an input, and none multiplies where 2t is not below n. t is 1 at
  * least, so that a seat alone is a set. */
 static void make_plan(void)
 {
-    static const unsigned primes[] = {11, 13, 101, 257, 65521};
-    uint8_t first[sizeof plan];
-    unsigned points[15];
+    static const unsigned primes[] = {11, 13, 101, 257, 65521, 65537, MOST_PRIME};
+    unsigned points[15], version = 1 + below(VERSIONS);
     seats = 2 + below(MOST_SEATS - 1);
-    unsigned t = 1 + below(seats - 1), p = primes[below(5)], gates = 1 + below(MOST_GATES), outs = 1 + below(MOST_OUTS);
-    contents(first, seats, t, p, gates, outs);
+    unsigned t = 1 + below(seats - 1), p = primes[below(version == 3 ? 7 : 5)], gates = 1 + below(MOST_GATES), outs = 1 + below(MOST_OUTS);
+    plan_len = contents_in(version, plan, seats, t, p, gates, outs);
     for (unsigned g = 0; g < gates; g++) {
         unsigned kind = g == 0 ? 1 : 1 + below(2 * t < seats ? 5 : 4);
         if (kind == 1)
-            gate(first, g, 1, 1 + below(seats), 0);
+            gate(plan, g, 1, 1 + below(seats), 0);
         else
-            gate(first, g, kind, below(g), kind == 3 || kind == 4 ? below(p) : below(g));
+            gate(plan, g, kind, below(g), kind == 3 || kind == 4 ? below(p) : below(g));
     }
     for (unsigned o = 0; o < outs; o++)
-        out(first, gates, o, 1 + below(seats), below(gates));
-    plan_len = 18 + 6 * gates + 3 * outs;
+        out(plan, gates, o, 1 + below(seats), below(gates));
     any_points(points, seats, p);
-    if (below(2))
-        plan_len = second_version(plan, first, plan_len, points);
-    else
-        memcpy(plan, first, plan_len);
-    calls = (unsigned)POOL_VALUE(pool_calls(plan, plan_len));
+    for (unsigned i = 0; has_points(versions[version]) && i < seats; i++)
+        point(plan, i, points[i]);
+    ask_sizes();
 }
 
 /* Figures and coins at random, as the bench takes them; each seat's own stand in front of the view of the seat alone. */
 static void deal_lists(void)
 {
-    unsigned p = get_field(plan + 8);
+    unsigned p = get_field(plan, PRIME);
     size_t figures_len = (size_t)POOL_VALUE(pool_run_size(plan, plan_len, 0, POOL_RUN_FIGURES));
     size_t coins_len = (size_t)POOL_VALUE(pool_run_size(plan, plan_len, 0, POOL_RUN_COINS));
     for (size_t i = 0; i < figures_len; i += BYTES(1))

@@ -35,23 +35,28 @@ static void broken(const char *what, const char *from)
 /* A sheet that compiles: the plan passes, has so many gates and its one out for the seat. Answers the plan's size. */
 static size_t compiles(const char *what, const char *from, unsigned n, unsigned t, unsigned p, unsigned seat, unsigned gates)
 {
-    size_t size = 18 + 6 * gates + 3;
+    size_t size = p < 65536 ? 18 + 6 * gates + 3 : 32 + 10 * gates + 3 + 4 * n;
     expect_size(what, sheet_size(from, n, t, p, seat), size);
     expect(what, sheet(from, n, t, p, seat, size), 0, 0);
     expect(what, pool_plan_check(plan, size), 0, 0);
-    expect(what, plan[size - 3] == seat && get_field(plan + 12) == gates ? 0 : 1, 0, 0);
+    hold(what, plan[4] == version_for(p) && plan[get_field(plan, OUTS_AT)] == seat && get_field(plan, GATE_COUNT) == gates);
     return size;
 }
 
-/* The same of a sheet of three seats modulo 11 whose gates are these, and whose result is the last of them. */
+/* The same of a sheet of three seats whose gates are these, where a scale by 10 stands for one by p - 1, and whose result is the last of them. */
+static void makes_over(unsigned p, const char *what, const char *from, const uint8_t gates[][3], unsigned count)
+{
+    uint8_t want[256];
+    contents_in(version_for(p), want, 3, 1, p, count, 1);
+    for (unsigned g = 0; g < count; g++)
+        gate(want, g, gates[g][0], gates[g][1], gates[g][0] == 3 && gates[g][2] == 10 ? p - 1 : gates[g][2]);
+    out(want, count, 0, 2, count - 1);
+    expect_bytes(what, plan, want, compiles(what, from, 3, 1, p, 2, count));
+}
+
 static void makes(const char *what, const char *from, const uint8_t gates[][3], unsigned count)
 {
-    uint8_t want[99];
-    contents(want, 3, 1, 11, count, 1);
-    for (unsigned g = 0; g < count; g++)
-        gate(want, g, gates[g][0], gates[g][1], gates[g][2]);
-    out(want, count, 0, 2, count - 1);
-    expect_bytes(what, plan, want, compiles(what, from, 3, 1, 11, 2, count));
+    makes_over(11, what, from, gates, count);
 }
 
 static void worked(void)
@@ -62,6 +67,11 @@ static void worked(void)
     makes("without blanks", "2*a1+a1*(b2-3)", gates, 11);
     makes("with more blanks", "  2 *  a1+ a1   *( b2 -3 )  ", gates, 11);
     makes("with more brackets", "((2*a1) + ((a1)*(b2 - 3)))", gates, 11);
+    makes_over(65521, "over the largest prime of version 1", example, gates, 11);
+    makes_over(65537, "over the least prime of version 3", example, gates, 11);
+    makes_over(MOST_PRIME, "over the largest prime", example, gates, 11);
+    expect("a buffer one byte short in version 3", sheet(example, 3, 1, 65537, 2, 156), 19, 0);
+    expect("a buffer of version 1's size", sheet(example, 3, 1, 65537, 2, 87), 19, 0);
     expect("a buffer one byte short", sheet(example, 3, 1, 11, 2, 86), 19, 0);
     expect("a buffer one byte long", sheet(example, 3, 1, 11, 2, 88), 19, 0);
     expect("a buffer of no bytes", sheet(example, 3, 1, 11, 2, 0), 19, 0);
@@ -166,6 +176,10 @@ static void limits(void)
     broken("a number of p", "a1 + 11");
     compiles("a number of 65,520", "65520*a1", 3, 1, 65521, 1, 4);
     refused("a number of 65,521", "65521*a1", 3, 1, 65521, 1, 27);
+    compiles("a number of 65,536", "65536*a1", 3, 1, 65537, 1, 4);
+    compiles("a number of 2^31 - 2", "2147483646*a1", 3, 1, MOST_PRIME, 1, 4);
+    refused("a number of 2^31 - 1", "2147483647*a1", 3, 1, MOST_PRIME, 1, 27);
+    refused("a number of 2^32, over 2^31 - 1", "4294967296*a1", 3, 1, MOST_PRIME, 1, 27);
     broken("a number of 2^32", "4294967296*a1");
     broken("a number of 2^64", "18446744073709551616*a1");
     compiles("a name of seat n", "a3", 3, 1, 11, 3, 1);
@@ -175,6 +189,7 @@ static void limits(void)
     broken("a name of seat 2^64 + 1", "a18446744073709551617");
     compiles("seats of two digits", "a15*b10", 15, 7, 17, 15, 3);
     compiles("1,024 gates by plus", chain("a1", "+", 1024), 3, 1, 11, 2, 1024);
+    compiles("1,024 gates in version 3", chain("a1", "+", 1024), 15, 14, MOST_PRIME, 2, 1024);
     refused("1,025 gates by plus", chain("a1", "+", 1025), 3, 1, 11, 2, 24);
     compiles("1,024 gates by numbers", chain("10*a3", " + ", 256), 3, 1, 11, 2, 1024);
     compiles("1,024 gates by minus", chain("a1*0", "-", 205), 3, 1, 11, 2, 1024);
@@ -200,7 +215,12 @@ static void order(void)
     refused("t of 2^31", example, 3, 1u << 31, 11, 1, 4);
     refused("p not prime", example, 3, 1, 9, 0, 5);
     refused("p not above n", "a1 + b2", 3, 1, 3, 1, 5);
-    refused("p above 65,535", example, 3, 1, 65537, 1, 5);
+    refused("p of 65,535", example, 3, 1, 65535, 1, 5);
+    refused("p of 65,536", example, 3, 1, 65536, 1, 5);
+    refused("p below 2^31 - 1 and no prime", example, 3, 1, MOST_PRIME - 1, 1, 5);
+    refused("p of 2^31", example, 3, 1, 1u << 31, 1, 5);
+    refused("a prime above 2^31", example, 3, 1, 2147483659u, 1, 5);
+    refused("the largest prime of 32 bits", example, 3, 1, 4294967291u, 1, 5);
     refused("p of 2^32 - 1", "a1 + 4294967294", 3, 1, 4294967295u, 1, 5);
     refused("p of 0 and no number", "a1 + b2", 3, 1, 0, 1, 5);
     refused("p of 0 and a number", "a1 + 0", 3, 1, 0, 1, 27);
@@ -214,7 +234,8 @@ static void order(void)
     refused("a result for seat 2^31 + 1", example, 3, 1, 11, (1u << 31) + 1, 8);
 }
 
-/* Formulas, each both a sheet and an expression of C; their numbers are below 5, and no product has over three factors. */
+/* Formulas, each both a sheet and an expression of C; their numbers are below 5, and no product has over three factors, so that none needs more
+ * than 96 bits. */
 #define FORMULAS(F) \
     F(2*a1 + a1*(b2 - 3)) \
     F(a1 - b2 - c3) \
@@ -235,10 +256,11 @@ static const char *const texts[] = {FORMULAS(TEXT_OF)};
 enum { FORMULA_COUNT = sizeof texts / sizeof *texts };
 
 /* The names of the formulas, and the seat of each. */
-static int64_t a1, b2, c3, d1;
-static int64_t *const figure_of[] = {&a1, &b2, &c3, &d1};
+typedef __int128 whole;
+static whole a1, b2, c3, d1;
+static whole *const figure_of[] = {&a1, &b2, &c3, &d1};
 
-static void work_out(int64_t *to)
+static void work_out(whole *to)
 {
     FORMULAS(VALUE_OF)
 }
@@ -257,19 +279,20 @@ static size_t put_figures(uint8_t *figures, const char *from)
 
 static void runs(void)
 {
-    static const unsigned primes[] = {5, 11, 257, 65521};
-    for (unsigned i = 0; i < 4 * FORMULA_COUNT; i++) {
-        const char *from = texts[i / 4];
-        unsigned p = primes[i % 4], seat = 1 + i % 3, wrong = 0;
+    static const unsigned primes[] = {5, 11, 257, 65521, 65537, MOST_PRIME};
+    enum { PRIMES = sizeof primes / sizeof *primes };
+    for (unsigned i = 0; i < PRIMES * FORMULA_COUNT; i++) {
+        const char *from = texts[i / PRIMES];
+        unsigned p = primes[i % PRIMES], seat = 1 + i % 3, wrong = 0;
         size_t size = (size_t)POOL_VALUE(sheet_size(from, 3, 1, p, seat));
         expect(from, sheet(from, 3, 1, p, seat, size), 0, 0);
         for (unsigned k = 0; k < 100; k++) {
-            int64_t values[FORMULA_COUNT];
+            whole values[FORMULA_COUNT];
             uint8_t figures[BYTES(4)];
             for (unsigned j = 0; j < 4; j++)
                 *figure_of[j] = below(8) ? below(p) : p - 1;
             work_out(values);
-            int64_t value = (values[i / 4] % p + p) % p;
+            int64_t value = (int64_t)((values[i / PRIMES] % p + p) % p);
             wrong += result_on_bench(size, seat, figures, put_figures(figures, from)) != value;
         }
         expect(from, wrong, 0, 0);

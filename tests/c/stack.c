@@ -10,19 +10,18 @@
 
 enum { GATES = 1024, OUTS = 64, PAGE = 4096, PAINT = 0xa5 };
 
-static uint8_t plan[18 + 6 * GATES + 3 * OUTS], figures[BYTES(2 * GATES)], coins[BYTES(200000)], buffer[BYTES(500000)];
+static uint8_t plan[MOST_PLAN], figures[BYTES(2 * GATES)], coins[BYTES(200000)], buffer[BYTES(500000)];
 static uint8_t state[BYTES(2 * GATES)], mail[BYTES(20000)], written[BYTES(20000)];
 static size_t plan_len;
 
-/* n inputs of party 1, then multiplies, or adds where there is no majority; all outs go to party 1. */
-static void largest(unsigned n, unsigned t)
+/* n inputs of party 1, then multiplies, or adds where there is no majority; all outs go to party 1. The prime is the largest of the version. */
+static void largest(unsigned version, unsigned n, unsigned t)
 {
-    contents(plan, n, t, 65521, GATES, OUTS);
+    plan_len = contents_in(version, plan, n, t, version < 3 ? 65521 : MOST_PRIME, GATES, OUTS);
     for (unsigned g = 0; g < GATES; g++)
         gate(plan, g, g < n ? 1 : 2 * t < n ? 5 : 2, g < n ? 1 : g - 1, g < n ? 0 : g / 2);
     for (unsigned o = 0; o < OUTS; o++)
         out(plan, GATES, o, 1, GATES - 1);
-    plan_len = sizeof plan;
 }
 
 static size_t run_size(uint16_t set, uint16_t what)
@@ -85,6 +84,15 @@ static uint64_t small(void)
     return refusals;
 }
 
+/* The largest plans of versions 1 and 2; one of version 3 is refused. */
+static uint64_t convert(void)
+{
+    uint64_t size = pool_convert_size(plan, plan_len);
+    if (plan[4] == 3)
+        return POOL_REFUSAL(size) - 2 + POOL_REFUSAL(pool_convert(plan, plan_len, buffer, plan_len)) - 2;
+    return POOL_REFUSAL(size) + pool_convert(plan, plan_len, buffer, POOL_VALUE(size));
+}
+
 /* A circuit with as many wires as a text can have, and one that makes a plan without a majority. */
 static uint64_t import(void)
 {
@@ -98,7 +106,9 @@ static uint64_t import(void)
     for (unsigned g = 0; g < 511; g++)
         len += (size_t)sprintf(text + len, "1 1 %u %u INV\n", g, g + 1);
     size_t size = POOL_VALUE(pool_import_size((uint8_t *)text, len, 3, 2, 11));
-    return pool_import((uint8_t *)text, len, 3, 2, 11, buffer, size);
+    uint64_t answer = pool_import((uint8_t *)text, len, 3, 2, 11, buffer, size);
+    size = POOL_VALUE(pool_import_size((uint8_t *)text, len, 15, 14, MOST_PRIME));
+    return answer + pool_import((uint8_t *)text, len, 15, 14, MOST_PRIME, buffer, size);
 }
 
 /* As many names as there are, the last within brackets as deep as they go; and a long sheet of which only the end is wrong. */
@@ -116,6 +126,8 @@ static uint64_t sheet(void)
         text[at] = text[at] == '*' ? '+' : text[at];
     size = POOL_VALUE(pool_sheet_size((uint8_t *)text, len, 15, 14, 17, 1));
     answer += pool_sheet((uint8_t *)text, len, 15, 14, 17, 1, buffer, size);
+    size = POOL_VALUE(pool_sheet_size((uint8_t *)text, len, 15, 14, MOST_PRIME, 1));
+    answer += pool_sheet((uint8_t *)text, len, 15, 14, MOST_PRIME, 1, buffer, size);
     while (len < sizeof text - 100)
         len += (size_t)sprintf(text + len, "+((((((((((((((((a1))))))))))))))))");
     len += (size_t)sprintf(text + len, "+(((((((((((((((((a1)))))))))))))))))");
@@ -171,13 +183,14 @@ static void on_stack(const char *what, uint64_t (*call)(void), size_t stated)
 int main(void)
 {
     static const unsigned shapes[][2] = {{15, 14}, {15, 7}, {3, 1}, {1, 0}};
-    for (unsigned k = 0; k < 4; k++) {
-        largest(shapes[k][0], shapes[k][1]);
+    for (unsigned k = 0; k < 4 * VERSIONS; k++) {
+        largest(1 + k / 4, shapes[k % 4][0], shapes[k % 4][1]);
         on_stack("pool_bench", bench, POOL_STACK_BENCH);
         on_stack("pool_match", match, POOL_STACK_MATCH);
         on_stack("pool_seat_call, the first calls", first_calls, POOL_STACK_SEAT);
         on_stack("pool_seat_call, the last call", last_call, POOL_STACK_SEAT);
         on_stack("plan check, sizes and charge", small, POOL_STACK_SEAT);
+        on_stack("pool_convert", convert, POOL_STACK_SEAT);
     }
     on_stack("pool_import", import, POOL_STACK_IMPORT);
     on_stack("pool_sheet", sheet, POOL_STACK_SHEET);

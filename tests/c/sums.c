@@ -3,23 +3,22 @@
 
 #include "plans.h"
 
-enum { MOST = 15, P = 65521, GATES = 2 * MOST - 1, PLAN = 18 + 6 * GATES + 3 * MOST, NUMBERS = 40000 };
+enum { MOST = 15, GATES = 2 * MOST - 1, NUMBERS = 40000 };
 
-static uint8_t plan[PLAN];
+static uint8_t plan[MOST_PLAN];
 static size_t plan_len;
 
 /* The sum of an input of each seat, to every seat. */
 static void sum_of(unsigned n, unsigned t, unsigned p)
 {
     unsigned gates = 2 * n - 1;
-    contents(plan, n, t, p, gates, n);
+    plan_len = contents_in(version_for(p), plan, n, t, p, gates, n);
     for (unsigned g = 0; g < n; g++)
         gate(plan, g, 1, g + 1, 0);
     for (unsigned g = n; g < gates; g++)
         gate(plan, g, 2, g == n ? 0 : g - 1, g - n + 1);
     for (unsigned o = 0; o < n; o++)
         out(plan, gates, o, o + 1, gates - 1);
-    plan_len = 18 + 6 * (size_t)gates + 3 * (size_t)n;
 }
 
 static size_t run_size(unsigned set, unsigned what)
@@ -27,16 +26,6 @@ static size_t run_size(unsigned set, unsigned what)
     uint64_t answer = pool_run_size(plan, plan_len, (uint16_t)set, (uint16_t)what);
     expect("a size is not refused", POOL_REFUSAL(answer), 0, 0);
     return (size_t)POOL_VALUE(answer);
-}
-
-static void hold(const char *what, int held)
-{
-    if (held) {
-        passed++;
-    } else {
-        failed++;
-        printf("%s: no\n", what);
-    }
 }
 
 static void list(uint8_t *to, const uint8_t *numbers, size_t count)
@@ -97,20 +86,20 @@ static void apart(unsigned n, const uint8_t *figures, const uint8_t *coins, unsi
 }
 
 /* The largest sets of every n: the sum of all runs, and its matching keeps the view of all but one seat. */
-static void largest(unsigned n)
+static void largest(unsigned n, unsigned p)
 {
     static uint8_t figures[BYTES(MOST)], second[BYTES(MOST)], coins[BYTES(NUMBERS)], matched[BYTES(NUMBERS)], view[BYTES(NUMBERS)], other[BYTES(NUMBERS)];
     unsigned t = n - 1, total = 0, alone = below(n), set = ((1u << n) - 1) & ~(1u << alone);
-    sum_of(n, t, P);
+    sum_of(n, t, p);
     size_t figures_len = run_size(set, POOL_RUN_FIGURES), coins_len = run_size(set, POOL_RUN_COINS), view_len = run_size(set, POOL_RUN_VIEW);
     hold("a figure for each seat", figures_len == BYTES(n));
     hold("t coins for each", coins_len == BYTES((size_t)n * t));
     for (unsigned i = 0; i < n; i++) {
-        put(figures + BYTES(i), below(P));
-        total = (total + get(figures + BYTES(i))) % P;
+        put(figures + BYTES(i), below(p));
+        total = (total + get(figures + BYTES(i))) % p;
     }
     for (size_t i = 0; i < coins_len; i += BYTES(1))
-        put(coins + i, below(P));
+        put(coins + i, below(p));
     apart(n, figures, coins, t, total);
     hold("the run", POOL_REFUSAL(pool_bench(plan, plan_len, (uint16_t)set, figures, figures_len, coins, coins_len, view, view_len)) == 0);
     /* the lists agree at the members and in the sum, so the lists are the same; the matching hands the coins back */
@@ -121,7 +110,7 @@ static void largest(unsigned n)
     for (unsigned o = 0; o < n; o++)
         out(plan, 2 * n - 1, o, alone + 1, 2 * n - 2);
     view_len = run_size(set, POOL_RUN_VIEW);
-    put(second + BYTES(alone), (get(figures + BYTES(alone)) + 1) % P);
+    put(second + BYTES(alone), (get(figures + BYTES(alone)) + 1) % p);
     hold("the first run", POOL_REFUSAL(pool_bench(plan, plan_len, (uint16_t)set, figures, figures_len, coins, coins_len, view, view_len)) == 0);
     expect("the matching", pool_match(plan, plan_len, (uint16_t)set, figures, figures_len, second, figures_len, coins, coins_len, matched, coins_len), 0, 0);
     hold("the matched run", POOL_REFUSAL(pool_bench(plan, plan_len, (uint16_t)set, second, figures_len, matched, coins_len, other, view_len)) == 0);
@@ -144,8 +133,8 @@ int main(void)
 {
     lecture();
     for (unsigned n = 1; n <= MOST; n++)
-        for (unsigned k = 0; k < 20; k++)
-            largest(n);
+        for (unsigned k = 0; k < 40; k++)
+            largest(n, k % 2 ? MOST_PRIME : 65521);
     k_with("K, n = 2, t = 1", 2, 1, 25);
     k_with("K, n = 2, t = 0", 2, 0, 0);
     k_with("K, n = 4, t = 2", 4, 2, 25);
