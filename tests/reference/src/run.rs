@@ -19,6 +19,12 @@ pub fn ideal(plan: &Plan, figures: &[u32]) -> Vec<u32> {
     values
 }
 
+/// Each seat's results by that arithmetic.
+pub fn granted(plan: &Plan, figures: &[u32]) -> Vec<Vec<u32>> {
+    let values = ideal(plan, figures);
+    (1..=plan.n).map(|seat| plan.outs_of(seat).map(|out| values[out.wire]).collect()).collect()
+}
+
 /// Those entries of a list that are the seat's own.
 pub fn own(list: &[u32], seats: impl IntoIterator<Item = u16>, seat: u16) -> Vec<u32> {
     list.iter().zip(seats).filter(|(_, owner)| *owner == seat).map(|(&x, _)| x).collect()

@@ -9,7 +9,7 @@ use reference::plan::{bytes, bytes_of, file, long, number, plan_check, Gate, Lis
 use reference::primes::prime;
 use reference::program::program;
 use reference::random::{self, Random};
-use reference::run::{bench, ideal, run_by_calls, shares, view};
+use reference::run::{bench, granted, ideal, run_by_calls, shares, view};
 use reference::sheet::sheet_file;
 
 const POINTS: [u32; 3] = [2_147_483_646, 70_000, 3];
@@ -232,11 +232,7 @@ fn random_runs_of_version_3() {
         let figures = random.elements(plan.inputs.len(), plan.field.p());
         let coins = random.elements(plan.coins(), plan.field.p());
         let run = run_by_calls(&file, &figures, &coins, |_| ()).unwrap();
-        let values = ideal(&plan, &figures);
-        for seat in 1..=plan.n {
-            let granted: Vec<u32> = plan.outs_of(seat).map(|out| values[out.wire]).collect();
-            assert_eq!(run.results[usize::from(seat) - 1], granted);
-        }
+        assert_eq!(run.results, granted(&plan, &figures));
         let set = random::set(&mut random, plan.n, plan.t);
         let members = plan.members(set).unwrap();
         assert_eq!(seen(&file, set, &figures, &coins), view(&plan, &members, &figures, &coins, &run));

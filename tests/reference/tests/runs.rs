@@ -5,7 +5,7 @@ mod common;
 use common::{direct, matched};
 use reference::plan::{plan_file, Gate, Out, Plan};
 use reference::random::{self, Random};
-use reference::run::{ideal, run_by_calls, view};
+use reference::run::{granted, ideal, run_by_calls, view};
 use std::collections::HashSet;
 
 #[test]
@@ -19,11 +19,7 @@ fn calls_equal_the_direct_bench_and_the_plans_arithmetic() {
         let figures = random.elements(plan.inputs.len(), p);
         let coins = random.elements(plan.coins(), p);
         let run = run_by_calls(&file, &figures, &coins, |_| ()).unwrap();
-        let values = ideal(&plan, &figures);
-        for seat in 1..=plan.n {
-            let granted: Vec<u32> = plan.outs_of(seat).map(|out| values[out.wire]).collect();
-            assert_eq!(run.results[usize::from(seat) - 1], granted);
-        }
+        assert_eq!(run.results, granted(&plan, &figures));
         let set = random::set(&mut random, plan.n, plan.t);
         let seen = view(&plan, &plan.members(set).unwrap(), &figures, &coins, &run);
         assert_eq!(direct(&file, set, &figures, &coins), (seen, run.sent));

@@ -7,7 +7,7 @@
 use reference::field::MOST;
 use reference::plan::{bytes_of, file, plan_file, Gate, Layout, Out, Plan};
 use reference::random::{plan, Random};
-use reference::run::{ideal, own};
+use reference::run::{granted, own};
 use std::fs::write;
 
 fn lines(list: &[u32]) -> String {
@@ -75,7 +75,7 @@ fn main() {
     let p = plan.field.p();
     let figures = if known { vec![4, 5] } else { random.elements(plan.inputs.len(), p) };
     let coins = if known { vec![2, 3, 1, 5, 7] } else { random.elements(plan.coins(), p) };
-    let values = ideal(&plan, &figures);
+    let results = granted(&plan, &figures);
     std::fs::create_dir_all(folder).expect("a folder");
     let two = |x: u32| bytes_of(&[x], 2);
     let width = Layout::of(plan.version).width;
@@ -83,11 +83,10 @@ fn main() {
     let put = |name: &str, contents: &[u8]| write(format!("{folder}/{name}"), contents).expect("a file");
     put("plan", &file);
     for seat in 1..=plan.n {
-        let granted: Vec<u32> = plan.outs_of(seat).map(|out| values[out.wire]).collect();
         let input = [&two(file.len() as u32)[..], &file, &two(1 << (seat - 1)), &numbers].concat();
         put(&format!("figures-{seat}"), lines(&own(&figures, plan.figure_seats(), seat)).as_bytes());
         put(&format!("coins-{seat}"), lines(&own(&coins, plan.coin_seats(), seat)).as_bytes());
-        put(&format!("results-{seat}"), lines(&granted).as_bytes());
+        put(&format!("results-{seat}"), lines(&results[usize::from(seat) - 1]).as_bytes());
         put(&format!("bench-{seat}"), &input);
     }
 }

@@ -1411,6 +1411,17 @@ fn wide_plans(random: &mut Random, tally: &mut Tally) {
     }
 }
 
+/// A plan with points of its own: its check, its points, calls, runs and charge.
+fn pointed_world(random: &mut Random, tally: &mut Tally, file: Vec<u8>, often: usize) -> World {
+    let world = World::new(random, file, &POINTED_ORDER);
+    plans(random, tally, &world);
+    points(random, tally, &world);
+    calls(random, tally, &world, often);
+    runs(random, tally, &world, 2);
+    charges(random, tally, &world);
+    world
+}
+
 /// Plans of version 2: random ones, those at the ends, and points that are 1 to n.
 fn pointed_plans(random: &mut Random, tally: &mut Tally) {
     let mut files = Vec::new();
@@ -1419,12 +1430,7 @@ fn pointed_plans(random: &mut Random, tally: &mut Tally) {
     }
     files.extend([2, 5, 8, 12, 20, 30].repeat(60).into_iter().map(|most| (random::pointed_plan(random, most), 8)));
     for (file, often) in files {
-        let world = World::new(random, file, &POINTED_ORDER);
-        plans(random, tally, &world);
-        points(random, tally, &world);
-        calls(random, tally, &world, often);
-        runs(random, tally, &world, 2);
-        charges(random, tally, &world);
+        pointed_world(random, tally, file, often);
     }
 }
 
@@ -1522,12 +1528,7 @@ fn large_plans(random: &mut Random, tally: &mut Tally) {
     let mut files: Vec<_> = large_extremes(random).into_iter().map(|file| (file, 8)).collect();
     files.extend([2, 5, 8, 12, 20, 30].repeat(50).into_iter().map(|most| (random::large_plan(random, most), 8)));
     for (file, often) in files {
-        let world = World::new(random, file, &POINTED_ORDER);
-        plans(random, tally, &world);
-        points(random, tally, &world);
-        calls(random, tally, &world, often);
-        runs(random, tally, &world, 2);
-        charges(random, tally, &world);
+        let world = pointed_world(random, tally, file, often);
         conversions(random, tally, &world);
     }
 }
