@@ -103,7 +103,6 @@ contentChecks n t p gates outs =
 unfoldable pub outMade : ℕ → Bodies → ℕ → Bool
 outMade n b o = outOk n (length (b .gates)) (getD (b .outs) o (record { party = 0; wire = 0 }))
 
--- ---- for the code alone: no other definition and no demand cites this
--- above every number of a field in version v
+-- above every number of a field in version v: a plan whose prime is below it may be written so
 unfoldable pub fieldLimit : ℕ → ℕ
 fieldLimit v = cond (eqb (layoutFor v .field) 2) 65536 4294967296
