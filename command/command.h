@@ -19,7 +19,8 @@ struct command {
     void (*run)(char **args);
 };
 
-extern const struct command check_command, show_command, run_command, match_command, import_command, sheet_command, convert_command, charge_command;
+extern const struct command check_command, show_command, run_command, match_command, import_command, sheet_command, convert_command, charge_command,
+    record_command, read_command;
 
 /* The subcommand that runs; null before it is known. */
 extern const struct command *current;
@@ -107,6 +108,9 @@ void close_report(struct report *r, const char *path);
 
 /* Replaces a file as a whole, or writes standard output for `-`. */
 void write_output(const char *path, struct bytes all);
+
+/* Writes a file, and the report to standard output where the file is another. */
+void write_and_report(const char *path, struct bytes all, struct report *r);
 
 /* The ending of a counted word. */
 static inline const char *plural(size_t count)

@@ -86,3 +86,14 @@ void write_output(const char *path, struct bytes all)
         free(target);
     }
 }
+
+void write_and_report(const char *path, struct bytes all, struct report *r)
+{
+    write_output(path, all);
+    if (strcmp(path, "-")) {
+        close_report(r, NULL);
+    } else {
+        fclose(r->to);
+        free(r->text);
+    }
+}

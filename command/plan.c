@@ -176,13 +176,7 @@ void write_plan(const char *path, struct bytes file)
     open_report(&r);
     fprintf(r.to, "%zu bytes: ", file.len);
     print_counts(r.to, &plan);
-    write_output(path, file);
-    if (strcmp(path, "-")) {
-        close_report(&r, NULL);
-    } else {
-        fclose(r.to);
-        free(r.text);
-    }
+    write_and_report(path, file, &r);
     close_plan(&plan);
 }
 

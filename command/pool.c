@@ -17,6 +17,8 @@ static const struct command *const commands[] = {
     &sheet_command,
     &convert_command,
     &charge_command,
+    &record_command,
+    &read_command,
 };
 
 enum { COMMANDS = sizeof commands / sizeof *commands };

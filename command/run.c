@@ -7,14 +7,6 @@
 #include "pool.h"
 #include "seats.h"
 
-/* Coins as they are given, or fresh ones. */
-static struct bytes coins_for(const struct plan *plan, const char *word)
-{
-    if (word)
-        return list_of("--coins", word);
-    return draw_numbers(numbers_in(value(pool_run_size(plan->file.at, plan->file.len, 0, POOL_RUN_COINS))), plan->prime);
-}
-
 /* A seat's results stand in the order of its outs. */
 static void print_results(FILE *to, const struct plan *plan, unsigned seat, struct bytes results)
 {

@@ -6,6 +6,13 @@
 #include "command.h"
 #include "pool.h"
 
+struct bytes coins_for(const struct plan *plan, const char *word)
+{
+    if (word)
+        return list_of("--coins", word);
+    return draw_numbers(numbers_in(value(pool_run_size(plan->file.at, plan->file.len, 0, POOL_RUN_COINS))), plan->prime);
+}
+
 struct bytes view_of(const struct plan *plan, uint16_t set, struct bytes figures, struct bytes coins, uint64_t *sent)
 {
     struct bytes view = fresh_bytes(value(pool_run_size(plan->file.at, plan->file.len, set, POOL_RUN_VIEW)));

@@ -146,9 +146,20 @@ static int margin_for(int columns, const char *const *titles, size_t count)
     return most;
 }
 
+/* The digits of the views' largest number, and at least of the largest below the prime: a record's numbers may have more. */
+static int most_digits(const struct plan *plan, const struct bytes *views, size_t count)
+{
+    uint64_t most = plan->prime - 1;
+    for (size_t v = 0; v < count; v++)
+        for (size_t i = 0; i < count_of(views[v]); i++)
+            if (get_number(views[v], i) > most)
+                most = get_number(views[v], i);
+    return snprintf(NULL, 0, "%" PRIu64, most);
+}
+
 void print_views(FILE *to, const struct plan *plan, uint16_t set, const struct bytes *views, const char *const *titles, size_t count)
 {
-    int digits = digits_of(plan);
+    int digits = most_digits(plan, views, count);
     struct table t = {.to = to, .plan = plan, .views = views, .count = count, .width = (digits < LEAST_WIDTH ? LEAST_WIDTH : digits) + 2};
     t.margin = margin_for((int)plan->seats * t.width, titles, count);
     for (t.seat = 1; t.seat <= plan->seats; t.seat++) {

@@ -74,8 +74,8 @@
  * Stack
  * -----
  *
- * A call takes at most so many bytes of its thread's stack: pool_bench
- * POOL_STACK_BENCH, pool_match POOL_STACK_MATCH, pool_import and
+ * A call takes at most so many bytes of its thread's stack: pool_bench and
+ * pool_record POOL_STACK_BENCH, pool_match POOL_STACK_MATCH, pool_import and
  * pool_import_size POOL_STACK_IMPORT, pool_sheet and pool_sheet_size
  * POOL_STACK_SHEET, every other function POOL_STACK_SEAT. A thread's own start
  * takes some more (PTHREAD_STACK_MIN).
@@ -92,6 +92,10 @@ extern "C" {
 
 /* The bytes of a number in a list: four. */
 #define POOL_NUMBER_BYTES 4
+
+/* The bytes of a party's entry in the contents of a run record: its body's
+ * offset from the file's start and its length, a number each. */
+#define POOL_RECORD_ENTRY 8
 
 /* The bytes of stack that a call takes at most. */
 #define POOL_STACK_SEAT 4096
@@ -363,6 +367,80 @@ uint64_t pool_match(const uint8_t *plan, size_t plan_len, uint16_t set,
     const uint8_t *second, size_t second_len,
     const uint8_t *coins, size_t coins_len,
     uint8_t *matched, size_t matched_len);
+
+/*
+ * The size in bytes of the record of a run.
+ *
+ * plan, plan_len: the plan file.
+ *
+ * Answers the size as its value: POOL_RECORD_ENTRY for each party, then each
+ * party's body; or the first of refusals 1 to 8, 25 and 26.
+ */
+uint64_t pool_record_size(const uint8_t *plan, size_t plan_len);
+
+/*
+ * A run of all parties in one machine, stored.
+ *
+ * figures, figures_len: all inputs, in the plan's order.
+ * coins, coins_len:     all coins, in the plan's order.
+ * record, record_len:   written: the record, of exactly its size. First its
+ *                       contents: for each party ascending the offset of its
+ *                       body from the record's start and the body's length in
+ *                       bytes, a number each. Then the bodies, one after the
+ *                       other: for each party ascending its inputs, its coins,
+ *                       each round's mail, its results.
+ *
+ * A party's body is what pool_bench writes for that party alone; here t may be
+ * 0. The record has every party's secrets: keep it as the coins are kept.
+ *
+ * Answers 0 and has written record, or answers the first of refusals 1 to 8,
+ * 25, 26, 10 to 13 and 19 and has written nothing.
+ */
+uint64_t pool_record(const uint8_t *plan, size_t plan_len,
+    const uint8_t *figures, size_t figures_len,
+    const uint8_t *coins, size_t coins_len,
+    uint8_t *record, size_t record_len);
+
+/*
+ * The bench's reader: all bodies of a record.
+ *
+ * plan, plan_len:       the plan file of the run.
+ * record, record_len:   a run record, any bytes.
+ * numbers, numbers_len: written: the bodies one after the other, which is the
+ *                       record without its contents: pool_record_size less
+ *                       POOL_RECORD_ENTRY for each party.
+ *
+ * The numbers are shown as they are stored, also where they are not below p;
+ * no share is checked.
+ *
+ * Answers 0 and has written numbers, or answers the first of refusals 1 to 8,
+ * 25, 26, 28 and 19 and has written nothing.
+ */
+uint64_t pool_record_read(const uint8_t *plan, size_t plan_len,
+    const uint8_t *record, size_t record_len,
+    uint8_t *numbers, size_t numbers_len);
+
+/*
+ * A plant's reader: one party's body of a record.
+ *
+ * plan, plan_len:       the plan file of the run.
+ * record, record_len:   a run record, any bytes.
+ * seat:                 the party, 1 to n.
+ * numbers, numbers_len: written: that party's body, of exactly its length: the
+ *                       second number of the party's entry in the contents.
+ *
+ * Of a stored run the body is the party's view: its inputs, its coins, each
+ * round's mail, its results. The numbers are shown as they are stored, also
+ * where they are not below p; no share is checked. What is answered and written
+ * depends on the plan, the seat, both lengths, the contents and that party's
+ * body, and on no byte of another's.
+ *
+ * Answers 0 and has written numbers, or answers the first of refusals 1 to 8,
+ * 25, 26, 28, 9 and 19 and has written nothing.
+ */
+uint64_t pool_record_read_seat(const uint8_t *plan, size_t plan_len,
+    const uint8_t *record, size_t record_len, uint16_t seat,
+    uint8_t *numbers, size_t numbers_len);
 
 /*
  * The line charge: what each party pays of the carrier's bill for a run.

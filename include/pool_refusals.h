@@ -15,6 +15,7 @@ POOL_REFUSAL_ROW(8, "An out of the plan names no seat or no wire; the place is t
 POOL_REFUSAL_ROW(25, "The plan has a multiply gate, and twice its threshold t is not below its number of seats.")
 POOL_REFUSAL_ROW(26, "A point of the plan is 0, is not below the prime or is an earlier seat's.")
 POOL_REFUSAL_ROW(31, "The price of 1,000 elements is over 1,000,000 cents.")
+POOL_REFUSAL_ROW(28, "The record's contents do not tile its file, seats ascending, or a body does not have the length that the plan gives.")
 POOL_REFUSAL_ROW(9, "The seat is not one of the plan's, or the set names another or has over t members.")
 POOL_REFUSAL_ROW(10, "The count of figures is wrong.")
 POOL_REFUSAL_ROW(11, "A figure is not below the prime; the place is the figure.")

@@ -65,6 +65,25 @@ static void plan_calls(const uint8_t *k, size_t k_len)
         free(s[j].block);
 }
 
+/* The calls that write or read a run record: K's, whole or not. */
+static void record_calls(const uint8_t *k, size_t k_len)
+{
+    uint8_t list[BYTES(5)] = {0}, stored[128];
+    pool_record(k, k_len, list, BYTES(2), list, BYTES(5), stored, sizeof stored);
+    struct slice plan = below(4) ? lend(k, k_len) : lend_text((const char *)k, k_len), record = lend_text((const char *)stored, sizeof stored);
+    struct slice figures = lend(list, below(3) ? BYTES(2) : below(12)), coins = lend(list, below(3) ? BYTES(5) : below(sizeof list));
+    struct slice to = lend(NULL, below(3) ? 128 : below(140)), all = lend(NULL, below(3) ? 104 : below(140));
+    struct slice body = lend(NULL, below(3) ? 32 + 8 * below(2) : below(50));
+    uint16_t seat = (uint16_t)(below(4) ? below(5) : below(65536));
+    check(pool_record_size(plan.at, plan.len));
+    check(pool_record(plan.at, plan.len, figures.at, figures.len, coins.at, coins.len, to.at, to.len));
+    check(pool_record_read(plan.at, plan.len, record.at, record.len, all.at, all.len));
+    check(pool_record_read_seat(plan.at, plan.len, record.at, record.len, seat, body.at, body.len));
+    struct slice lent[] = {plan, record, figures, coins, to, all, body};
+    for (unsigned j = 0; j < sizeof lent / sizeof *lent; j++)
+        free(lent[j].block);
+}
+
 /* The calls that take a text. */
 static void text_calls(unsigned p)
 {
@@ -89,7 +108,9 @@ int main(void)
     uint8_t first[64], k[128];
     plan_k(first);
     for (unsigned i = 0; i < CASES; i++) {
-        plan_calls(k, in_version(1 + i % VERSIONS, k, first, (const unsigned[]){1, 2, 3}));
+        size_t k_len = in_version(1 + i % VERSIONS, k, first, (const unsigned[]){1, 2, 3});
+        plan_calls(k, k_len);
+        record_calls(k, k_len);
         text_calls(i % 2 ? 11 : MOST_PRIME);
     }
     passed = failed == 0;

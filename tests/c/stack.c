@@ -11,6 +11,7 @@
 enum { GATES = 1024, OUTS = 64, PAGE = 4096, PAINT = 0xa5 };
 
 static uint8_t plan[MOST_PLAN], figures[BYTES(2 * GATES)], coins[BYTES(200000)], buffer[BYTES(500000)];
+static uint8_t stored[BYTES(500000)];
 static uint8_t state[BYTES(2 * GATES)], mail[BYTES(20000)], written[BYTES(20000)];
 static size_t plan_len;
 
@@ -45,6 +46,21 @@ static uint64_t bench(void)
     uint16_t set = last_parties();
     uint64_t answer = pool_bench(plan, plan_len, set, figures, run_size(set, 0), coins, run_size(set, 1), buffer, run_size(set, 2));
     return POOL_REFUSAL(answer);
+}
+
+static uint64_t record(void)
+{
+    return pool_record(plan, plan_len, figures, run_size(0, 0), coins, run_size(0, 1), stored, POOL_VALUE(pool_record_size(plan, plan_len)));
+}
+
+/* Both readers of the record that was written last. */
+static uint64_t read_record(void)
+{
+    size_t size = POOL_VALUE(pool_record_size(plan, plan_len)), entries = POOL_RECORD_ENTRY * plan[5];
+    uint64_t answer = pool_record_read(plan, plan_len, stored, size, buffer, size - entries);
+    for (uint16_t seat = 1; seat <= plan[5] && !answer; seat++)
+        answer = pool_record_read_seat(plan, plan_len, stored, size, seat, buffer, get(stored + POOL_RECORD_ENTRY * (seat - 1) + BYTES(1)));
+    return answer;
 }
 
 static uint64_t match(void)
@@ -186,6 +202,8 @@ int main(void)
     for (unsigned k = 0; k < 4 * VERSIONS; k++) {
         largest(1 + k / 4, shapes[k % 4][0], shapes[k % 4][1]);
         on_stack("pool_bench", bench, POOL_STACK_BENCH);
+        on_stack("pool_record", record, POOL_STACK_BENCH);
+        on_stack("the record's size and readers", read_record, POOL_STACK_SEAT);
         on_stack("pool_match", match, POOL_STACK_MATCH);
         on_stack("pool_seat_call, the first calls", first_calls, POOL_STACK_SEAT);
         on_stack("pool_seat_call, the last call", last_call, POOL_STACK_SEAT);

@@ -37,11 +37,12 @@ use Rattle.run_protocol.proofs.Given.{tabled-none}
 use Rattle.run_protocol.proofs.Counts.{sent-end}
 use Rattle.run_protocol.proofs.Accepted.{Taken, state-back, back, own-below, count-holds, values-pass}
 use Rattle.run_bench.specs.BenchCalls.{runChecks, benchAnswer, viewAfter}
+use Rattle.record_laws.proofs.Reading.{bytes-flatMap}
 use Rattle.demands.specs.Apart.{partCount, partOf, Answered, unanswered, answered, answerOf, mailFrom, apart, run, heldBy, wroteIn, wroteBefore}
 use Rattle.demands.specs.Demands.{Given, Right, Demand2}
 use Rattle.demands.proofs.Second.{spends-none, small-prime, few-calls, takes, runs-right}
 use Rattle.demands.proofs.Third.{each-member}
-use Rattle.demands.proofs.Parts.{bytes-flatMap, zero-bytes, part-sent}
+use Rattle.demands.proofs.Parts.{zero-bytes, part-sent}
 
 -- an answer and two buffers
 abbrev made : Checked → List ℕ → List ℕ → Answered
@@ -250,7 +251,7 @@ module _ (bytes xs cs : List ℕ) (lent : ℕ → ℕ → List ℕ) (is-bytes : 
       left-out plan xs cs (lastCall plan) (run bytes xs cs lent (lastCall plan)) (runs (lastCall plan) (omega arith)) i from1 upto ∙ ap bytesOf (written-results plan xs cs i)
 
   -- what a party held and received apart, as bytes
-  held-apart : (i : ℕ) → 1 ≤ i → i ≤ partyCount plan → bytesOf (viewOf plan xs cs [] i) ≡ heldBy bytes xs cs lent i
+  pub held-apart : (i : ℕ) → 1 ≤ i → i ≤ partyCount plan → bytesOf (viewOf plan xs cs [] i) ≡ heldBy bytes xs cs lent i
   unfolding viewOf mails heldBy
   held-apart i from1 upto =
       bytesOf-append (ownInputs plan i xs) _

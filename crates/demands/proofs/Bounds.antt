@@ -23,6 +23,8 @@ use Rattle.plan.proofs.Planned.{passing, between-true, Laid, laid, length-gates
 use Rattle.plan.proofs.Valid.{Plain, plain, valid, none-or-majority}
 use Rattle.plan.proofs.Counts.{plain-inputs, plain-coins, plain-sent}
 use Rattle.plan.proofs.Wires.{out-wires-few}
+use Rattle.run_protocol.specs.Rounds.{viewCountOf}
+use Rattle.run_protocol.proofs.ViewCounts.{plain-view-count}
 use Rattle.charge_laws.specs.Charges.{billOf}
 use Rattle.charge_laws.proofs.Parts.{bill-fits}
 
@@ -113,6 +115,12 @@ module _ (bs : List ℕ) (passes : planCheck bs ≡ Passed) where
   unfolding ownOutCount outWires
   own-outs-few i = omega (arith, outs-few, out-wires-few i (planOf bs .outs))
 
+  own-shares-few : (i : ℕ) → partyCount plan * ownOutCount plan i ≤ 960
+  own-shares-few i = mul-le-mul {n₁ = partyCount plan} {m₁ = ownOutCount plan i} {n₂ = 15} {m₂ = 64} parties-few (own-outs-few i)
+
+  pub views-few : (i : ℕ) → viewCountOf plan i ≤ 131072
+  views-few i = omega (arith, plain-view-count plan file-plain i, own-few i, own-coins-few i, dealt-most, own-shares-few i, own-outs-few i)
+
   received-few : (i : ℕ) (s : Step) → received plan i s ≤ 1024
   unfolding received
   received-few i DealInputs = kind-few 1
@@ -122,7 +130,7 @@ module _ (bs : List ℕ) (passes : planCheck bs ≡ Passed) where
   received-few i (SendTruncated g) = omega (arith, parties-few)
   received-few i (DealDraws g) = omega (arith, parties-few)
   received-few i (OpenSpent g a b) = omega (arith, parties-few)
-  received-few i SendOuts = omega (arith, mul-le-mul {n₁ = partyCount plan} {m₁ = ownOutCount plan i} {n₂ = 15} {m₂ = 64} parties-few (own-outs-few i))
+  received-few i SendOuts = omega (arith, own-shares-few i)
 
   pub mail-few : (i k : ℕ) → mailCount plan i k ≤ 1024
   unfolding mailCount

@@ -37,6 +37,9 @@ use Rattle.import_call.specs.Importing.{importFile, textChecks, importChecks, i
 use Rattle.sheet_call.specs.Compiling as sheet
 use Rattle.charge_laws.specs.Charges.{billOf}
 use Rattle.charge_call.specs.ChargeCalls.{priceChecks, chargeAnswer, chargedOf, chargeAfter}
+use Rattle.seat_admission.specs.Parts.{listChecks}
+use Rattle.run_bench.specs.Checks.{givenChecks}
+use Rattle.record_laws.specs.Records.{recordChecks, recordAnswer, recordAfter, benchReadChecks, benchReadAnswer, benchReadAfter, plantReadChecks, plantReadAnswer, plantReadAfter}
 use Rattle.pool_answers.specs.Sizes.{answerOf, billedOf}
 use Rattle.demands.specs.Order.{checkingOrder, rankIn, rankOf}
 use Rattle.demands.specs.Demands.{Answers, Demand1}
@@ -152,6 +155,7 @@ number-range (refusal.OutputRule o) = (omega arith, omega arith)
 number-range refusal.Majority = (omega arith, omega arith)
 number-range refusal.Points = (omega arith, omega arith)
 number-range refusal.Price = (omega arith, omega arith)
+number-range refusal.Record = (omega arith, omega arith)
 number-range refusal.Coalition = (omega arith, omega arith)
 number-range refusal.InputCount = (omega arith, omega arith)
 number-range (refusal.InputValue i) = (omega arith, omega arith)
@@ -356,6 +360,23 @@ price-numbers : (bs : List ℕ) (price room : ℕ) → Numbers (31 ∷ 19 ∷ []
 unfolding priceChecks numberOf
 price-numbers bs price room = need-number refusal.Price _ ▹ need-number refusal.BufferLength _ ▹ none
 
+given-numbers : (plan : Plan) (xs coins : List ℕ) → Numbers (10 ∷ 11 ∷ 12 ∷ 13 ∷ []) (givenChecks plan xs coins)
+unfolding givenChecks listChecks numberOf
+given-numbers plan xs coins =
+    need-number refusal.InputCount _
+    ▹ found-number refusal.InputValue 11 _ (λ j. refl)
+    ▹ need-number refusal.CoinCount _
+    ▹ found-number refusal.CoinValue 13 _ (λ j. refl)
+    ▹ none
+
+record-number : (ok : Bool) {ns : List ℕ} {cs : List Checked} → Numbers ns cs → Numbers (28 ∷ ns) (need refusal.Record ok ∷ cs)
+unfolding numberOf
+record-number ok rest = need-number refusal.Record ok ▹ rest
+
+party-number : (ok : Bool) {ns : List ℕ} {cs : List Checked} → Numbers ns cs → Numbers (9 ∷ ns) (need refusal.Coalition ok ∷ cs)
+unfolding numberOf
+party-number ok rest = need-number refusal.Coalition ok ▹ rest
+
 plan-bounded : (bs : List ℕ) → Bounded (planChecks bs)
 unfolding planChecks majorityCheck pointsCheck placeOf
 plan-bounded bs =
@@ -398,6 +419,10 @@ room-bounded ok = need-small refusal.BufferLength ok refl ▸ λ e. Bounded.none
 price-bounded : (bs : List ℕ) (price room : ℕ) → Bounded (priceChecks bs price room)
 unfolding priceChecks placeOf
 price-bounded bs price room = need-small refusal.Price _ refl ▸ λ e0. need-small refusal.BufferLength _ refl ▸ λ e1. Bounded.none
+
+-- checks with no place, and those after them
+no-place : (r : Refusal) (ok : Bool) {cs : List Checked} → placeOf r ≡ 0 → Bounded cs → Bounded (need r ok ∷ cs)
+no-place r ok z rest = need-small r ok z ▸ λ e. rest
 
 module _ (bs : List ℕ) (passes : planCheck bs ≡ Passed) where
   opening-small : (i k : ℕ) (mail : List ℕ) → Small (openingCheck (planOf bs) i k mail)
@@ -446,6 +471,15 @@ module _ (bs : List ℕ) (passes : planCheck bs ≡ Passed) where
       ▸ λ e3. list-small refusal.CoinCount refusal.CoinValue (planOf bs .p) (coinCount (planOf bs)) coins (λ j. refl) (omega (arith, coins-few bs passes)) e3
       ▸ λ e4. need-small refusal.BufferLength _ refl
       ▸ λ e5. Bounded.none
+
+  given-bounded : (xs coins : List ℕ) → Bounded (givenChecks (planOf bs) xs coins)
+  unfolding givenChecks listChecks placeOf
+  given-bounded xs coins =
+      need-small refusal.InputCount _ refl
+      ▸ λ e1. list-small refusal.InputCount refusal.InputValue (planOf bs .p) (inputCount (planOf bs)) xs (λ j. refl) (omega (arith, inputs-few bs passes)) e1
+      ▸ λ e2. need-small refusal.CoinCount _ refl
+      ▸ λ e3. list-small refusal.CoinCount refusal.CoinValue (planOf bs .p) (coinCount (planOf bs)) coins (λ j. refl) (omega (arith, coins-few bs passes)) e3
+      ▸ λ e4. Bounded.none
 
   pair-bounded : (set : ℕ) (xs ys coins : List ℕ) (room : ℕ) → Bounded (pairChecks (planOf bs) set xs ys coins room)
   unfolding pairChecks placeOf
@@ -496,7 +530,7 @@ unfolding billedOf chargedOf
 bill-none b a r e = rw e refl
 
 pub demand1 : Demand1
-unfolding planCheck callChecks callAnswer benchAnswer matchAnswer importChecks importAnswer sheet.sheetChecks sheet.sheetAnswer chargeAnswer stateAfter outAfter viewAfter matchedAfter importAfter sheet.sheetAfter chargeAfter ordered before rankIn checkingOrder
+unfolding planCheck callChecks callAnswer benchAnswer matchAnswer importChecks importAnswer sheet.sheetChecks sheet.sheetAnswer chargeAnswer recordChecks recordAnswer benchReadChecks benchReadAnswer plantReadChecks plantReadAnswer placeOf stateAfter outAfter viewAfter matchedAfter importAfter sheet.sheetAfter chargeAfter recordAfter benchReadAfter plantReadAfter ordered before rankIn checkingOrder
 demand1 = record {
   plan = λ bs. answers Unit (plan-numbers bs) refl (plan-bounded bs) (λ r e. tt);
   call = λ bs i inputs coins state mail out.
@@ -516,6 +550,15 @@ demand1 = record {
   charge = λ bs price out.
       answers _ (joined (plan-numbers bs) (price-numbers bs price (length out))) refl
       (bounded-joined (plan-bounded bs) (λ e. price-bounded bs price (length out))) (λ r e. kept _ r _ out e);
+  store = λ bs xs coins out.
+      answers _ (joined (plan-numbers bs) (joined (given-numbers (planOf bs) xs coins) (room-number _))) refl
+      (bounded-joined (plan-bounded bs) (λ e. bounded-joined (given-bounded bs e xs coins) (λ f. room-bounded _))) (λ r e. kept _ r _ out e);
+  read-all = λ bs stored out.
+      answers _ (joined (plan-numbers bs) (record-number _ (room-number _))) refl
+      (bounded-joined (plan-bounded bs) (λ e. no-place refusal.Record _ refl (room-bounded _))) (λ r e. kept _ r _ out e);
+  read-one = λ bs stored i out.
+      answers _ (joined (plan-numbers bs) (record-number _ (party-number _ (room-number _)))) refl
+      (bounded-joined (plan-bounded bs) (λ e. no-place refusal.Record _ refl (no-place refusal.Coalition _ refl (room-bounded _)))) (λ r e. kept _ r _ out e);
   counted = λ bs set xs coins room e. sent-whole bs _ (plan-passed bs _ e) e;
   uncounted = λ bs set xs coins room r e. sent-none _ _ r e;
   billed = λ bs price room e. bill-whole bs price _ (charge-passed bs price room e .0) (charge-passed bs price room e .1) e;

@@ -1,5 +1,5 @@
 -- What a call writes falls into parts, one for each party, of the sizes that a host cuts by.
---     bytes-flatMap, zero-bytes                 bytes of lists
+--     zero-bytes                                bytes of zeros
 --     part-at                                   a part of what was joined
 --     step-parts, part-sent                     the parts of what a call sends
 --     cut                                       the sizes that a host cuts by
@@ -16,7 +16,7 @@ use lib.Seq.{take-append-seam, drop-append-seam}
 use Rattle.numbers.specs.Tables.{tab}
 use Rattle.numbers.specs.Bytes.{width, bytesFrom, bytesOf}
 use Rattle.numbers.proofs.Tables.{length-tab, getD-tab}
-use Rattle.numbers.proofs.Bytes.{bytesOf-nil, bytesOf-append, take-bytesOf, drop-bytesOf}
+use Rattle.numbers.proofs.Bytes.{take-bytesOf, drop-bytesOf}
 use Rattle.sharing_laws.specs.Poly.{eval}
 use Rattle.field.specs.Mod.{add, sub}
 use Rattle.sharing_laws.specs.Interp.{dot}
@@ -35,11 +35,6 @@ use Rattle.demands.specs.Apart.{partIn, partCount, partFrom, partOf}
 use Rattle.demands.specs.Further.{Cut}
 
 -- ---- bytes
-pub bytes-flatMap : (f : ℕ → List ℕ) (is : List ℕ) → bytesOf (flatMap f is) ≡ flatMap (λ i. bytesOf (f i)) is
-unfolding flatMap
-bytes-flatMap f [] = bytesOf-nil
-bytes-flatMap f (i ∷ is) = bytesOf-append (f i) (flatMap f is) ∙ ap (λ (l : List ℕ). bytesOf (f i) ++ l) (bytes-flatMap f is)
-
 pub zero-bytes : (n : ℕ) → bytesOf (replicate n 0) ≡ replicate (width * n) 0
 unfolding bytesOf bytesFrom
 zero-bytes zero = refl

@@ -1,17 +1,18 @@
 -- A plan's file in another version has the same plan; so every call answers and writes the same. Of the converter.
 -- Assumes nothing.
-use Prim.Native.Nat.{ℕ, _<_}
+use Prim.Native.Nat.{ℕ, _*_, _<_}
 use mathlib.Core.Path.{_≡_, refl, sym, ap, ap₂, _∙_}
 use mathlib.Core.Bool.{true}
-use mathlib.Core.List.{List, [], _++_}
+use mathlib.Core.List.{List, [], _∷_, _++_}
 use native.Mathlib.Omega.{arith}
+use lib.Dec.{eqb}
 use lib.ListN.{length, getD}
-use Rattle.numbers.specs.Bytes.{numbers, bytesOf}
+use Rattle.numbers.specs.Bytes.{width, numbers, bytesOf}
 use Rattle.plan.specs.declared.Checked.{Checked}
 use Rattle.plan.specs.declared.Checked.the-variants.{Passed}
 use Rattle.plan.specs.declared.Refusal.the-variants as refusal
 use Rattle.plan.specs.Refusals.{firstOf, need}
-use Rattle.plan.specs.Plans.{Plan}
+use Rattle.plan.specs.Plans.{Plan, partyCount, parties}
 use Rattle.plan.specs.File.{between, versionAt, nAt, pAt, planChecks, planCheck, planOf}
 use Rattle.plan.proofs.Refusals.{firstOf-append, andThen-passed, passed-both, passed-need}
 use Rattle.plan.proofs.Planned.{passing, modulus-small}
@@ -24,10 +25,12 @@ use Rattle.convert_call.proofs.Converting.{third-fits}
 use Rattle.seat_messages.specs.Calls.{partyChecks, callChecks, callAnswer, written, unlessRefused, calledOn, stateAfter, outAfter}
 use Rattle.seat_messages.specs.Messages.{call}
 use Rattle.plan_coalition.specs.Coalitions.{members}
-use Rattle.run_protocol.specs.Rounds.{view}
+use Rattle.run_protocol.specs.Rounds.{view, viewCount}
 use Rattle.match_privacy.specs.Matching.{matchedCoins}
+use Rattle.run_bench.specs.Checks.{givenChecks}
 use Rattle.run_bench.specs.BenchCalls.{runChecks, benchAnswer, viewAfter}
 use Rattle.match_agreement.specs.MatchCalls.{pairChecks, matchAnswer, matchedAfter}
+use Rattle.record_laws.specs.Records.{bodySize, recordSize, recordOf, recordChecks, recordAnswer, recordAfter, recordOk, benchReadChecks, benchReadAnswer, bodiesOf, benchReadAfter, bodyOf, plantReadChecks, plantReadAnswer, plantReadAfter}
 use Rattle.demands.specs.Further.{SameCalls, Rewritten, SameVersions, Converted, Converts}
 
 -- two files that pass, with one plan
@@ -50,8 +53,27 @@ module _ (bs file : List ℕ) (passes : planCheck bs ≡ Passed) (passes′ : pl
   unfolding matchAnswer
   same-matching set xs ys coins room = further (λ plan. pairChecks plan set xs ys coins room)
 
+  same-storing : (inputs coins : List ℕ) (room : ℕ) → recordAnswer file inputs coins room ≡ recordAnswer bs inputs coins room
+  unfolding recordAnswer recordChecks
+  same-storing inputs coins room = further (λ plan. givenChecks plan inputs coins ++ (need refusal.BufferLength (eqb room (recordSize plan)) ∷ []))
+
+  same-reading : (r : List ℕ) (room : ℕ) → benchReadAnswer file r room ≡ benchReadAnswer bs r room
+  unfolding benchReadAnswer benchReadChecks
+  same-reading r room =
+      further (λ plan. need refusal.Record (recordOk plan r) ∷ need refusal.BufferLength (eqb room (width * viewCount plan (parties plan))) ∷ [])
+
+  same-reading-one : (r : List ℕ) (i room : ℕ) → plantReadAnswer file r i room ≡ plantReadAnswer bs r i room
+  unfolding plantReadAnswer plantReadChecks
+  same-reading-one r i room =
+      further
+      (λ plan.
+      need refusal.Record (recordOk plan r)
+      ∷ need refusal.Coalition (between 1 (partyCount plan) i)
+      ∷ need refusal.BufferLength (eqb room (bodySize plan i))
+      ∷ [])
+
   calls : SameCalls bs file
-  unfolding calledOn stateAfter outAfter viewAfter matchedAfter
+  unfolding calledOn stateAfter outAfter viewAfter matchedAfter recordAfter benchReadAfter plantReadAfter
   calls = record {
     answer = same-answer;
     state =
@@ -74,6 +96,14 @@ module _ (bs file : List ℕ) (passes : planCheck bs ≡ Passed) (passes′ : pl
         λ set xs ys coins out.
         ap₂ (λ (c : Checked) (plan : Plan). unlessRefused c (bytesOf (matchedCoins plan (members set) (numbers xs) (numbers ys) (numbers coins))) out)
         (same-matching set xs ys coins (length out)) same;
+    storing = same-storing;
+    stored =
+        λ inputs coins out.
+        ap₂ (λ (c : Checked) (plan : Plan). unlessRefused c (recordOf plan (numbers inputs) (numbers coins)) out) (same-storing inputs coins (length out)) same;
+    reading = same-reading;
+    read = λ r out. ap₂ (λ (c : Checked) (plan : Plan). unlessRefused c (bodiesOf plan r) out) (same-reading r (length out)) same;
+    reading-one = same-reading-one;
+    read-one = λ r i out. ap₂ (λ (c : Checked) (plan : Plan). unlessRefused c (bodyOf plan r i) out) (same-reading-one r i (length out)) same;
   }
 
 pub same-versions : SameVersions

@@ -23,6 +23,7 @@ use Rattle.import_call.specs.Importing.{importChecks, importAnswer, importAfter
 use Rattle.sheet_call.specs.Compiling.{sheetChecks, sheetAnswer, sheetAfter}
 use Rattle.charge_laws.specs.Charges.{billOf}
 use Rattle.charge_call.specs.ChargeCalls.{priceChecks, chargeAnswer, chargedOf, chargeAfter}
+use Rattle.record_laws.specs.Records.{recordChecks, recordAnswer, recordAfter, benchReadChecks, benchReadAnswer, benchReadAfter, plantReadChecks, plantReadAnswer, plantReadAfter}
 use Rattle.pool_answers.specs.Sizes.{answerOf, billedOf}
 use Rattle.demands.specs.Order.{rankOf}
 use Rattle.demands.specs.Apart as apart
@@ -61,6 +62,15 @@ pub record Demand1 : Type 0 where
   pub charge :
       (bs : List ℕ) (price : ℕ) (out : List ℕ)
       → Answers (planChecks bs ++ priceChecks bs price (length out)) (chargeAnswer bs price (length out)) (chargeAfter bs price out ≡ out)
+  pub store :
+      (bs xs coins out : List ℕ)
+      → Answers (recordChecks bs xs coins (length out)) (recordAnswer bs xs coins (length out)) (recordAfter bs xs coins out ≡ out)
+  pub read-all :
+      (bs stored out : List ℕ)
+      → Answers (benchReadChecks bs stored (length out)) (benchReadAnswer bs stored (length out)) (benchReadAfter bs stored out ≡ out)
+  pub read-one :
+      (bs stored : List ℕ) (i : ℕ) (out : List ℕ)
+      → Answers (plantReadChecks bs stored i (length out)) (plantReadAnswer bs stored i (length out)) (plantReadAfter bs stored i out ≡ out)
   -- the bench's answer is the refusal's, which counts no elements, or has the elements sent above its low byte, whole
   pub counted :
       (bs : List ℕ) (set : ℕ) (xs coins : List ℕ) (room : ℕ) → benchAnswer bs set xs coins room ≡ Passed

@@ -21,6 +21,7 @@ use Rattle.run_protocol.specs.Rounds.{mailTo, after, results, viewCount}
 use Rattle.run_protocol.specs.Settings.{Coins}
 use Rattle.match_privacy.specs.Matching.{matchedCoins}
 use Rattle.match_agreement.specs.MatchCalls.{matchAnswer, matchedAfter}
+use Rattle.record_laws.specs.Records.{recordAnswer, recordAfter, benchReadAnswer, benchReadAfter, plantReadAnswer, plantReadAfter}
 use Rattle.demands.specs.Apart.{partCount}
 use Rattle.demands.specs.Demands.{Alike, SameBytes}
 
@@ -84,6 +85,12 @@ pub record SameCalls (first second : List ℕ) : Type 0 where
   pub view : (set : ℕ) (inputs coins out : List ℕ) → viewAfter second set inputs coins out ≡ viewAfter first set inputs coins out
   pub matching : (set : ℕ) (xs ys coins : List ℕ) (room : ℕ) → matchAnswer second set xs ys coins room ≡ matchAnswer first set xs ys coins room
   pub matched : (set : ℕ) (xs ys coins out : List ℕ) → matchedAfter second set xs ys coins out ≡ matchedAfter first set xs ys coins out
+  pub storing : (inputs coins : List ℕ) (room : ℕ) → recordAnswer second inputs coins room ≡ recordAnswer first inputs coins room
+  pub stored : (inputs coins out : List ℕ) → recordAfter second inputs coins out ≡ recordAfter first inputs coins out
+  pub reading : (r : List ℕ) (room : ℕ) → benchReadAnswer second r room ≡ benchReadAnswer first r room
+  pub read : (r out : List ℕ) → benchReadAfter second r out ≡ benchReadAfter first r out
+  pub reading-one : (r : List ℕ) (i room : ℕ) → plantReadAnswer second r i room ≡ plantReadAnswer first r i room
+  pub read-one : (r : List ℕ) (i : ℕ) (out : List ℕ) → plantReadAfter second r i out ≡ plantReadAfter first r i out
 
 -- a file that passes as another does, with the same plan: t, p, points, gates and outs, in order
 pub record Rewritten (first second : List ℕ) : Type 0 where

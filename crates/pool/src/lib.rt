@@ -18,7 +18,8 @@ ghost use Rattle.convert_call.specs.Converting.{convertAnswer, convertAfter};
 ghost use Rattle.sheet_call.specs.Compiling.{sheetAnswer, sheetAfter};
 ghost use Rattle.charge_laws.specs.Charges.{billOf};
 ghost use Rattle.charge_call.specs.ChargeCalls.{chargeAnswer, chargedOf, chargeAfter};
-ghost use Rattle.pool_answers.specs.Sizes.{seatSize, callCount, runSize, importSize, sheetSize, convertSize, answerOf, billedOf};
+ghost use Rattle.record_laws.specs.Records.{recordAnswer, recordAfter, benchReadAnswer, benchReadAfter, plantReadAnswer, plantReadAfter};
+ghost use Rattle.pool_answers.specs.Sizes.{seatSize, callCount, runSize, importSize, sheetSize, convertSize, storedSize, answerOf, billedOf};
 
 // Checks a plan: refusals 1 to 8.
 #[no_mangle]
@@ -186,6 +187,50 @@ pub extern "C" fn pool_sheet(text: &[u8], n: u32, t: u32, p: u32, seat: u32, pla
     ensures plan { λ _. ⌜ now (plan .exit) ≡ sheetAfter n t p seat (now (text .entry)) (now (plan .entry)) ⌝ }
 {
     plan_codes::code(sheet_call::compile(text, n, t, p, seat, plan))
+}
+
+// The bytes of a run's record: refusals 1 to 8, 25 and 26.
+#[no_mangle]
+pub extern "C" fn pool_record_size(plan: &[u8]) -> u64
+    ensures { λ r. ⌜ r ≡ storedSize (now (plan .entry)) ⌝ }
+{
+    let r = plan_reading::read(plan);
+    let Reading::Passed(h) = r else {
+        return plan_codes::code(plan_reading::outcome(r));
+    };
+    pool_answers::value(record_write::record_size(plan, h))
+}
+
+// A run stored: refusals 1 to 8, 25, 26, 10 to 13 and 19.
+#[no_mangle]
+pub extern "C" fn pool_record(plan: &[u8], figures: &[u8], coins: &[u8], file: &mut [u8]) -> u64
+    ensures answer { λ r. ⌜ r ≡ codeOf (recordAnswer (now (plan .entry)) (now (figures .entry)) (now (coins .entry)) (length (now (file .entry)))) ⌝ }
+    ensures file { λ _. ⌜ now (file .exit) ≡ recordAfter (now (plan .entry)) (now (figures .entry)) (now (coins .entry)) (now (file .entry)) ⌝ }
+{
+    plan_codes::code(record_write::record(plan, figures, coins, file))
+}
+
+// All bodies of a record, as the bench reads it: refusals 1 to 8, 25, 26, 28 and 19.
+#[no_mangle]
+pub extern "C" fn pool_record_read(plan: &[u8], file: &[u8], numbers: &mut [u8]) -> u64
+    ensures answer { λ r. ⌜ r ≡ codeOf (benchReadAnswer (now (plan .entry)) (now (file .entry)) (length (now (numbers .entry)))) ⌝ }
+    ensures numbers { λ _. ⌜ now (numbers .exit) ≡ benchReadAfter (now (plan .entry)) (now (file .entry)) (now (numbers .entry)) ⌝ }
+{
+    plan_codes::code(record_read::read_all(plan, file, numbers))
+}
+
+// One seat's body of a record, as its plant reads it: refusals 1 to 8, 25, 26, 28, 9 and 19.
+#[no_mangle]
+pub extern "C" fn pool_record_read_seat(
+    plan: &[u8],
+    file: &[u8],
+    seat: u16,
+    numbers: &mut [u8],
+) -> u64
+    ensures answer { λ r. ⌜ r ≡ codeOf (plantReadAnswer (now (plan .entry)) (now (file .entry)) seat (length (now (numbers .entry)))) ⌝ }
+    ensures numbers { λ _. ⌜ now (numbers .exit) ≡ plantReadAfter (now (plan .entry)) (now (file .entry)) seat (now (numbers .entry)) ⌝ }
+{
+    plan_codes::code(record_read::read_seat(plan, file, seat, numbers))
 }
 
 // The line charge, by party: refusals 1 to 8, 31 and 19.

@@ -35,6 +35,7 @@ use Rattle.import_call.specs.Measures.{MeasuredAs}
 use Rattle.import_call.proofs.Calls.{told, refused, passed, counts-parties, gates-small, outs-small, file-size}
 use Rattle.convert_call.specs.Converting.{oldChecks, convertedFile}
 use Rattle.convert_call.specs.Reads.{OldReading}
+use Rattle.record_laws.specs.Records.{recordSize}
 use Rattle.convert_call.proofs.Reading.{old-planned, old-passes}
 use Rattle.sheet_call.specs.declared.Sheet.{Sheet}
 use Rattle.sheet_call.specs.declared.Sheet.the-variants as compiled
@@ -45,7 +46,7 @@ use Rattle.charge_call.specs.declared.Charged.the-variants as charged
 use Rattle.run_bench.specs.declared.Benched.{Benched}
 use Rattle.run_bench.specs.declared.Benched.the-variants as benched
 use Rattle.run_protocol.specs.Rounds.{viewCount}
-use Rattle.pool_answers.specs.Sizes.{valueOf, mailOfCall, writtenByCall, seatCount, seatSize, callCount, runCount, runSize, importSize, sheetSize, convertSize, answerOf, billedOf}
+use Rattle.pool_answers.specs.Sizes.{valueOf, mailOfCall, writtenByCall, seatCount, seatSize, callCount, runCount, runSize, importSize, sheetSize, convertSize, storedSize, answerOf, billedOf}
 
 pub code-answered : (a c : Checked) (r : ℕ) → c ≡ a → r ≡ codeOf c → r ≡ codeOf a
 code-answered a c r e f = f ∙ ap codeOf e
@@ -253,6 +254,18 @@ module _ (bs : List ℕ) (r : Reading) (a : OldReading bs r) (k : ℕ) where
     convert-sized size es f =
         f ∙ ap (λ (s : ℕ). 256 * s) es ∙ sym (value-passed (firstOf (oldChecks bs)) (length (convertedFile bs)) (old-passes bs r h a e))
 
+-- ---- the size of a record
+module _ (bs : List ℕ) (r : Reading) (a : ReadAs bs r) (k : ℕ) where
+  pub stored-refused : (q : Refusal) (c : Checked) → r ≡ reading.Refused q → c ≡ outcomeOf r → k ≡ codeOf c → k ≡ storedSize bs
+  unfolding storedSize
+  stored-refused q c e f g =
+      g ∙ ap codeOf (read-outcome bs r c a f) ∙ sym (value-refused (planCheck bs) q (recordSize (planOf bs)) (refused-read bs r q a e))
+
+  pub stored-sized : (h : Header) (size : ℕ) → r ≡ reading.Passed h → size ≡ recordSize (planOf bs) → k ≡ 256 * size → k ≡ storedSize bs
+  unfolding storedSize
+  stored-sized h size e es f =
+      f ∙ ap (λ (s : ℕ). 256 * s) es ∙ sym (value-passed (planCheck bs) (recordSize (planOf bs)) (planned-read bs r h a e .passes))
+
 -- ---- the bench
 pub sent-value : (b : Benched) (n k : ℕ) → b ≡ benched.Sent n → k ≡ 256 * (n % 4294967296) → k ≡ answerOf b
 unfolding answerOf
@@ -284,6 +297,6 @@ pub count-other : (plan : Plan) (i call what : ℕ) → (what ≡ 0 → ⊥) →
 unfolding seatCount
 count-other plan i call what a b c d e = rw (ne-eqb what 0 a, ne-eqb what 1 b, ne-eqb what 2 c, ne-eqb what 3 d, ne-eqb what 4 e) refl
 
-pub ruleset answering = (needs, code-answered, seat-plan-refused, calls-refused, read-planned, seat-below, seat-above, seat-sized, calls-counted, run-plan-refused, set-refused, run-sized, import-size-refused, import-sized, counts-parties, gates-small, outs-small, sheet-size-refused, sheet-few, sheet-parties, sheet-sized, convert-size-refused, convert-read, convert-sized, sent-value, sent-refused, small-rest, bench-answered, billed-value, billed-refused, charge-answered)
+pub ruleset answering = (needs, code-answered, seat-plan-refused, calls-refused, read-planned, seat-below, seat-above, seat-sized, calls-counted, run-plan-refused, set-refused, run-sized, import-size-refused, import-sized, counts-parties, gates-small, outs-small, sheet-size-refused, sheet-few, sheet-parties, sheet-sized, convert-size-refused, convert-read, convert-sized, stored-refused, stored-sized, sent-value, sent-refused, small-rest, bench-answered, billed-value, billed-refused, charge-answered)
 
 pub ruleset counting = (needs, mail-there, mail-none, written-there, written-none, state-count, count-0, count-1, count-3, count-4, count-other, all-0, all-1, all-2, all-other)

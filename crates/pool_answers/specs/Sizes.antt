@@ -16,6 +16,7 @@ use Rattle.run_protocol.specs.Rounds.{viewCount}
 use Rattle.import_call.specs.Importing.{importFile, textChecks}
 use Rattle.convert_call.specs.Converting.{oldChecks, convertedFile}
 use Rattle.sheet_call.specs.Compiling as sheet
+use Rattle.record_laws.specs.Records.{recordSize}
 use Rattle.charge_call.specs.declared.Charged.{Charged}
 use Rattle.charge_call.specs.declared.Charged.the-variants as charged
 use Rattle.run_bench.specs.declared.Benched.{Benched}
@@ -73,6 +74,10 @@ sheetSize n t p i text = valueOf (firstOf (sheet.textChecks n t p i text)) (leng
 -- and of a plan of version 1 or 2 as one of version 3
 unfoldable pub convertSize : List ℕ → ℕ
 convertSize bs = valueOf (firstOf (oldChecks bs)) (length (convertedFile bs))
+
+-- the bytes of a run's record
+unfoldable pub storedSize : List ℕ → ℕ
+storedSize bs = valueOf (planCheck bs) (recordSize (planOf bs))
 
 -- what the bench answers: the elements sent as its value, in bits 8 to 39 (they are at most 231,360), or the refusal's code
 unfoldable pub answerOf : Benched → ℕ

@@ -5,12 +5,12 @@
 use mathlib.Core.Path.{_≡_, refl, sym, ap, _∙_}
 use mathlib.Core.Bool.{Bool, true}
 use mathlib.Core.List.{List, [], _∷_, _++_, flatMap}
-use Prim.Native.Nat.{ℕ, _+_, _*_, _<_, _≤_}
+use Prim.Native.Nat.{ℕ, _+_, _*_, _^_, _<_, _≤_}
 use native.Mathlib.Nat.{mul-le-mul}
 use native.Mathlib.Omega.{arith}
 use borrow.Author.Needs.{needs}
-use borrow.Author.Tests.{eqb-true}
-use lib.Dec.{eqb}
+use borrow.Author.Tests.{eqb-true, ltb-true}
+use lib.Dec.{eqb, leb, ltb}
 use lib.ListN.{length, take, length-replicate}
 use lib.Seq.{length-take-le}
 use mir.Syntax.{w64}
@@ -18,6 +18,7 @@ use mir.Val.{Fits}
 use Rattle.numbers.specs.Bytes.{width, numbers, bytesOf, holdsCount, firstOver, allBelow}
 use Rattle.numbers.proofs.Bytes.{numbers-length, holds-length}
 use Rattle.numbers.proofs.Below.{firstOver-nothing}
+use Rattle.numbers.proofs.Truth.{both-true}
 use Rattle.sharing_laws.specs.Interp.{All}
 use Rattle.plan.specs.declared.Header.{Header}
 use Rattle.plan.specs.declared.Reading.{Reading}
@@ -34,7 +35,7 @@ use Rattle.plan_coalition.specs.Coalitions.{members, setFits, setOk}
 use Rattle.plan.proofs.Refusals.{andThen-passed, andThen-refused, firstOf-append, passed-both, passed-need, passed-found}
 use Rattle.plan.proofs.Planned.{planned-read, refused-read, plan-p, plan-n}
 use Rattle.plan.proofs.Valid.{valid, plain, plain-no-7}
-use Rattle.plan_coalition.proofs.Coalitions.{set-ok, member-in, all-members, member-party}
+use Rattle.plan_coalition.proofs.Coalitions.{set-ok, member-in, all-members}
 use Rattle.seat_messages.specs.Calls.{unlessRefused}
 use Rattle.run_bench.specs.declared.Benched.{Benched}
 use Rattle.run_bench.specs.declared.Benched.the-variants as benched
@@ -44,6 +45,7 @@ use Rattle.run_protocol.proofs.Expected.{Tabled}
 use Rattle.run_protocol.proofs.Given.{tabled-none}
 use Rattle.run_protocol.proofs.Runs.{views-table}
 use Rattle.run_dealings.specs.Rows.{Given}
+use Rattle.run_views.proofs.JoinLaws.{member-within}
 use Rattle.run_bench.specs.BenchCalls.{runChecks, benchAnswer, benchedOf, viewAfter}
 
 -- ---- the table and the views
@@ -60,13 +62,13 @@ module _ {bs : List ℕ} {h : Header} (pl : Planned bs h) where
   pub used-long : (table : List ℕ) → length table ≡ 15360 → h .n * h .gates ≡ length (take (h .n * h .gates) table)
   used-long table e = sym (length-take-le (h .n * h .gates) table (table-enough table e))
 
-  module _ (inputs coins : List ℕ) (given : Given (planOf bs) inputs coins) (set : ℕ) (ok : setFits (h .n) (h .t) set ≡ true) where
+  module _ (inputs coins : List ℕ) (given : Given (planOf bs) inputs coins) (set : ℕ) (w : set < 2 ^ h .n) where
     -- the table's views are those of the run of separate calls
     pub run-written : (new : List ℕ) → new ≡ bytesOf (flatMap (tableViewOf (planOf bs) (numbers inputs) (numbers coins) []) (members set)) → new ≡ bytesOf (view (planOf bs) (members set) (numbers inputs) (numbers coins) [])
     run-written new e =
         let full : length (numbers coins) ≡ coinCount (planOf bs) = omega (arith, numbers-length coins, given .coins-count) in
         let only : All (λ i. (1 ≤ i) × (i ≤ partyCount (planOf bs))) (members set) =
-        all-members (λ i. (1 ≤ i) × (i ≤ partyCount (planOf bs))) (members set) (λ m w. (member-in set m w .from, rw (plan-n pl) (member-party (h .n) (h .t) set ok m w))) in
+        all-members (λ i. (1 ≤ i) × (i ≤ partyCount (planOf bs))) (members set) (λ m q. (member-in set m q .from, rw (plan-n pl) (member-within (h .n) set w m q))) in
         let none : Tabled (planOf bs) [] [] = tabled-none (planOf bs) [] (plain-no-7 (planOf bs) (plain bs (pl .passes))) in
         e ∙ ap bytesOf (sym (views-table (planOf bs) (valid bs (pl .passes)) (numbers inputs) (numbers coins) [] [] full none (members set) only))
 
@@ -148,6 +150,9 @@ module _ (bs : List ℕ) (set : ℕ) (inputs coins : List ℕ) (room : ℕ) (c :
   unfolding runChecks firstOf
   passed-set h pl = set-ok bs h set pl ∙ passed-need refusal.Coalition (setOk (planOf bs) set) (passed-both _ _ (sym ec ∙ f) .0)
 
+  pub passed-within : (h : Header) → Planned bs h → set < 2 ^ h .n
+  passed-within h pl = ltb-true set (2 ^ h .n) (both-true (ltb set (2 ^ h .n)) (leb (length (members set)) (h .t)) (passed-set h pl) .0)
+
   pub passed-given : Given (planOf bs) inputs coins
   unfolding runChecks firstOf
   passed-given =
@@ -174,4 +179,4 @@ module _ (bs : List ℕ) (set : ℕ) (inputs coins : List ℕ) (room : ℕ) (c :
       let i = passed-both _ _ (g .1) in
       eqb-true room (width * viewCount (planOf bs) (members set)) (passed-need refusal.BufferLength _ (i .0))
 
-pub ruleset benching = (needs, planned-read, bench-no-plan, view-no-plan, bench-refused, view-refused, bench-sent, view-sent, passed-set, passed-given, passed-room)
+pub ruleset benching = (needs, planned-read, bench-no-plan, view-no-plan, bench-refused, view-refused, bench-sent, view-sent, passed-within, passed-given, passed-room)

@@ -51,7 +51,7 @@ pub fn view_count(plan: &[u8], h: Header, set: u16) -> usize
 }
 
 // Refusals 10 to 13.
-fn check_given(plan: &[u8], h: Header, inputs: &[u8], coins: &[u8]) -> Checked
+pub fn check_given(plan: &[u8], h: Header, inputs: &[u8], coins: &[u8]) -> Checked
     requires { ⌜ Planned (now plan) h ⌝ }
     ensures { λ r. ⌜ r ≡ firstOf (givenChecks (planOf (now (plan .entry))) (now (inputs .entry)) (now (coins .entry))) ⌝ }
 {

@@ -4,15 +4,14 @@ use plan::Header;
 use plan::Reading;
 use plan::Refusal;
 ghost use mathlib.Core.Path.{_≡_};
-ghost use mathlib.Core.Bool.{true};
 ghost use mathlib.Core.List.{[]};
-ghost use Prim.Native.Nat.{_*_};
+ghost use Prim.Native.Nat.{_*_, _^_, _<_};
 ghost use lib.ListN.{length};
 ghost use Rattle.numbers.specs.Bytes.{width, numbers, bytesOf};
 ghost use Rattle.plan.specs.Plans.{sentCount};
 ghost use Rattle.plan.specs.File.{planOf};
 ghost use Rattle.plan.specs.Planned.{Planned};
-ghost use Rattle.plan_coalition.specs.Coalitions.{members, setFits};
+ghost use Rattle.plan_coalition.specs.Coalitions.{members};
 ghost use Rattle.run_protocol.specs.Rounds.{view, viewCount};
 ghost use Rattle.run_dealings.specs.Rows.{Given};
 ghost use Rattle.run_bench.specs.BenchCalls.{benchAnswer, benchedOf, viewAfter};
@@ -35,11 +34,12 @@ fn answer(c: Checked, sent: usize) -> Benched
     }
 }
 
-// Writes the view of a coalition in the run of all calls, by the table of shares, which holds 1,024 wires of 15 parties.
-fn write_run(plan: &[u8], h: Header, set: u16, inputs: &[u8], coins: &[u8], out: &mut [u8])
+// Writes the views of a set's members in the run of all calls, by the table of shares, which holds 1,024 wires of 15 parties. The set may have
+// more than t members.
+pub fn write_run(plan: &[u8], h: Header, set: u16, inputs: &[u8], coins: &[u8], out: &mut [u8])
     requires { ⌜ Planned (now plan) h ⌝ }
     requires { ⌜ Given (planOf (now plan)) (now inputs) (now coins) ⌝ }
-    requires { ⌜ setFits (h .n) (h .t) set ≡ true ⌝ }
+    requires { ⌜ set < 2 ^ h .n ⌝ }
     requires { ⌜ length (now out) ≡ width * viewCount (planOf (now plan)) (members set) ⌝ }
     ensures { λ _. ⌜ now (out .exit) ≡ bytesOf (view (planOf (now (plan .entry))) (members set) (numbers (now (inputs .entry))) (numbers (now (coins .entry))) []) ⌝ }
 {

@@ -1,16 +1,17 @@
 -- The parts of a view joined, and the views of a coalition's members.
 --     mailing, joining      all mail to a party, and its view
+--     member-within         in a set that names no party above n, each member is a party
 --     membering             the view of a party that is a member
 --     Viewed, viewing       the views of all members
 -- Assumes nothing.
 use mathlib.Core.Path.{_≡_, refl, sym, ap, _∙_}
 use mathlib.Core.Bool.{Bool, true, false, cond}
-use mathlib.Core.List.{List, [], _∷_, _++_, map, flatMap}
-use Prim.Native.Nat.{ℕ, suc, _+_, _-_, _*_, _<_, _≤_}
+use mathlib.Core.List.{List, [], _∷_, _++_, map, flatMap, List·Memᴰ}
+use Prim.Native.Nat.{ℕ, suc, _+_, _-_, _*_, _^_, _<_, _≤_}
 use native.Mathlib.Numerals.{add-one}
 use native.Mathlib.Omega.{arith}
 use borrow.Author.Needs.{needs}
-use borrow.Author.Tests.{not-true, not-false}
+use borrow.Author.Tests.{not-true, not-false, lt-ltb, le-leb}
 use lib.ListN.{length, take}
 use Rattle.numbers.specs.Bytes.{width, numbers, bytesOf}
 use Rattle.numbers.proofs.Bytes.{numbers-length}
@@ -60,8 +61,15 @@ module _ (plan : Plan) (h : Header) (table cs : List ℕ) (i at : ℕ) (old : Li
 pub ruleset joining = (needs, few-powers, power-row, row-count, mail-done, view-done)
 
 -- ---- a member
-pub member-most : (n t set i : ℕ) (b : Bool) → setFits n t set ≡ true → b ≡ inSet set i → b ≡ true → 1 ≤ i → i ≤ 16 → i ≤ n
-member-most n t set i b ok e y l m = member-party n t set ok i (in-member set i l m (sym e ∙ y))
+-- a set that names no party above n admits its own count of members
+own-count : (n set : ℕ) → set < 2 ^ n → setFits n (length (members set)) set ≡ true
+own-count n set l = rw (lt-ltb set (2 ^ n) l, le-leb (length (members set)) (length (members set)) (omega arith))
+
+pub member-within : (n set : ℕ) → set < 2 ^ n → (m : ℕ) → List·Memᴰ m (members set) → m ≤ n
+member-within n set l = member-party n (length (members set)) set (own-count n set l)
+
+pub member-most : (n set i : ℕ) (b : Bool) → set < 2 ^ n → b ≡ inSet set i → b ≡ true → 1 ≤ i → i ≤ 16 → i ≤ n
+member-most n set i b w e y l m = member-within n set w i (in-member set i l m (sym e ∙ y))
 
 module _ (vs : List ℕ) (set i at : ℕ) (old : List ℕ) (b : Bool) (e : b ≡ inSet set i) where
   pub member-not : b ≡ false → Wrote 47104 (cond (inSet set i) vs []) at old old at
@@ -134,11 +142,11 @@ module _ {bs : List ℕ} {h : Header} (pl : Planned bs h) (inputs coins table : 
             };
       }
 
-  module _ (set : ℕ) (ok : setFits (h .n) (h .t) set ≡ true) where
+  module _ (set : ℕ) (w : set < 2 ^ h .n) where
     parties-only : All (λ i. (1 ≤ i) × (i ≤ partyCount (planOf bs))) (members set)
     parties-only =
         all-members (λ i. (1 ≤ i) × (i ≤ partyCount (planOf bs))) (members set)
-        (λ m w. (member-in set m w .from, rw (plan-n pl) (member-party (h .n) (h .t) set ok m w)))
+        (λ m q. (member-in set m q .from, rw (plan-n pl) (member-within (h .n) set w m q)))
 
     views-flat : flatMap (viewIn (planOf bs) h table (numbers inputs) (numbers coins)) (members set) ≡ flatMap (tableViewOf (planOf bs) (numbers inputs) (numbers coins) []) (members set)
     views-flat =

@@ -7,7 +7,7 @@ use plan::Output;
 ghost use mathlib.Core.Path.{_≡_};
 ghost use mathlib.Core.Bool.{true, cond};
 ghost use mathlib.Core.List.{[], _∷_, map, flatMap};
-ghost use Prim.Native.Nat.{_+_, _-_, _*_, _/_, _<_, _≤_};
+ghost use Prim.Native.Nat.{_+_, _-_, _*_, _/_, _^_, _<_, _≤_};
 ghost use lib.Dec.{eqb, leb};
 ghost use lib.ListN.{length, take, drop};
 ghost use Rattle.numbers.specs.Tables.{tab};
@@ -18,7 +18,7 @@ ghost use Rattle.sharing_laws.specs.Interp.{dot};
 ghost use Rattle.plan.specs.Plans.{pointOf, isInputOf, inputWires, outWires, inputOwnersAt, coinOwnersAt, coinCount, ownOf, ownInputs, ownCoins};
 ghost use Rattle.plan.specs.File.{planOf, gatePlace, gateAt};
 ghost use Rattle.plan.specs.Planned.{Planned};
-ghost use Rattle.plan_coalition.specs.Coalitions.{inSet, members, setFits};
+ghost use Rattle.plan_coalition.specs.Coalitions.{inSet, members};
 ghost use Rattle.run_protocol.specs.Rounds.{viewCount};
 ghost use Rattle.run_protocol.specs.Shares.{shareTable};
 ghost use Rattle.run_protocol.specs.Tables.{tableViewOf};
@@ -714,7 +714,7 @@ fn write_member(
 ) -> usize
     requires { ⌜ Planned (now plan) h ⌝ }
     requires { ⌜ Ran (planOf (now plan)) h (numbers (now coins)) (now table) ⌝ }
-    requires { ⌜ setFits (h .n) (h .t) set ≡ true ⌝ }
+    requires { ⌜ set < 2 ^ h .n ⌝ }
     requires { ⌜ 1 ≤ i ⌝ }
     requires { ⌜ i ≤ 16 ⌝ }
     requires { ⌜ at ≤ 800000 ⌝ }
@@ -726,7 +726,7 @@ fn write_member(
     write_view(plan, h, inputs, coins, table, i, at, out)
 }
 
-// The view of a coalition, its members ascending, from the table of shares of the run.
+// The views of a set's members, ascending, from the table of shares of the run; the set names no party above n.
 pub fn write_views(
     plan: &[u8],
     h: Header,
@@ -739,7 +739,7 @@ pub fn write_views(
     requires { ⌜ Planned (now plan) h ⌝ }
     requires { ⌜ Given (planOf (now plan)) (now inputs) (now coins) ⌝ }
     requires { ⌜ now table ≡ rowsOf (planOf (now plan) .points) (shareTable (planOf (now plan)) (numbers (now inputs)) (numbers (now coins)) []) ⌝ }
-    requires { ⌜ setFits (h .n) (h .t) set ≡ true ⌝ }
+    requires { ⌜ set < 2 ^ h .n ⌝ }
     requires { ⌜ length (now out) ≡ width * viewCount (planOf (now plan)) (members set) ⌝ }
     ensures { λ _. ⌜ now (out .exit) ≡ bytesOf (flatMap (tableViewOf (planOf (now (plan .entry))) (numbers (now (inputs .entry))) (numbers (now (coins .entry))) []) (members set)) ⌝ }
 {

@@ -15,6 +15,7 @@ pub mod plan;
 pub mod primes;
 pub mod program;
 pub mod random;
+pub mod record;
 pub mod run;
 pub mod seat;
 pub mod sheet;

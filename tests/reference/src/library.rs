@@ -5,6 +5,7 @@ use crate::convert::{convert, convert_file};
 use crate::import::{import, import_file};
 use crate::matching::matching;
 use crate::plan::{plan_check, refuse, Plan, Refusal};
+use crate::record::{read_all, read_seat, record, record_size};
 use crate::run::bench;
 use crate::seat::seat_call;
 use crate::sheet::{sheet, sheet_file};
@@ -26,6 +27,10 @@ pub struct Interface {
     pub charge: fn(&[u8], u32, &mut [u8]) -> u64,
     pub convert: fn(&[u8], &mut [u8]) -> u64,
     pub convert_size: fn(&[u8]) -> u64,
+    pub record: fn(&[u8], &[u8], &[u8], &mut [u8]) -> u64,
+    pub record_size: fn(&[u8]) -> u64,
+    pub read_all: fn(&[u8], &[u8], &mut [u8]) -> u64,
+    pub read_seat: fn(&[u8], &[u8], u16, &mut [u8]) -> u64,
 }
 
 /// An answer's 64 bits.
@@ -82,6 +87,10 @@ pub const REFERENCE: Interface = Interface {
     charge: |plan, price, parts| answer(charge(plan, price, parts)),
     convert: |plan, out| answer(convert(plan, out).map(|_| 0)),
     convert_size: |plan| answer(convert_file(plan).map(|file| file.len())),
+    record: |plan, figures, coins, stored| answer(record(plan, figures, coins, stored).map(|_| 0)),
+    record_size: |plan| answer(record_size(plan)),
+    read_all: |plan, record, numbers| answer(read_all(plan, record, numbers).map(|_| 0)),
+    read_seat: |plan, record, seat, numbers| answer(read_seat(plan, record, seat, numbers).map(|_| 0)),
 };
 
 /// The product's static library.
@@ -156,6 +165,34 @@ pub const LIBRARY: Interface = {
             pub fn pool_charge(plan: Bytes, plan_len: usize, price: u32, parts: *mut u8, parts_len: usize) -> u64;
             pub fn pool_convert(plan: Bytes, plan_len: usize, out: *mut u8, out_len: usize) -> u64;
             pub fn pool_convert_size(plan: Bytes, plan_len: usize) -> u64;
+            pub fn pool_record(
+                plan: Bytes,
+                plan_len: usize,
+                figures: Bytes,
+                figures_len: usize,
+                coins: Bytes,
+                coins_len: usize,
+                record: *mut u8,
+                record_len: usize,
+            ) -> u64;
+            pub fn pool_record_size(plan: Bytes, plan_len: usize) -> u64;
+            pub fn pool_record_read(
+                plan: Bytes,
+                plan_len: usize,
+                record: Bytes,
+                record_len: usize,
+                numbers: *mut u8,
+                numbers_len: usize,
+            ) -> u64;
+            pub fn pool_record_read_seat(
+                plan: Bytes,
+                plan_len: usize,
+                record: Bytes,
+                record_len: usize,
+                seat: u16,
+                numbers: *mut u8,
+                numbers_len: usize,
+            ) -> u64;
         }
     }
     Interface {
@@ -220,6 +257,40 @@ pub const LIBRARY: Interface = {
         },
         convert: |plan, out| unsafe { c::pool_convert(plan.as_ptr(), plan.len(), out.as_mut_ptr(), out.len()) },
         convert_size: |plan| unsafe { c::pool_convert_size(plan.as_ptr(), plan.len()) },
+        record: |plan, figures, coins, record| unsafe {
+            c::pool_record(
+                plan.as_ptr(),
+                plan.len(),
+                figures.as_ptr(),
+                figures.len(),
+                coins.as_ptr(),
+                coins.len(),
+                record.as_mut_ptr(),
+                record.len(),
+            )
+        },
+        record_size: |plan| unsafe { c::pool_record_size(plan.as_ptr(), plan.len()) },
+        read_all: |plan, record, numbers| unsafe {
+            c::pool_record_read(
+                plan.as_ptr(),
+                plan.len(),
+                record.as_ptr(),
+                record.len(),
+                numbers.as_mut_ptr(),
+                numbers.len(),
+            )
+        },
+        read_seat: |plan, record, seat, numbers| unsafe {
+            c::pool_record_read_seat(
+                plan.as_ptr(),
+                plan.len(),
+                record.as_ptr(),
+                record.len(),
+                seat,
+                numbers.as_mut_ptr(),
+                numbers.len(),
+            )
+        },
     }
 };
 

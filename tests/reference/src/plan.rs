@@ -330,12 +330,17 @@ impl Plan {
         Ok(members)
     }
 
+    /// The length of what the seat alone holds and receives.
+    pub fn view_of(&self, seat: u16) -> usize {
+        let products = self.multiplies.len() * usize::from(self.dealers());
+        let held = self.figures_of(seat) + self.coins_of(seat);
+        let received = self.inputs.len() + products + (usize::from(self.n) + 1) * self.outs_of(seat).count();
+        held + received
+    }
+
     /// The length of the set's view.
     pub fn view(&self, set: u16) -> Result<usize, Refusal> {
-        let products = self.multiplies.len() * usize::from(self.dealers());
-        let held = |seat| self.figures_of(seat) + self.coins_of(seat);
-        let received = |seat| self.inputs.len() + products + (usize::from(self.n) + 1) * self.outs_of(seat).count();
-        Ok(self.members(set)?.into_iter().map(|seat| held(seat) + received(seat)).sum())
+        Ok(self.members(set)?.into_iter().map(|seat| self.view_of(seat)).sum())
     }
 
     /// The seat whose figure each entry is, in list order.

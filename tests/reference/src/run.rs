@@ -191,26 +191,20 @@ pub fn shares(plan: &Plan, figures: &[u32], coins: &[u32], mut seen: impl FnMut(
     shares
 }
 
-/// The direct bench: writes the set's view and gives the count of elements sent.
-pub fn bench(file: &[u8], set: u16, figures: &[u8], coins: &[u8], view: &mut [u8]) -> Result<usize, Refusal> {
-    let plan = Plan::read(file)?;
-    let members = plan.members(set)?;
-    let figures = List::new(figures, plan.inputs.len(), 10)?.below(plan.field.p(), 11)?.to_vec();
-    let coins = List::new(coins, plan.coins(), 12)?.below(plan.field.p(), 13)?.to_vec();
-    require(view.len() == 4 * plan.view(set)?, 19, 0)?;
-
-    let mut columns = vec![Vec::new(); members.len()];
-    let shares = shares(&plan, &figures, &coins, |grid| {
-        for (column, &seat) in columns.iter_mut().zip(&members) {
+/// What seats hold and receive in the direct run: for each its figures, its coins, each round's mail, its results.
+pub fn seen(plan: &Plan, seats: &[u16], figures: &[u32], coins: &[u32]) -> Vec<u32> {
+    let mut columns = vec![Vec::new(); seats.len()];
+    let shares = shares(plan, figures, coins, |grid| {
+        for (column, &seat) in columns.iter_mut().zip(seats) {
             column.extend(grid.iter().map(|row| row[usize::from(seat) - 1]));
         }
     });
-    let coin_seats = if members.is_empty() { Vec::new() } else { plan.coin_seats() };
+    let coin_seats = if seats.is_empty() { Vec::new() } else { plan.coin_seats() };
     let weights = plan.field.weights(&plan.points[..plan.t + 1], 0);
-    let mut seen = Vec::with_capacity(view.len() / 4);
-    for (&seat, column) in members.iter().zip(&columns) {
-        seen.extend(own(&figures, plan.figure_seats(), seat));
-        seen.extend(own(&coins, coin_seats.iter().copied(), seat));
+    let mut seen = Vec::with_capacity(seats.iter().map(|&seat| plan.view_of(seat)).sum());
+    for (&seat, column) in seats.iter().zip(&columns) {
+        seen.extend(own(figures, plan.figure_seats(), seat));
+        seen.extend(own(coins, coin_seats.iter().copied(), seat));
         for sender in 1..=plan.n {
             let dealt = plan.inputs.iter().filter(|input| input.1 == sender);
             seen.extend(dealt.map(|input| shares[input.0][usize::from(seat) - 1]));
@@ -221,6 +215,16 @@ pub fn bench(file: &[u8], set: u16, figures: &[u8], coins: &[u8], view: &mut [u8
         }
         seen.extend(plan.outs_of(seat).map(|out| plan.field.dot(0, &weights, &shares[out.wire][..plan.t + 1])));
     }
-    write(&seen, view);
+    seen
+}
+
+/// The direct bench: writes the set's view and gives the count of elements sent.
+pub fn bench(file: &[u8], set: u16, figures: &[u8], coins: &[u8], view: &mut [u8]) -> Result<usize, Refusal> {
+    let plan = Plan::read(file)?;
+    let members = plan.members(set)?;
+    let figures = List::new(figures, plan.inputs.len(), 10)?.below(plan.field.p(), 11)?.to_vec();
+    let coins = List::new(coins, plan.coins(), 12)?.below(plan.field.p(), 13)?.to_vec();
+    require(view.len() == 4 * plan.view(set)?, 19, 0)?;
+    write(&seen(&plan, &members, &figures, &coins), view);
     Ok(plan.sent())
 }

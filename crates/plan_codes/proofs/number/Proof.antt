@@ -87,6 +87,9 @@ enum-told-27 c = search coding
 enum-told-28 : tie.Need-enum-told-28
 enum-told-28 c = search coding
 
+enum-told-29 : tie.Need-enum-told-29
+enum-told-29 c = search coding
+
 returns : tie.Need-returns
 unfolding numberOf
 returns c = search coding
@@ -199,6 +202,10 @@ returns-28 : tie.Need-returns-28
 unfolding numberOf
 returns-28 c = search coding
 
+returns-29 : tie.Need-returns-29
+unfolding numberOf
+returns-29 c = search coding
+
 pub number-spec : {M : Type 1} → statement M
 number-spec =
     tie.close
@@ -231,6 +238,7 @@ number-spec =
     enum-told-26
     enum-told-27
     enum-told-28
+    enum-told-29
     returns
     returns-2
     returns-3
@@ -258,4 +266,5 @@ number-spec =
     returns-25
     returns-26
     returns-27
-    returns-28)
+    returns-28
+    returns-29)

@@ -51,17 +51,17 @@ enum-told-13 c = search coding
 enum-told-14 : tie.Need-enum-told-14
 enum-told-14 c = search coding
 
-enum-known-r-3 : tie.Need-enum-known-r-3
-enum-known-r-3 c = search coding
-
 enum-told-15 : tie.Need-enum-told-15
 enum-told-15 c = search coding
 
-enum-known-r-4 : tie.Need-enum-known-r-4
-enum-known-r-4 c = search coding
+enum-known-r-3 : tie.Need-enum-known-r-3
+enum-known-r-3 c = search coding
 
 enum-told-16 : tie.Need-enum-told-16
 enum-told-16 c = search coding
+
+enum-known-r-4 : tie.Need-enum-known-r-4
+enum-known-r-4 c = search coding
 
 enum-told-17 : tie.Need-enum-told-17
 enum-told-17 c = search coding
@@ -72,11 +72,14 @@ enum-told-18 c = search coding
 enum-told-19 : tie.Need-enum-told-19
 enum-told-19 c = search coding
 
+enum-told-20 : tie.Need-enum-told-20
+enum-told-20 c = search coding
+
 enum-known-r-5 : tie.Need-enum-known-r-5
 enum-known-r-5 c = search coding
 
-enum-told-20 : tie.Need-enum-told-20
-enum-told-20 c = search coding
+enum-told-21 : tie.Need-enum-told-21
+enum-told-21 c = search coding
 
 enum-known-r-6 : tie.Need-enum-known-r-6
 enum-known-r-6 c = search coding
@@ -199,6 +202,10 @@ returns-28 : tie.Need-returns-28
 unfolding placeOf
 returns-28 c = search coding
 
+returns-29 : tie.Need-returns-29
+unfolding placeOf
+returns-29 c = search coding
+
 pub place-spec : {M : Type 1} → statement M
 place-spec =
     tie.close
@@ -219,15 +226,16 @@ place-spec =
     enum-told-12
     enum-told-13
     enum-told-14
-    enum-known-r-3
     enum-told-15
-    enum-known-r-4
+    enum-known-r-3
     enum-told-16
+    enum-known-r-4
     enum-told-17
     enum-told-18
     enum-told-19
-    enum-known-r-5
     enum-told-20
+    enum-known-r-5
+    enum-told-21
     enum-known-r-6
     enum-known-r-7
     enum-known-r-8
@@ -258,4 +266,5 @@ place-spec =
     returns-25
     returns-26
     returns-27
-    returns-28)
+    returns-28
+    returns-29)

@@ -35,10 +35,14 @@ enum Case {
     Charge { plan: Vec<u8>, price: u32, parts: Vec<u8> },
     Convert { plan: Vec<u8>, out: Vec<u8> },
     ConvertSize { plan: Vec<u8> },
+    Record { plan: Vec<u8>, figures: Vec<u8>, coins: Vec<u8>, record: Vec<u8> },
+    RecordSize { plan: Vec<u8> },
+    ReadAll { plan: Vec<u8>, record: Vec<u8>, numbers: Vec<u8> },
+    ReadSeat { plan: Vec<u8>, record: Vec<u8>, seat: u16, numbers: Vec<u8> },
 }
 
 /// Kinds of calls; the refusals and none.
-const KINDS: usize = 13;
+const KINDS: usize = 17;
 const NUMBERS: usize = 32;
 
 const NAMES: [&str; KINDS] = [
@@ -55,15 +59,22 @@ const NAMES: [&str; KINDS] = [
     "charge",
     "convert",
     "conv. size",
+    "record",
+    "rec. size",
+    "read all",
+    "read seat",
 ];
 
 const IMPORT: usize = 6;
 const SHEET: usize = 8;
 const CHARGE: usize = 10;
 const CONVERT: usize = 11;
+const RECORD: usize = 13;
+const READ_ALL: usize = 15;
+const READ_SEAT: usize = 16;
 
 /// How often a call must meet a refusal: kind of call, refusal, times.
-const MET: [(usize, usize, usize); 16] = [
+const MET: [(usize, usize, usize); 28] = [
     (IMPORT, 23, 500),
     (IMPORT, 24, 500),
     (SHEET, 27, 500),
@@ -80,10 +91,22 @@ const MET: [(usize, usize, usize); 16] = [
     (CONVERT, 0, 200),
     (CONVERT, 2, 200),
     (CONVERT, 26, 50),
+    (RECORD, 0, 500),
+    (RECORD, 10, 50),
+    (RECORD, 11, 50),
+    (RECORD, 12, 50),
+    (RECORD, 13, 50),
+    (RECORD, 19, 50),
+    (READ_ALL, 0, 500),
+    (READ_ALL, 19, 200),
+    (READ_ALL, 28, 500),
+    (READ_SEAT, 9, 200),
+    (READ_SEAT, 19, 200),
+    (READ_SEAT, 28, 500),
 ];
 
 /// How often all calls together must meet a refusal.
-const MET_BY_ALL: [(usize, usize); 3] = [(4, 200), (25, 200), (26, 200)];
+const MET_BY_ALL: [(usize, usize); 4] = [(4, 200), (25, 200), (26, 200), (28, 500)];
 
 /// The refusals that cases are damaged for, in checking order.
 const ORDER: [u8; 21] = [1, 2, 3, 4, 5, 6, 7, 8, 9, 10, 11, 12, 13, 14, 15, 16, 17, 18, 19, 20, 21];
@@ -94,9 +117,12 @@ const WIDE_ORDER: [u8; 22] = [1, 2, 3, 4, 5, 6, 7, 8, 25, 9, 10, 11, 12, 13, 14,
 /// The same with 25 and 26.
 const POINTED_ORDER: [u8; 23] = [1, 2, 3, 4, 5, 6, 7, 8, 25, 26, 9, 10, 11, 12, 13, 14, 15, 16, 17, 18, 19, 20, 21];
 
+/// Those of the run record's calls.
+const RECORD_ORDER: [u8; 17] = [1, 2, 3, 4, 5, 6, 7, 8, 25, 26, 28, 9, 10, 11, 12, 13, 19];
+
 /// How many of them are a plan's.
 fn of_plans(order: &[u8]) -> usize {
-    order.iter().position(|&refusal| refusal == 9).expect("9 comes after a plan's refusals")
+    order.iter().position(|&refusal| refusal == 9 || refusal == 28).expect("9 and 28 come after a plan's refusals")
 }
 
 /// A lent buffer between two odd stretches of guard bytes.
@@ -131,6 +157,10 @@ impl Case {
             Case::Charge { .. } => CHARGE,
             Case::Convert { .. } => CONVERT,
             Case::ConvertSize { .. } => 12,
+            Case::Record { .. } => RECORD,
+            Case::RecordSize { .. } => 14,
+            Case::ReadAll { .. } => READ_ALL,
+            Case::ReadSeat { .. } => READ_SEAT,
         }
     }
 
@@ -143,6 +173,8 @@ impl Case {
             Case::Check { plan } | Case::Call { plan, .. } | Case::Bench { plan, .. } => Some(plan),
             Case::Match { plan, .. } | Case::SeatSize { plan, .. } | Case::RunSize { plan, .. } => Some(plan),
             Case::Charge { plan, .. } | Case::Convert { plan, .. } | Case::ConvertSize { plan } => Some(plan),
+            Case::Record { plan, .. } | Case::RecordSize { plan } => Some(plan),
+            Case::ReadAll { plan, .. } | Case::ReadSeat { plan, .. } => Some(plan),
             Case::Import { .. } | Case::ImportSize { .. } | Case::Sheet { .. } | Case::SheetSize { .. } => None,
         }
     }
@@ -185,6 +217,19 @@ impl Case {
                 ((with.convert)(plan, out.slice()), vec![out.0])
             }
             Case::ConvertSize { plan } => ((with.convert_size)(plan), vec![]),
+            Case::Record { plan, figures, coins, record } => {
+                let mut record = Lent::new(record);
+                ((with.record)(plan, figures, coins, record.slice()), vec![record.0])
+            }
+            Case::RecordSize { plan } => ((with.record_size)(plan), vec![]),
+            Case::ReadAll { plan, record, numbers } => {
+                let mut numbers = Lent::new(numbers);
+                ((with.read_all)(plan, record, numbers.slice()), vec![numbers.0])
+            }
+            Case::ReadSeat { plan, record, seat, numbers } => {
+                let mut numbers = Lent::new(numbers);
+                ((with.read_seat)(plan, record, *seat, numbers.slice()), vec![numbers.0])
+            }
         }
     }
 
@@ -194,7 +239,7 @@ impl Case {
         let mut list = |name: &str, bytes: &[u8]| write!(text, "\n  {name} {}", hex(bytes)).unwrap();
         let mut numbers = String::new();
         match self {
-            Case::Check { plan } | Case::ConvertSize { plan } => list("plan", plan),
+            Case::Check { plan } | Case::ConvertSize { plan } | Case::RecordSize { plan } => list("plan", plan),
             Case::Call { plan, seat, figures, coins, state, mail, out } => {
                 write!(numbers, "\n  seat {seat}").unwrap();
                 let parts = [("plan", plan), ("figures", figures), ("coins", coins), ("state", state), ("mail", mail)];
@@ -243,6 +288,20 @@ impl Case {
             Case::Convert { plan, out } => {
                 write!(numbers, "\n  room {}", out.len()).unwrap();
                 list("plan", plan);
+            }
+            Case::Record { plan, figures, coins, record } => {
+                write!(numbers, "\n  room {}", record.len()).unwrap();
+                [("plan", plan), ("figures", figures), ("coins", coins)]
+                    .iter()
+                    .for_each(|(name, bytes)| list(name, bytes));
+            }
+            Case::ReadAll { plan, record, numbers: room } => {
+                write!(numbers, "\n  room {}", room.len()).unwrap();
+                [("plan", plan), ("record", record)].iter().for_each(|(name, bytes)| list(name, bytes));
+            }
+            Case::ReadSeat { plan, record, seat, numbers: room } => {
+                write!(numbers, "\n  seat {seat} room {}", room.len()).unwrap();
+                [("plan", plan), ("record", record)].iter().for_each(|(name, bytes)| list(name, bytes));
             }
         }
         text + &numbers
@@ -694,25 +753,140 @@ fn wrong_set(random: &mut Random, plan: &Plan) -> u16 {
     }
 }
 
+/// Breaks a record's contents, or its length.
+fn damage_record(random: &mut Random, record: &mut Vec<u8>, plan: &Plan) {
+    let seats = usize::from(plan.n);
+    let seat = random.below(seats);
+    let step = random.pick(&[1, 1, 3, 4, 4, 8, 256, 65_536]);
+    match random.below(10) {
+        0 => wrong_length(random, record, 4),
+        1 => record.truncate(random.below(8 * seats)),
+        2 => record[random.below(8 * seats)] ^= 1 << random.below(8),
+        3 => {
+            let i = 4 * random.below(2 * seats);
+            let x = long(record, i).wrapping_add(random.pick(&[1 << 16, 1 << 24, 1 << 31, u32::MAX, u32::MAX - 3]));
+            put(record, i, x);
+        }
+        4 => put(record, 4 * random.below(2 * seats), u32::MAX - random.below(64) as u32),
+        5 => longer_body(random, record, seat, seats, step),
+        6 => shift(random, record, seat, seats, step),
+        _ if seats == 1 => record[random.below(8)] ^= 1,
+        7 => swapped_bodies(random, record, seats),
+        8 => moved_border(random, record, seat.min(seats - 2), seats),
+        _ => {
+            // entries of two seats in each other's place
+            let other = (seat + random.range(1, seats - 1)) % seats;
+            (0..8).for_each(|i| record.swap(8 * seat + i, 8 * other + i));
+        }
+    }
+}
+
+/// Moves the offsets of the seats from this one on, counted from 0.
+fn move_offsets(record: &mut [u8], from: usize, seats: usize, by: u32) {
+    for seat in from..seats {
+        let offset = long(record, 8 * seat).wrapping_add(by);
+        put(record, 8 * seat, offset);
+    }
+}
+
+/// A body longer or shorter than the plan has it, in a file that its contents tile; now and then in one that they don't.
+fn longer_body(random: &mut Random, record: &mut Vec<u8>, seat: usize, seats: usize, step: usize) {
+    let (offset, length) = (long(record, 8 * seat) as usize, long(record, 8 * seat + 4));
+    let (end, fits) = (offset + length as usize, !random.once_in(4));
+    let shorter = step <= length as usize && random.once_in(2);
+    let by = if shorter { (step as u32).wrapping_neg() } else { step as u32 };
+    put(record, 8 * seat + 4, length.wrapping_add(by));
+    move_offsets(record, seat + 1, seats, by);
+    if shorter && fits {
+        record.drain(end - step..end);
+    } else if fits {
+        record.splice(end..end, vec![7; step]);
+    }
+}
+
+/// A gap before a body, or an overlap with what stands before it.
+fn shift(random: &mut Random, record: &mut Vec<u8>, seat: usize, seats: usize, step: usize) {
+    let offset = long(record, 8 * seat) as usize;
+    let overlap = random.once_in(2);
+    let from = step.min(offset);
+    move_offsets(
+        record,
+        seat,
+        if random.once_in(4) { seat + 1 } else { seats },
+        if overlap { (from as u32).wrapping_neg() } else { step as u32 },
+    );
+    if random.once_in(4) {
+        return;
+    }
+    if overlap {
+        record.truncate(record.len() - from.min(record.len() - 8 * seats));
+    } else {
+        record.splice(offset..offset, vec![7; step]);
+    }
+}
+
+/// Bodies that stand in another order, to which the contents fit.
+fn swapped_bodies(random: &mut Random, record: &mut [u8], seats: usize) {
+    let mut order: Vec<usize> = (0..seats).collect();
+    let first = random.below(seats - 1);
+    order.swap(first, random.range(first + 1, seats - 1));
+    let mut offset = 8 * seats;
+    for seat in order {
+        put(record, 8 * seat, offset as u32);
+        offset += long(record, 8 * seat + 4) as usize;
+    }
+}
+
+/// A border between two bodies in another place, which may be anywhere: the lengths then tile modulo 2^32.
+fn moved_border(random: &mut Random, record: &mut [u8], seat: usize, seats: usize) {
+    let (start, border) = (long(record, 8 * seat), long(record, 8 * (seat + 1)));
+    let end = border + long(record, 8 * (seat + 1) + 4);
+    let near = random.pick(&[1, 3, 4, 8, 65_536]);
+    let any = random.bits() as u32;
+    let moved = loop {
+        let x = random.pick(&[
+            border + near,
+            border.wrapping_sub(near),
+            start,
+            end,
+            u32::MAX - 7,
+            8 * seats as u32,
+            any,
+            0,
+        ]);
+        if x != border {
+            break x;
+        }
+    };
+    put(record, 8 * seat + 4, moved.wrapping_sub(start));
+    put(record, 8 * (seat + 1), moved);
+    put(record, 8 * (seat + 1) + 4, end.wrapping_sub(moved));
+}
+
 /// Damages a case so that it gets the refusal, if no earlier one; false if that can't be done to this case.
 fn damage(random: &mut Random, case: &mut Case, world: &Plan, refusal: u8) -> bool {
-    if refusal <= 8 || refusal > 22 {
+    if matches!(refusal, 1..=8 | 25 | 26) {
         return damage_plan(random, case.plan(), world, refusal);
     }
     let (p, last) = (world.field.p(), world.last_call() as u32);
     match (case, refusal) {
-        (Case::Call { seat, .. } | Case::SeatSize { seat, .. }, 9) => {
+        (Case::ReadAll { record, .. } | Case::ReadSeat { record, .. }, 28) => damage_record(random, record, world),
+        (Case::Call { seat, .. } | Case::SeatSize { seat, .. } | Case::ReadSeat { seat, .. }, 9) => {
             *seat = random.pick(&[0, world.n + 1, 16, 256 + *seat, u16::MAX]);
         }
         (Case::Bench { set, .. } | Case::Match { set, .. } | Case::RunSize { set, .. }, 9) => {
             *set = wrong_set(random, world);
         }
-        (Case::Call { figures, .. } | Case::Bench { figures, .. }, 10) => wrong_length(random, figures, 4),
+        (Case::Call { figures, .. } | Case::Bench { figures, .. } | Case::Record { figures, .. }, 10) => {
+            wrong_length(random, figures, 4);
+        }
         (Case::Match { first, second, .. }, 10) => {
             let list = if random.once_in(2) { first } else { second };
             wrong_length(random, list, 4);
         }
-        (Case::Call { figures, .. } | Case::Bench { figures, .. }, 11) => return too_large(random, figures, p),
+        (Case::Call { figures, .. } | Case::Bench { figures, .. } | Case::Record { figures, .. }, 11) => {
+            return too_large(random, figures, p);
+        }
         (Case::Match { first, second, .. }, 11) => {
             let both = random.once_in(3);
             if both || random.once_in(2) {
@@ -724,12 +898,10 @@ fn damage(random: &mut Random, case: &mut Case, world: &Plan, refusal: u8) -> bo
                 too_large(random, second, p);
             }
         }
-        (Case::Call { coins, .. } | Case::Bench { coins, .. } | Case::Match { coins, .. }, 12) => {
-            wrong_length(random, coins, 4);
-        }
-        (Case::Call { coins, .. } | Case::Bench { coins, .. } | Case::Match { coins, .. }, 13) => {
-            return too_large(random, coins, p);
-        }
+        (Case::Call { coins, .. } | Case::Bench { coins, .. }, 12) => wrong_length(random, coins, 4),
+        (Case::Match { coins, .. } | Case::Record { coins, .. }, 12) => wrong_length(random, coins, 4),
+        (Case::Call { coins, .. } | Case::Bench { coins, .. }, 13) => return too_large(random, coins, p),
+        (Case::Match { coins, .. } | Case::Record { coins, .. }, 13) => return too_large(random, coins, p),
         (Case::Call { state, .. }, 14) => wrong_length(random, state, 4),
         (Case::Call { state, .. }, 15) => {
             if random.once_in(3) {
@@ -746,6 +918,8 @@ fn damage(random: &mut Random, case: &mut Case, world: &Plan, refusal: u8) -> bo
         (Case::Convert { out, .. }, 19) => wrong_length(random, out, 2),
         (Case::Bench { view, .. }, 19) => wrong_length(random, view, 4),
         (Case::Match { matched, .. }, 19) => wrong_length(random, matched, 4),
+        (Case::Record { record, .. }, 19) => wrong_length(random, record, 4),
+        (Case::ReadAll { numbers, .. } | Case::ReadSeat { numbers, .. }, 19) => wrong_length(random, numbers, 4),
         (Case::Call { state, mail, .. }, 20) => {
             if long(state, 0) != last || mail.is_empty() || world.t + 1 == usize::from(world.n) {
                 return false;
@@ -1713,6 +1887,95 @@ fn all_conversions(tally: &mut Tally) {
     }
 }
 
+/// Records of a world's run: the writer, and both readers on what it stores, on other numbers, and on other contents.
+fn records(random: &mut Random, tally: &mut Tally, world: &World, often: usize) {
+    let (plan, order) = (&world.plan, world.order);
+    let size = (REFERENCE.record_size)(&world.file) >> 8;
+    let whole = Case::Record {
+        plan: world.file.clone(),
+        figures: bytes(&world.figures),
+        coins: bytes(&world.coins),
+        record: filler(random, size as usize),
+    };
+    let size = Case::RecordSize { plan: world.file.clone() };
+    for (case, times) in [(&whole, often), (&size, 1)] {
+        tally.compare(case, Some(0));
+        damaged(random, tally, case, plan, order, times);
+    }
+    let written = whole.make(&REFERENCE).1.remove(0);
+    let mut record = written[17..written.len() - 17].to_vec();
+    readers(random, tally, world, &record, often);
+    let contents = 8 * usize::from(plan.n);
+    // other numbers, most of them not below p, are shown as they are stored
+    let filled = filler(random, record.len() - contents);
+    record[contents..].copy_from_slice(&filled);
+    readers(random, tally, world, &record, 1);
+    let filled = filler(random, contents);
+    record[..contents].copy_from_slice(&filled);
+    tally.compare(&read_all(random, world, &record), Some(28));
+    other_outs(random, tally, world);
+}
+
+/// The bench's reader on a record.
+fn read_all(random: &mut Random, world: &World, record: &[u8]) -> Case {
+    let room = (1..=world.plan.n).map(|seat| 4 * world.plan.view_of(seat)).sum();
+    Case::ReadAll { plan: world.file.clone(), record: record.to_vec(), numbers: filler(random, room) }
+}
+
+/// Both readers on a record that fits, and damaged.
+fn readers(random: &mut Random, tally: &mut Tally, world: &World, record: &[u8], often: usize) {
+    let n = usize::from(world.plan.n);
+    let mut cases = vec![read_all(random, world, record)];
+    for seat in [1, random.range(1, n), n] {
+        let numbers = filler(random, 4 * world.plan.view_of(seat as u16));
+        cases.push(Case::ReadSeat { plan: world.file.clone(), record: record.to_vec(), seat: seat as u16, numbers });
+    }
+    for case in cases {
+        tally.compare(&case, Some(0));
+        damaged(random, tally, &case, &world.plan, world.order, often);
+        for refusal in [28, 9, 19].into_iter().chain([28].repeat(often)) {
+            let mut broken = case.clone();
+            if damage(random, &mut broken, &world.plan, refusal) {
+                tally.compare(&broken, Some(refusal));
+            }
+        }
+    }
+}
+
+/// The record of a plan that grants its outs to other seats, by the world's plan: 28 unless each seat has as many outs.
+fn other_outs(random: &mut Random, tally: &mut Tally, world: &World) {
+    let plan = &world.plan;
+    let mut outs = plan.outs.clone();
+    for out in &mut outs {
+        if random.once_in(2) {
+            out.seat = random.range(1, usize::from(plan.n)) as u16;
+        }
+    }
+    let mut record = vec![0; ((REFERENCE.record_size)(&world.file) >> 8) as usize];
+    let stored = (REFERENCE.record)(&plan.file(&outs), &bytes(&world.figures), &bytes(&world.coins), &mut record);
+    assert_eq!(stored, 0, "as many outs make a record of the same size");
+    let granted = |outs: &[Out], seat| outs.iter().filter(|out| out.seat == seat).count();
+    let same = (1..=plan.n).all(|seat| granted(&outs, seat) == granted(&plan.outs, seat));
+    tally.compare(&read_all(random, world, &record), Some(if same { 0 } else { 28 }));
+}
+
+/// Records of plans of every version.
+fn all_records(tally: &mut Tally) {
+    let mut random = Random(20_261_117);
+    for most in [2, 5, 12, 30].repeat(40) {
+        for plan in [random::plan, random::wide_plan, random::pointed_plan, random::large_plan] {
+            let file = plan(&mut random, most);
+            let world = World::new(&mut random, file, &RECORD_ORDER);
+            records(&mut random, tally, &world, 3);
+        }
+    }
+    let files = [extremes(&mut random), wide_extremes(&mut random), large_extremes(&mut random)].concat();
+    for file in files {
+        let world = World::new(&mut random, file, &RECORD_ORDER);
+        records(&mut random, tally, &world, 1);
+    }
+}
+
 /// The bench program on the other plans.
 fn other_programs(tally: &mut Tally) {
     programs(&mut Random(20_260_305), tally, 100, random::wide_plan);
@@ -1734,6 +1997,7 @@ const PARTS: [Part; 2] = [
         |tally| wide_texts(&mut Random(20_260_304), tally),
         |tally| pointed_plans(&mut Random(20_260_404), tally),
         all_conversions,
+        all_records,
     ],
     &[
         |tally| large_plans(&mut Random(20_260_606), tally),
@@ -1780,9 +2044,11 @@ fn report(tally: &Tally) -> bool {
         println!("{} plans of version {version}, {} refused 6", tally.versions[version], tally.layouts[version]);
     }
     let [texts, sheets, bills] = [IMPORT, SHEET, CHARGE].map(|kind| tally.met[kind].iter().sum::<usize>());
+    let records = [RECORD, READ_ALL, READ_SEAT].map(|kind| tally.met[kind].iter().sum::<usize>());
     println!("{texts} texts imported or refused");
     println!("{sheets} sheets compiled or refused; {} runs of their plans compared with the formula", tally.values);
     println!("{bills} charges");
+    println!("{} runs stored or refused; {} and {} reads of all and of a seat", records[0], records[1], records[2]);
     println!("bench program: {} inputs", tally.inputs);
     println!("{} cases, {} passed, {} differ", tally.cases(), tally.passed, tally.differences);
     LINKED
@@ -1795,6 +2061,7 @@ fn report(tally: &Tally) -> bool {
         && tally.layouts[1..].iter().all(|&refused| refused >= 200)
         && texts.min(sheets) >= 20_000
         && bills >= 5_000
+        && records.iter().sum::<usize>() >= 10_000
 }
 
 /// `compare` works all parts, `compare part K FILE` part K alone and writes its counters to the file, `compare sum FILE..`

@@ -71,6 +71,16 @@ impl Work {
         })
     }
 
+    /// The run stored.
+    fn record(&self, with: &Interface) -> Duration {
+        let (figures, coins) = (bytes(&self.figures), bytes(&self.coins));
+        let mut record = vec![0; ((with.record_size)(&self.file) >> 8) as usize];
+        time(|| {
+            assert_eq!((with.record)(&self.file, &figures, &coins, &mut record), 0);
+            black_box(&record);
+        })
+    }
+
     /// What every call of seat 1 takes.
     fn steps(&self) -> Vec<Step> {
         let mut steps = Vec::new();
@@ -136,6 +146,7 @@ fn main() {
     report("bench, n=15 t=7, 1,000 multiplies", |with| work.bench(with));
     report("one seat's whole run of it", |with| work.seat(with, &steps));
     report("the matching on it", |with| work.matching(with));
+    report("the record of it", |with| work.record(with));
     report("plan check, 1,024 gates", check_plan);
     for multiplies in [125, 250, 500, 1000] {
         let work = Work::new(products(15, 7, P, multiplies));
