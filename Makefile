@@ -14,11 +14,11 @@ LIBRARY = target/staticlib/libpool.a
 COMPILE = gcc -std=gnu11 -O2 -Wall -Wextra -Werror -Wvla -Iinclude -Icommand
 
 run:
-	@tools/progress --log target/run.log rt check bench
+	@tools/in-memory tools/progress --log target/run.log rt check bench
 	@target/bin/bench <examples/K.bench
 
 test:
-	@tools/progress tests/all
+	@tools/progress tools/in-memory tests/all
 
 seats: host
 	@rm -rf target/seats && cp -r examples/seats target/seats
@@ -33,7 +33,7 @@ library: $(LIBRARY)
 	@:
 
 $(LIBRARY): crates.txt $(shell find crates -name '*.rt' -o -name '*.antt')
-	@tools/progress --log target/library.log rt staticlib pool
+	@tools/in-memory tools/progress --log target/library.log rt staticlib pool
 
 # the host program of one seat
 host: target/host/seat

@@ -40,7 +40,7 @@ use Rattle.charge_call.specs.ChargeCalls.{priceChecks, chargeAnswer, chargedOf,
 use Rattle.seat_admission.specs.Parts.{listChecks}
 use Rattle.run_bench.specs.Checks.{givenChecks}
 use Rattle.record_laws.specs.Records.{recordChecks, recordAnswer, recordAfter, benchReadChecks, benchReadAnswer, benchReadAfter, plantReadChecks, plantReadAnswer, plantReadAfter}
-use Rattle.pool_answers.specs.Sizes.{answerOf, billedOf}
+use Rattle.pool_answers.specs.Answers.{answerOf, billedOf}
 use Rattle.demands.specs.Order.{checkingOrder, rankIn, rankOf}
 use Rattle.demands.specs.Demands.{Answers, Demand1}
 use Rattle.demands.proofs.Bounds.{outs-few, parties-few, inputs-few, own-few, own-coins-few, coins-few, mail-few, sent-few, bill-few}

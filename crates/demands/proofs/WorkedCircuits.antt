@@ -19,7 +19,8 @@ use Rattle.import_circuit.specs.Bits.{bitsBy, bitsAfter, circuitBits}
 use Rattle.import_circuit.specs.Making.{inputGates, firstHolders, gateSize, xorGates, madeBy, heldBy, gatesFrom, heldAfter, circuitGates, outsOf, circuitOuts, circuitBodies}
 use Rattle.import_check.specs.Surveying.{textOk}
 use Rattle.import_call.specs.Importing.{importBodies, importFile, textChecks, importChecks, importAnswer}
-use Rattle.pool_answers.specs.Sizes.{valueOf, importSize}
+use Rattle.plan_codes.specs.Values.{valueOf}
+use Rattle.pool_files.specs.FileSizes.{importSize}
 use Rattle.demands.specs.Circuits.{ascii, example, exampleGates, inverter, answerFor, CircuitSums}
 
 pub circuit-sums : CircuitSums

@@ -15,7 +15,8 @@ use Rattle.sheet_text.specs.Trees.{partyOf, nameIndex, withName, namesFrom, nam
 use Rattle.sheet_text.specs.Sheets.{numberFrom, nameFrom, closed, isLetter, atomBy, joined, timesLink, termsLink, linked, goOn, productBy, sumBy, innerAt, atomAt, productAt, sumAt, whole, sheetAt}
 use Rattle.sheet_text.specs.Making.{treeOf, sheetTree, sheetOk, treeMade, bodiesWith, treeBodies}
 use Rattle.sheet_call.specs.Compiling.{sheetBodies, sheetFile, textChecks, sheetChecks, sheetAnswer}
-use Rattle.pool_answers.specs.Sizes.{valueOf, sheetSize}
+use Rattle.plan_codes.specs.Values.{valueOf}
+use Rattle.pool_files.specs.FileSizes.{sheetSize}
 use Rattle.demands.specs.Circuits.{ascii}
 use Rattle.demands.specs.Sheets.{formula, formulaGates, differences, differenceGates, sheetFor, SheetSums}
 

@@ -22,7 +22,7 @@ use Rattle.import_text.specs.Circuits.{Circuit, circuitOf}
 use Rattle.import_circuit.specs.Wires.{inputWires}
 use Rattle.import_circuit.specs.Bits.{circuitBits}
 use Rattle.import_call.specs.Importing.{importBodies, importFile, importAnswer, importAfter}
-use Rattle.pool_answers.specs.Sizes.{importSize}
+use Rattle.pool_files.specs.FileSizes.{importSize}
 use Rattle.demands.specs.Apart as apart
 
 -- ---- the plan that was written for a circuit, with figures that are a bit for each input wire

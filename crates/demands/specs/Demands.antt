@@ -24,7 +24,7 @@ use Rattle.sheet_call.specs.Compiling.{sheetChecks, sheetAnswer, sheetAfter}
 use Rattle.charge_laws.specs.Charges.{billOf}
 use Rattle.charge_call.specs.ChargeCalls.{priceChecks, chargeAnswer, chargedOf, chargeAfter}
 use Rattle.record_laws.specs.Records.{recordChecks, recordAnswer, recordAfter, benchReadChecks, benchReadAnswer, benchReadAfter, plantReadChecks, plantReadAnswer, plantReadAfter}
-use Rattle.pool_answers.specs.Sizes.{answerOf, billedOf}
+use Rattle.pool_answers.specs.Answers.{answerOf, billedOf}
 use Rattle.demands.specs.Order.{rankOf}
 use Rattle.demands.specs.Apart as apart
 

@@ -20,7 +20,7 @@ use Rattle.run_protocol.specs.Settings.{Inputs, Coins}
 use Rattle.sheet_text.specs.Trees.{Tree, partyOf, namesOf, formulaValue}
 use Rattle.sheet_text.specs.Making.{sheetTree}
 use Rattle.sheet_call.specs.Compiling.{sheetBodies, sheetFile, sheetAnswer, sheetAfter}
-use Rattle.pool_answers.specs.Sizes.{sheetSize}
+use Rattle.pool_files.specs.FileSizes.{sheetSize}
 use Rattle.demands.specs.Circuits.{ascii}
 use Rattle.demands.specs.Apart as apart
 

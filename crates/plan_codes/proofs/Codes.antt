@@ -8,6 +8,7 @@ use Rattle.plan.specs.declared.Refusal.{Refusal}
 use Rattle.plan.specs.declared.Checked.{Checked}
 use Rattle.plan.specs.declared.Checked.the-variants.{Passed, Refused}
 use Rattle.plan.specs.Refusals.{numberOf, placeOf, codeOf}
+use Rattle.plan_codes.specs.Values.{valueOf}
 
 pub number-as : (r q : Refusal) (k : ℕ) → r ≡ q → k ≡ numberOf q → k ≡ numberOf r
 number-as r q k e f = f ∙ sym (ap numberOf e)
@@ -22,5 +23,17 @@ code-passed c e = rw e
 pub code-refused : (c : Checked) (r : Refusal) (k l : ℕ) → c ≡ Refused r → k ≡ numberOf r → l ≡ placeOf r → k + 256 * (l % 4294967296) ≡ codeOf c
 unfolding codeOf
 code-refused c r k l e f h = rw (e, f, h)
+
+pub code-answered : (a c : Checked) (r : ℕ) → c ≡ a → r ≡ codeOf c → r ≡ codeOf a
+code-answered a c r e f = f ∙ ap codeOf e
+
+-- ---- an answer with a value
+pub value-refused : (c : Checked) (q : Refusal) (v : ℕ) → c ≡ Refused q → valueOf c v ≡ codeOf c
+unfolding valueOf
+value-refused c q v e = rw e
+
+pub value-passed : (c : Checked) (v : ℕ) → c ≡ Passed → valueOf c v ≡ 256 * v
+unfolding valueOf
+value-passed c v e = rw e
 
 pub ruleset coding = (needs, number-as, place-as, code-passed, code-refused)

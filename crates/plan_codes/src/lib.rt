@@ -2,7 +2,7 @@
 use plan::Checked;
 use plan::Refusal;
 ghost use mathlib.Core.Path.{_≡_};
-ghost use Prim.Native.Nat.{_≤_, _+_, _*_};
+ghost use Prim.Native.Nat.{_≤_, _<_, _+_, _*_};
 ghost use Rattle.plan.specs.Refusals.{numberOf, placeOf, codeOf};
 
 // A refusal's number in documents 01 and 02.
@@ -87,4 +87,12 @@ pub fn code(c: Checked) -> u64
         Checked::Passed => 0,
         Checked::Refused(r) => number(r) + 256 * (place(r) % 4294967296),
     }
+}
+
+// An answer with a value, which stands above the low byte.
+pub fn value(v: usize) -> u64
+    requires { ⌜ v < 4294967296 ⌝ }
+    ensures { λ r. ⌜ r ≡ 256 * v ⌝ }
+{
+    256 * (v as u64)
 }

@@ -1,9 +1,4 @@
 // The C interface: include/pool.h is its manual.
-use import_call::Measured;
-use plan::Checked;
-use plan::Reading;
-use plan::Refusal;
-use sheet_call::Sheet;
 ghost use mathlib.Core.Path.{_≡_};
 ghost use Prim.Native.Nat.{_*_, _<_};
 ghost use lib.ListN.{length};
@@ -19,7 +14,9 @@ ghost use Rattle.sheet_call.specs.Compiling.{sheetAnswer, sheetAfter};
 ghost use Rattle.charge_laws.specs.Charges.{billOf};
 ghost use Rattle.charge_call.specs.ChargeCalls.{chargeAnswer, chargedOf, chargeAfter};
 ghost use Rattle.record_laws.specs.Records.{recordAnswer, recordAfter, benchReadAnswer, benchReadAfter, plantReadAnswer, plantReadAfter};
-ghost use Rattle.pool_answers.specs.Sizes.{seatSize, callCount, runSize, importSize, sheetSize, convertSize, storedSize, answerOf, billedOf};
+ghost use Rattle.pool_sizes.specs.Sizes.{seatSize, callCount, runSize, storedSize};
+ghost use Rattle.pool_files.specs.FileSizes.{importSize, sheetSize, convertSize};
+ghost use Rattle.pool_answers.specs.Answers.{answerOf, billedOf};
 
 // Checks a plan: refusals 1 to 8.
 #[no_mangle]
@@ -34,18 +31,7 @@ pub extern "C" fn pool_plan_check(plan: &[u8]) -> u64
 pub extern "C" fn pool_seat_size(plan: &[u8], seat: u16, call: u16, what: u16) -> u64
     ensures { λ r. ⌜ r ≡ seatSize (now (plan .entry)) seat call what ⌝ }
 {
-    let r = plan_reading::read(plan);
-    let Reading::Passed(h) = r else {
-        return plan_codes::code(plan_reading::outcome(r));
-    };
-    let i = seat as usize;
-    if i < 1 {
-        return plan_codes::code(Checked::Refused(Refusal::Coalition));
-    }
-    if h.n < i {
-        return plan_codes::code(Checked::Refused(Refusal::Coalition));
-    }
-    pool_answers::value(numbers::WIDTH * pool_answers::seat_count(plan, h, i, call as usize, what))
+    pool_sizes::seat_size(plan, seat, call, what)
 }
 
 // How many calls each party makes.
@@ -53,11 +39,7 @@ pub extern "C" fn pool_seat_size(plan: &[u8], seat: u16, call: u16, what: u16) -
 pub extern "C" fn pool_calls(plan: &[u8]) -> u64
     ensures { λ r. ⌜ r ≡ callCount (now (plan .entry)) ⌝ }
 {
-    let r = plan_reading::read(plan);
-    let Reading::Passed(h) = r else {
-        return plan_codes::code(plan_reading::outcome(r));
-    };
-    pool_answers::value(plan_counts::last_call(plan, h) + 1)
+    pool_sizes::calls(plan)
 }
 
 // One call of a party: refusals 1 to 20.
@@ -83,14 +65,7 @@ pub extern "C" fn pool_seat_call(
 pub extern "C" fn pool_run_size(plan: &[u8], set: u16, what: u16) -> u64
     ensures { λ r. ⌜ r ≡ runSize (now (plan .entry)) set what ⌝ }
 {
-    let r = plan_reading::read(plan);
-    let Reading::Passed(h) = r else {
-        return plan_codes::code(plan_reading::outcome(r));
-    };
-    if !plan_coalition::set_ok(h, set) {
-        return plan_codes::code(Checked::Refused(Refusal::Coalition));
-    }
-    pool_answers::value(numbers::WIDTH * pool_answers::run_count(plan, h, set, what))
+    pool_sizes::run_size(plan, set, what)
 }
 
 // All parties in one machine: refusals 1 to 13 and 19.
@@ -129,12 +104,7 @@ pub extern "C" fn pool_match(
 pub extern "C" fn pool_import_size(text: &[u8], n: u32, t: u32, p: u32) -> u64
     ensures { λ r. ⌜ r ≡ importSize n t p (now (text .entry)) ⌝ }
 {
-    let m = import_call::measure_text(text, n, t, p);
-    let Measured::Counts(gates, outs) = m else {
-        return plan_codes::code(import_call::refusal(m));
-    };
-    let version = plan_file::version_for(p);
-    pool_answers::value(plan_file::file_size(version, n as usize, gates, outs))
+    pool_files::import_size(text, n, t, p)
 }
 
 // A circuit in Bristol Fashion imported into a plan: refusals 23, 24, 1 to 8 and 19.
@@ -151,11 +121,7 @@ pub extern "C" fn pool_import(text: &[u8], n: u32, t: u32, p: u32, plan: &mut [u
 pub extern "C" fn pool_convert_size(plan: &[u8]) -> u64
     ensures { λ r. ⌜ r ≡ convertSize (now (plan .entry)) ⌝ }
 {
-    let r = convert_call::read_old(plan);
-    let Reading::Passed(h) = r else {
-        return plan_codes::code(plan_reading::outcome(r));
-    };
-    pool_answers::value(convert_call::converted_size(plan, h))
+    pool_files::convert_size(plan)
 }
 
 // A plan of version 1 or 2 converted to version 3: refusals 1 to 8, 25, 26 and 19, with 2 for any other version.
@@ -172,12 +138,7 @@ pub extern "C" fn pool_convert(plan: &[u8], out: &mut [u8]) -> u64
 pub extern "C" fn pool_sheet_size(text: &[u8], n: u32, t: u32, p: u32, seat: u32) -> u64
     ensures { λ r. ⌜ r ≡ sheetSize n t p seat (now (text .entry)) ⌝ }
 {
-    let m = sheet_call::measure_sheet(text, n, t, p, seat);
-    let Sheet::Counts(_, gates) = m else {
-        return plan_codes::code(sheet_call::refusal(m));
-    };
-    let version = plan_file::version_for(p);
-    pool_answers::value(plan_file::file_size(version, n as usize, gates, 1))
+    pool_files::sheet_size(text, n, t, p, seat)
 }
 
 // A formula sheet compiled to a plan, whose result goes to `seat`: refusals 27, 24, 3 to 8 and 19.
@@ -194,11 +155,7 @@ pub extern "C" fn pool_sheet(text: &[u8], n: u32, t: u32, p: u32, seat: u32, pla
 pub extern "C" fn pool_record_size(plan: &[u8]) -> u64
     ensures { λ r. ⌜ r ≡ storedSize (now (plan .entry)) ⌝ }
 {
-    let r = plan_reading::read(plan);
-    let Reading::Passed(h) = r else {
-        return plan_codes::code(plan_reading::outcome(r));
-    };
-    pool_answers::value(record_write::record_size(plan, h))
+    pool_sizes::record_size(plan)
 }
 
 // A run stored: refusals 1 to 8, 25, 26, 10 to 13 and 19.
