@@ -2,7 +2,7 @@
 use mathlib.Core.Path.{_≡_, refl, sym, ap, _∙_}
 use mathlib.Core.Bool.{Bool, true, false, _&&_, cond}
 use Prim.Native.Nat.{ℕ, _+_, _-_, _*_, _/_, _%_, _^_, _≤_, _<_}
-use native.Mathlib.Nat.{mod-lt, div-lt-self}
+use native.Mathlib.Nat.{mod-lt, div-lt-self, mod-eq-of-lt, add-mod-right}
 use native.Mathlib.Omega.{arith}
 use borrow.Author.Needs.{needs}
 use borrow.Author.Tests.{ltb-true, lt-ltb, le-ltb}
@@ -67,9 +67,16 @@ pub ruleset made-new = (needs, new-same, new-prime, new-small, new-above, new-po
 pub is-element : (p x : ℕ) → 0 < p → Is p (x % p) (x % p)
 is-element p x pos = record { eq = refl; lt = mod-lt x pos }
 
-pub is-add : (p a b : ℕ) → 1 < p → Is p (add p a b) ((a + b) % p)
+pub is-add-down : (p a b : ℕ) → a + b < p → Is p (add p a b) (a + b)
 unfolding add
-is-add p a b h = is-element p (a + b) (omega arith)
+is-add-down p a b h = record { eq = sym (mod-eq-of-lt h); lt = h }
+
+pub is-add-over : (p a b : ℕ) → a < p → b < p → p ≤ a + b → Is p (add p a b) (a + b - p)
+unfolding add
+is-add-over p a b h k o =
+    let e : a + b ≡ a + b - p + p = omega arith in
+    let l : a + b - p < p = omega arith in
+    record { eq = sym (ap (λ (n : ℕ). n % p) e ∙ add-mod-right (a + b - p) p ∙ mod-eq-of-lt l); lt = l }
 
 pub is-mul : (p a b : ℕ) → 1 < p → Is p (mul p a b) (a * b % p)
 unfolding mul
@@ -84,7 +91,7 @@ is-sub-over p a b h k = record { eq = sym (sub-over p a b h k); lt = omega arith
 pub product-fits : (p a b : ℕ) → p < fieldLimit → a < p → b < p → a * b < 2 ^ 64
 product-fits p a b small l r = omega (arith, word a b (omega arith) (omega arith))
 
-pub ruleset methods = (needs, product-fits, is-element, is-add, is-mul, is-sub-down, is-sub-over, made-above, made-field, made-refused)
+pub ruleset methods = (needs, product-fits, is-element, is-add-down, is-add-over, is-mul, is-sub-down, is-sub-over, made-above, made-field, made-refused)
 
 -- for a caller: a method's result, where its arguments are results
 pub is-itself : (p a : ℕ) → a < p → Is p a a

@@ -1,5 +1,6 @@
 pub mod Solve
 pub mod Primes
+pub mod Divisors
 pub mod Inverse
 pub mod Laws
 pub mod Products

@@ -1,4 +1,4 @@
--- What trial division shows, and the steps of its loop.
+-- What trial division shows.
 use mathlib.Core.Path.{_≡_, refl, sym, ap, _∙_}
 use mathlib.Core.Logic.{_≢_, _⊎_, inl, inr}
 use native.Mathlib.Decide.{decLe}
@@ -135,54 +135,6 @@ prime-complete p prime = and-join (ltb 1 p) (isNothing (divisorOf p)) (lt→ltb 
     none (Found d) e =
         let l : Least 2 p d = found-least p d e in
         absurd (prime .undivided-by d (l .from) (omega (arith, l .square, mul-le-mul-right d (l .from))) (l .divides))
-
--- ---- the loop of `least_divisor`: the search from d on gives the same as the search from 2 on
-pub record Searching (p d : ℕ) : Type 0 where
-  pub from : 2 ≤ d
-  pub word : d ≤ 65536
-  pub same : divisorFrom (p + 2 - d) d p ≡ divisorOf p
-
-pub searching-start : (p : ℕ) → Searching p 2
-unfolding divisorOf
-searching-start p = let q : p + 2 - 2 ≡ p = omega arith in record { from = omega arith; word = omega arith; same = rw q }
-
--- a candidate whose square does not pass p
-root-below : (d p : ℕ) → 2 ≤ d → d * d ≤ p → d < p
-root-below d p l h = omega (arith, mul-le-mul-right d l)
-
-root-word : (d p : ℕ) → p < 2 ^ 32 → d * d ≤ p → d < 65536
-root-word d p small sq = pick (decLe 65536 d)
-  where
-    pick : Dec (65536 ≤ d) → d < 65536
-    pick (yes le) = absurd (omega (arith, mul-le-mul le le))
-    pick (no lt) = omega arith
-
-fuel : (d p : ℕ) → 2 ≤ d → d * d ≤ p → p + 2 - d ≡ suc (p + 2 - (d + 1))
-fuel d p l h = omega (arith, root-below d p l h)
-
-pub searching-fits : (p d : ℕ) → Searching p d → d * d < 2 ^ 64
-searching-fits p d s = omega (arith, mul-le-mul (s .word) (s .word))
-
-pub searching-past : (p d : ℕ) → Searching p d → p < d * d → Nothing ≡ divisorOf p
-searching-past p d s h = sym (divisor-past (p + 2 - d) d p h) ∙ s .same
-
-pub searching-found : (p d : ℕ) → Searching p d → d * d ≤ p → p % d ≡ 0 → Found d ≡ divisorOf p
-searching-found p d s h e = sym (rw (fuel d p (s .from) h) (divisor-here (p + 2 - (d + 1)) d p h e)) ∙ s .same
-
-pub searching-later : (p d : ℕ) → p < 2 ^ 32 → Searching p d → d * d ≤ p → p % d ≢ 0 → Searching p (d + 1)
-searching-later p d small s h e = record {
-  from = omega (arith, s .from);
-  word = omega (arith, root-word d p small h);
-  same = sym (rw (fuel d p (s .from) h, divisor-later (p + 2 - (d + 1)) d p h e, add-one d)) ∙ s .same;
-}
-
-pub searching-next-fits : (p d : ℕ) → p < 2 ^ 32 → d * d ≤ p → d + 1 < 2 ^ 64
-searching-next-fits p d small h = omega (arith, root-word d p small h)
-
-pub searching-falls : (p d : ℕ) → Searching p d → d * d ≤ p → p - (d + 1) < p - d
-searching-falls p d s h = omega (arith, root-below d p (s .from) h)
-
-pub ruleset searching = (needs, searching-start, searching-fits, searching-past, searching-found, searching-later, searching-next-fits, searching-falls)
 
 -- ---- the answers of `is_prime`
 pub small-not-prime : (p : ℕ) → p < 2 → false ≡ isPrime p

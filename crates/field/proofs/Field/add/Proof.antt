@@ -3,14 +3,14 @@ use Rattle.field.proofs.Elements.{methods}
 use Rattle.field.proofs.Field.add.Statement.{statement}
 use Rattle.field.proofs.Field.add.Tie as tie
 
-add-result : tie.Need-add-result
-add-result c = search methods
-
-rem-result : tie.Need-rem-result
-rem-result c = search methods
+add-sum : tie.Need-add-sum
+add-sum c = search methods
 
 returns : tie.Need-returns
 returns c = search methods
 
+returns-2 : tie.Need-returns-2
+returns-2 c = search methods
+
 pub add-spec : {M : Type 1} → statement M
-add-spec = tie.close (tie.spec add-result rem-result returns)
+add-spec = tie.close (tie.spec add-sum returns returns-2)
