@@ -3,7 +3,7 @@
 --     allBelow-append, -take, -drop, -set, -tab, -more  of other lists and bounds
 --     append-below, map-below, flatMap-below            lists in parts
 --     input-below                                       a number of a list wherever one reads it
---     allBelow-next, -over, -end                        what a loop over the numbers learns
+--     allBelow-at-first, -next, -over, -end             what a loop over the numbers learns
 --     firstOver-nothing, nothing-firstOver              none is found exactly where all are below p
 --     firstOver-at, at-firstOver                        the one that is found
 -- Assumes nothing.
@@ -104,6 +104,10 @@ allBelow-more p q xs l h = at-allBelow q xs (λ i m. omega (arith, allBelow-at p
 
 -- ---- what a loop over the numbers from i on learns at i
 module _ (p : ℕ) (xs : List ℕ) (i : ℕ) where
+  pub allBelow-at-first : i < length xs → allBelow p (drop i xs) ≡ cond (ltb (getD xs i 0) p) (allBelow p (drop (i + 1) xs)) false
+  unfolding allBelow
+  allBelow-at-first l = rw (add-one, drop-cons xs i 0 l)
+
   pub allBelow-next : i < length xs → getD xs i 0 < p → allBelow p (drop (i + 1) xs) ≡ allBelow p (drop i xs)
   unfolding allBelow
   allBelow-next l h = rw (add-one, drop-cons xs i 0 l, lt-ltb (getD xs i 0) p h)

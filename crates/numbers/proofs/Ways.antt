@@ -2,7 +2,7 @@
 --     coding       what closes the needs of every function
 -- Assumes nothing.
 use mathlib.Core.Path.{_≡_, refl, sym, ap, _∙_}
-use mathlib.Core.Bool.{Bool, true, false}
+use mathlib.Core.Bool.{Bool, true, false, cond, _&&_}
 use mathlib.Core.List.{List}
 use Prim.Native.Nat.{ℕ, suc, _+_, _*_, _/_, _%_, _<_, _≤_}
 use native.Mathlib.Omega.{arith}
@@ -14,7 +14,7 @@ use Rattle.numbers.specs.Bytes.{width, numberAt, bytesFrom, wordAt, numb
 use Rattle.numbers.specs.declared.Found.the-variants.{At, Nothing}
 use Rattle.numbers.proofs.Bytes.{numbers-length, getD-numbers, getD-numbers-past, word-past, stored-in, stored-past}
 use Rattle.numbers.proofs.Searches.{Seeking, begin, found, passed, nothing}
-use Rattle.numbers.proofs.Below.{allBelow-next, allBelow-over, allBelow-end}
+use Rattle.numbers.proofs.Below.{allBelow-at-first, allBelow-next, allBelow-over, allBelow-end, nothing-firstOver}
 
 -- ---- reads
 pub byte-none : (s : List ℕ) (at : ℕ) → length s ≤ at → 0 ≡ getD s at 0
@@ -104,4 +104,46 @@ module _ (s : List ℕ) (from p i : ℕ) (h : Testing s from p i) where
   pub test-end : length s / width ≤ i → true ≡ allBelow p (drop from (numbers s))
   test-end l = allBelow-end p (numbers s) i (rw numbers-length l) ∙ h .rest
 
-pub ruleset coding = (needs, byte-none, word-some, word-none, number-some, number-none, write-some, write-none, count-left, count-whole, over-found, over-passed, begin, over-nothing, test-begin, test-over, test-passed, test-end)
+-- ---- the same, each compared
+both-assoc : (all t y : Bool) → ((all && t) && y) ≡ (all && cond t y false)
+both-assoc true true y = refl
+both-assoc true false y = refl
+both-assoc false t y = refl
+
+both-true : (all : Bool) → (all && true) ≡ all
+both-true true = refl
+both-true false = refl
+
+pub also-yes : (all t : Bool) → all ≡ true → t ≡ (all && t)
+also-yes true t h = refl
+also-yes false t h = let z : _≡_ {A = ℕ} 0 1 = cc in absurd (omega arith)
+
+pub also-no : (all t : Bool) → all ≡ false → false ≡ (all && t)
+also-no true t h = let z : _≡_ {A = ℕ} 0 1 = cc in absurd (omega arith)
+also-no false t h = refl
+
+-- the invariant of the loop at i: what was found, and what is left to compare
+pub record Comparing (s : List ℕ) (from p : ℕ) (all : Bool) (i : ℕ) : Type 0 where
+  pub rest : (all && allBelow p (drop i (numbers s))) ≡ allBelow p (drop from (numbers s))
+
+pub compare-begin : (s : List ℕ) (from p : ℕ) → Comparing s from p true from
+compare-begin s from p = record { rest = refl }
+
+module _ (s : List ℕ) (from p : ℕ) (all : Bool) (i : ℕ) (h : Comparing s from p all i) where
+  pub compare-next : (x : ℕ) (b : Bool) → i < length s / width → x ≡ getD (numbers s) i 0 → b ≡ (all && ltb x p) → Comparing s from p b (i + 1)
+  compare-next x b l e f =
+      record {
+        rest =
+            ap (λ (t : Bool). t && allBelow p (drop (i + 1) (numbers s))) (f ∙ ap (λ (y : ℕ). all && ltb y p) e)
+            ∙ both-assoc all (ltb (getD (numbers s) i 0) p) (allBelow p (drop (i + 1) (numbers s)))
+            ∙ ap (λ (t : Bool). all && t) (sym (allBelow-at-first p (numbers s) i (rw numbers-length l)))
+            ∙ h .rest;
+      }
+
+  pub compare-end : length s / width ≤ i → all ≡ allBelow p (drop from (numbers s))
+  compare-end l = sym (both-true all) ∙ ap (λ (t : Bool). all && t) (allBelow-end p (numbers s) i (rw numbers-length l)) ∙ h .rest
+
+pub over-none : (s : List ℕ) (p : ℕ) (t : Bool) → t ≡ allBelow p (drop 0 (numbers s)) → t ≡ true → Nothing ≡ firstOver p (numbers s)
+over-none s p t e h = sym (nothing-firstOver p (numbers s) (sym e ∙ h))
+
+pub ruleset coding = (needs, byte-none, word-some, word-none, number-some, number-none, write-some, write-none, count-left, count-whole, over-found, over-passed, begin, over-nothing, test-begin, test-over, test-passed, test-end, also-yes, also-no, compare-begin, compare-next, compare-end, over-none)

@@ -1,8 +1,9 @@
 // Lists of numbers that are lent as bytes: four bytes a number, the low byte first. A read past the end is 0, and a write
 // there changes nothing.
 ghost use mathlib.Core.Path.{_≡_};
-ghost use mathlib.Core.Bool.{cond};
+ghost use mathlib.Core.Bool.{cond, _&&_};
 ghost use Prim.Native.Nat.{_/_, _%_, _<_, _≤_};
+ghost use lib.Dec.{ltb};
 ghost use lib.ListN.{length, getD, drop};
 ghost use Rattle.numbers.specs.Bytes.{wordAt, width, limit, numbers, holdsCount, stored, firstOver, allBelow};
 
@@ -43,13 +44,27 @@ pub fn word(s: &[u8], at: usize) -> u64
     0
 }
 
-// Number i of a list that has it: no test is made.
-pub fn number(s: &[u8], i: usize) -> u64
+fn narrow(b: u8) -> u32
+    ensures { λ r. ⌜ record { eq : r ≡ b; lt : r < 256 } ⌝ }
+{
+    b as u32
+}
+
+// Number i of a list that has it, as its four bytes: no test is made.
+fn short(s: &[u8], i: usize) -> u32
     requires { ⌜ i < length (now s) / width ⌝ }
     ensures { λ r. ⌜ record { eq : r ≡ getD (numbers (now (s .entry))) i 0; lt : r < limit } ⌝ }
 {
     let at = WIDTH * i;
-    wide(s[at]) + 256 * wide(s[at + 1]) + 65536 * wide(s[at + 2]) + 16777216 * wide(s[at + 3])
+    narrow(s[at]) + 256 * narrow(s[at + 1]) + 65536 * narrow(s[at + 2]) + 16777216 * narrow(s[at + 3])
+}
+
+// The same in eight.
+pub fn number(s: &[u8], i: usize) -> u64
+    requires { ⌜ i < length (now s) / width ⌝ }
+    ensures { λ r. ⌜ record { eq : r ≡ getD (numbers (now (s .entry))) i 0; lt : r < limit } ⌝ }
+{
+    short(s, i) as u64
 }
 
 // Number i of a list.
@@ -96,6 +111,16 @@ pub fn count_is(s: &[u8], k: usize) -> bool
 pub fn first_over(s: &[u8], p: u64) -> Found
     ensures { λ r. ⌜ r ≡ firstOver p (numbers (now (s .entry))) ⌝ }
 {
+    if all_below(s, 0, p) {
+        return Found::Nothing;
+    }
+    seek_over(s, p)
+}
+
+// The same by a search that ends where it finds one.
+fn seek_over(s: &[u8], p: u64) -> Found
+    ensures { λ r. ⌜ r ≡ firstOver p (numbers (now (s .entry))) ⌝ }
+{
     let n = s.len() / WIDTH;
     let mut i: usize = 0;
     while i < n {
@@ -107,10 +132,37 @@ pub fn first_over(s: &[u8], p: u64) -> Found
     Found::Nothing
 }
 
+// Whether every number of a list from one place on is below p, of four bytes: all are compared, several at once, with no early end.
+fn all_under(s: &[u8], from: usize, p: u32) -> bool
+    ensures { λ r. ⌜ r ≡ allBelow p (drop from (numbers (now (s .entry)))) ⌝ }
+{
+    let n = s.len() / WIDTH;
+    let mut all = true;
+    let mut i = from;
+    while i < n {
+        all = also_below(all, short(s, i), p);
+        i += 1;
+    }
+    all
+}
+
+// Whether x is below p, where all before it are.
+fn also_below(all: bool, x: u32, p: u32) -> bool
+    ensures { λ r. ⌜ r ≡ (all && ltb x p) ⌝ }
+{
+    if all {
+        return x < p;
+    }
+    false
+}
+
 // Whether every number of a list from one place on is below p.
 pub fn all_below(s: &[u8], from: usize, p: u64) -> bool
     ensures { λ r. ⌜ r ≡ allBelow p (drop from (numbers (now (s .entry)))) ⌝ }
 {
+    if p < 4294967296 {
+        return all_under(s, from, p as u32);
+    }
     let n = s.len() / WIDTH;
     let mut i: usize = from;
     while i < n {

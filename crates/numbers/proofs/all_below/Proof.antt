@@ -9,14 +9,23 @@ Inv-loop s from p n i₀ i = Testing s from p i
 abbrev μ-loop : tie.MeasureT-loop
 μ-loop s from p n i₀ i = n - i
 
+cast-all-under : tie.Need-cast-all-under Inv-loop μ-loop
+cast-all-under c = search coding
+
+all-under-requires : tie.Need-all-under-requires Inv-loop μ-loop
+all-under-requires c κs = search coding
+
+returns : tie.Need-returns Inv-loop μ-loop
+returns c = search coding
+
 loop-holds : tie.Need-loop-holds Inv-loop μ-loop
 loop-holds c = search coding
 
 read-requires : tie.Need-read-requires Inv-loop μ-loop
 read-requires c κs = search coding
 
-returns : tie.Need-returns Inv-loop μ-loop
-returns c = search coding
+returns-2 : tie.Need-returns-2 Inv-loop μ-loop
+returns-2 c = search coding
 
 add-i : tie.Need-add-i Inv-loop μ-loop
 add-i c = search coding
@@ -27,8 +36,8 @@ loop-less c = search coding
 loop-again : tie.Need-loop-again Inv-loop μ-loop
 loop-again c = search coding
 
-returns-2 : tie.Need-returns-2 Inv-loop μ-loop
-returns-2 c = search coding
+returns-3 : tie.Need-returns-3 Inv-loop μ-loop
+returns-3 c = search coding
 
 pub all-below-spec : {M : Type 1} → statement M
 all-below-spec =
@@ -36,10 +45,13 @@ all-below-spec =
     (tie.spec
     Inv-loop
     μ-loop
+    cast-all-under
+    all-under-requires
+    returns
     loop-holds
     read-requires
-    returns
+    returns-2
     add-i
     loop-less
     loop-again
-    returns-2)
+    returns-3)
