@@ -56,7 +56,10 @@ fn short(s: &[u8], i: usize) -> u32
     ensures { λ r. ⌜ record { eq : r ≡ getD (numbers (now (s .entry))) i 0; lt : r < limit } ⌝ }
 {
     let at = WIDTH * i;
-    narrow(s[at]) + 256 * narrow(s[at + 1]) + 65536 * narrow(s[at + 2]) + 16777216 * narrow(s[at + 3])
+    narrow(s[at])
+        + 256 * narrow(s[at + 1])
+        + 65536 * narrow(s[at + 2])
+        + 16777216 * narrow(s[at + 3])
 }
 
 // The same in eight.
