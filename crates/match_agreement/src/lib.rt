@@ -100,7 +100,7 @@ fn first_input_off(plan: &[u8], h: Header, set: u16, first: &[u8], second: &[u8]
     let mut next: usize = 0;
     let mut g: usize = 0;
     while g < gates {
-        let gate = plan::gate_at(plan, g);
+        let gate = plan::known_gate(plan, h, g);
         let x = numbers::read(first, next);
         let y = numbers::read(second, next);
         if !gate_agrees(set, gate, x, y) {

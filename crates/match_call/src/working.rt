@@ -35,7 +35,7 @@ fn match_coins(
     requires { ⌜ Turn (now plan) h g (now first) (now second) (now before) (now after) at (now coins) (now out) ⌝ }
     ensures { λ r. ⌜ NewCoins (planOf (now (plan .entry))) (members set) (h .n) (gateAt (now (plan .entry)) g) g (drop next (numbers (now (first .entry)))) (drop next (numbers (now (second .entry)))) (drop at (numbers (now (coins .entry)))) at (now (before .entry)) (now (after .entry)) (now (out .entry)) (now (out .exit)) r ⌝ }
 {
-    let gate = plan::gate_at(plan, g);
+    let gate = plan::known_gate(plan, h, g);
     match_moves::match_gate(
         h,
         set,

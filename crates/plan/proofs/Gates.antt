@@ -3,15 +3,15 @@
 --     field-two .. point-four          the contents' fields and where gates, outs and points stand, by the bytes of a field and of a point
 --     reading     what closes the needs of the functions that read them
 -- Assumes nothing.
-use mathlib.Core.Path.{_≡_, refl, sym, ap, _∙_}
+use mathlib.Core.Path.{_≡_, refl, sym, ap, ap₂, _∙_}
 use mathlib.Core.Bool.{Bool, true, false, cond}
 use mathlib.Core.List.{List}
-use Prim.Native.Nat.{ℕ, suc, _+_, _*_, _≤_}
+use Prim.Native.Nat.{ℕ, suc, _+_, _*_, _<_, _≤_}
 use native.Mathlib.Omega.{arith}
 use borrow.Author.Needs.{needs}
 use borrow.Author.Tests.{eq-eqb, ne-eqb}
 use lib.Dec.{eqb}
-use lib.ListN.{getD}
+use lib.ListN.{getD, length}
 use Rattle.numbers.specs.Bytes.{numberAt, wordAt}
 use Rattle.numbers.proofs.Bytes.{word-number}
 use Rattle.numbers.proofs.Ways.{byte-none, word-some}
@@ -19,6 +19,7 @@ use Rattle.plan.specs.declared.Gate.{Gate}
 use Rattle.plan.specs.declared.Gate.the-variants.{Input, Add, Scale, Offset, Multiply}
 use Rattle.plan.specs.declared.Layout.{Layout}
 use Rattle.plan.specs.File.{layoutFor, layoutOf, fieldAt, gateStart, gatePlace, outPlace, pointPlace, gateOf, gateFrom, gateAt, outAt, pointAt}
+use Rattle.plan.specs.Planned.{Within}
 
 -- ---- a gate by its kind
 module _ (k s a b : ℕ) where
@@ -182,16 +183,72 @@ module _ (s : List ℕ) (l : Layout) (el : l ≡ layoutOf s) where
       unfolding pointAt
       point-four k ex = ex ∙ rw (some-points, at-four h k, ← ea)
 
--- ---- from gate to gate
-pub size-some : (s : List ℕ) (l : Layout) → l ≡ layoutOf s → 2 + 2 * l .field ≡ 2 + 2 * layoutOf s .field
-size-some s l e = rw e
-
 pub place-next : (s : List ℕ) (g place size : ℕ) → place ≡ gatePlace s g → size ≡ 2 + 2 * layoutOf s .field → place + size ≡ gatePlace s (g + 1)
 unfolding gatePlace gateStart
 place-next s g place size e f =
     let w : ℕ = 2 + 2 * layoutOf s .field in
     let next : w * (g + 1) ≡ w * g + w = omega arith in
     omega (arith, next)
+
+-- ---- a gate all of whose bytes the file has
+pub word-in : (s : List ℕ) (at x y : ℕ) → x ≡ getD s at 0 → y ≡ getD s (at + 1) 0 → x + 256 * y ≡ numberAt 2 s at
+word-in s at x y e f = word-some s at x y e f ∙ word-number s at
+
+pub long-in : (s : List ℕ) (at x y : ℕ) → x ≡ numberAt 2 s at → y ≡ numberAt 2 s (at + 2) → x + 65536 * y ≡ numberAt 4 s at
+long-in s at x y e f = long-some s at x y (e ∙ sym (word-number s at)) (f ∙ sym (word-number s (at + 2)))
+
+module _ (s : List ℕ) (at k z a b : ℕ) (ek : k ≡ getD s at 0) (ez : z ≡ getD s (at + 1) 0) where
+  pub parts-two : a ≡ numberAt 2 s (at + 2) → b ≡ numberAt 2 s (at + 4) → gateOf k z a b ≡ gateFrom 2 s at
+  unfolding gateFrom
+  parts-two ea eb = let q : at + 2 + 2 ≡ at + 4 = omega arith in rw (q, ek, ez, ea, eb)
+
+  pub parts-four : a ≡ numberAt 4 s (at + 2) → b ≡ numberAt 4 s (at + 6) → gateOf k z a b ≡ gateFrom 4 s at
+  unfolding gateFrom
+  parts-four ea eb = let q : at + 2 + 4 ≡ at + 6 = omega arith in rw (q, ek, ez, ea, eb)
+
+pub gate-by-parts : (s : List ℕ) (g k z a b : ℕ) (r : Gate) → r ≡ gateOf k z a b → gateOf k z a b ≡ gateAt s g → r ≡ gateAt s g
+gate-by-parts s g k z a b r e f = e ∙ f
+
+module _ (s : List ℕ) (l : Layout) (g : ℕ) (w : Within s l g) where
+  module _ (two : l .field ≡ 2) where
+    pub within-two : l .head + 6 * g + 6 ≤ length s
+    within-two =
+        let e : l .head + 6 * (g + 1) ≡ gatePlace s (g + 1) = place-two s l (w .is) two (g + 1) in
+        omega (arith, e, w .long)
+
+    pub begins-two : l .head + 6 * g < length s
+    begins-two = omega (arith, within-two)
+
+    pub gate-two : (x : Gate) → x ≡ gateFrom 2 s (l .head + 6 * g) → x ≡ gateAt s g
+    unfolding gateAt
+    gate-two x e = e ∙ ap₂ (λ (k at : ℕ). gateFrom k s at) (sym (is-two s l (w .is) two)) (place-two s l (w .is) two g)
+
+    pub kind-two : (x : ℕ) → x ≡ getD s (l .head + 6 * g) 0 → x ≡ getD s (gatePlace s g) 0
+    kind-two x e = e ∙ ap (λ (at : ℕ). getD s at 0) (place-two s l (w .is) two g)
+
+  module _ (not-two : l .field ≡ 2 → ⊥) where
+    pub within-four : l .head + 10 * g + 10 ≤ length s
+    within-four =
+        let e : l .head + 10 * (g + 1) ≡ gatePlace s (g + 1) = place-four s l (w .is) not-two (g + 1) in
+        omega (arith, e, w .long)
+
+    pub begins-four : l .head + 10 * g < length s
+    begins-four = omega (arith, within-four)
+
+    pub gate-four : (x : Gate) → x ≡ gateFrom 4 s (l .head + 10 * g) → x ≡ gateAt s g
+    unfolding gateAt
+    gate-four x e = e ∙ ap₂ (λ (k at : ℕ). gateFrom k s at) (sym (is-four s l (w .is) not-two)) (place-four s l (w .is) not-two g)
+
+    pub kind-four : (x : ℕ) → x ≡ getD s (l .head + 10 * g) 0 → x ≡ getD s (gatePlace s g) 0
+    kind-four x e = e ∙ ap (λ (at : ℕ). getD s at 0) (place-four s l (w .is) not-two g)
+
+pub gate-whole : (s : List ℕ) (g at size : ℕ) (l : Layout) → g < 4294967296 → l ≡ layoutOf s → l .head ≤ 32 → at ≡ gatePlace s g → size ≡ 2 + 2 * layoutOf s .field
+    → at + size ≤ length s → Within s l g
+gate-whole s g at size l f e h ea es w = record { is = e; high = h; few = f; long = omega (arith, place-next s g at size ea es) }
+
+-- ---- from gate to gate
+pub size-some : (s : List ℕ) (l : Layout) → l ≡ layoutOf s → 2 + 2 * l .field ≡ 2 + 2 * layoutOf s .field
+size-some s l e = rw e
 
 pub place-small : (s : List ℕ) (g : ℕ) → gatePlace s g ≤ 32 + 10 * g
 unfolding gatePlace gateStart
@@ -209,4 +266,4 @@ out-some s o at a b e f i = rw (f, i, e)
 pub kind-at : (s : List ℕ) (g at k : ℕ) → at ≡ gatePlace s g → k ≡ getD s at 0 → k ≡ getD s (gatePlace s g) 0
 kind-at s g at k e f = f ∙ rw e
 
-pub ruleset reading = (needs, byte-none, word-some, long-some, layout-first, layout-second, layout-third, layout-read, field-two, field-four, place-two, place-four, operand-two, operand-four, gate-some, points-none, points-two, points-four, point-none, point-two, point-four, size-some, out-places, out-some, kind-at, gate-second, gate-input, gate-add, gate-scale, gate-offset, gate-multiply, gate-other, input-some, input-none)
+pub ruleset reading = (needs, byte-none, word-some, long-some, layout-first, layout-second, layout-third, layout-read, field-two, field-four, place-two, place-four, operand-two, operand-four, gate-some, points-none, points-two, points-four, point-none, point-two, point-four, size-some, out-places, out-some, kind-at, word-in, long-in, parts-two, parts-four, gate-by-parts, within-two, begins-two, gate-two, kind-two, within-four, begins-four, gate-four, kind-four, gate-whole, gate-second, gate-input, gate-add, gate-scale, gate-offset, gate-multiply, gate-other, input-some, input-none)

@@ -1,6 +1,7 @@
 -- What a plan that passes is.
 --     Passing, passing              the checks, one by one
 --     passing-majority              2t < n where a gate multiplies
+--     laid-gate                     its gates stand in the file
 --     planned, planned-read         the bounds of its contents
 --     party-count .. out-of-plan    the plan's parts, by its contents
 -- Assumes nothing.
@@ -8,6 +9,7 @@ use mathlib.Core.Path.{_≡_, refl, sym, ap, _∙_}
 use mathlib.Core.Bool.{Bool, true, cond, _&&_}
 use mathlib.Core.List.{List}
 use Prim.Native.Nat.{ℕ, _+_, _*_, _<_, _≤_}
+use native.Mathlib.Nat.{mul-le-mul-left}
 use native.Mathlib.Omega.{arith}
 use borrow.Author.Tests.{ltb-true, leb-true, eqb-true}
 use lib.Dec.{eqb, leb, ltb}
@@ -20,6 +22,7 @@ use Rattle.numbers.proofs.Truth.{both-true}
 use Rattle.field.specs.Prime.{isPrime}
 use Rattle.plan.specs.declared.Gate.the-variants.{Input}
 use Rattle.plan.specs.declared.Header.{Header}
+use Rattle.plan.specs.declared.Layout.{Layout}
 use Rattle.plan.specs.declared.Reading.{Reading}
 use Rattle.plan.specs.declared.Reading.the-variants as reading
 use Rattle.plan.specs.declared.Refusal.{Refusal}
@@ -27,8 +30,8 @@ use Rattle.plan.specs.declared.Refusal.the-variants as refusal
 use Rattle.plan.specs.declared.Checked.the-variants.{Passed, Refused}
 use Rattle.plan.specs.Refusals.{firstOf}
 use Rattle.plan.specs.Plans.{multiplying, partyCount, dealerCount}
-use Rattle.plan.specs.File.{modulusLimit, versionAt, nAt, tAt, pAt, gateCountAt, outCountAt, layoutOf, fieldAt, outPlace, pointPlace, between, partiesOk, thresholdOk, modulusOk, gateAt, outAt, majorityOk, pointAt, gateKept, outKept, majorityKept, pointKept, pointsPlaced, layoutOk, majorityCheck, pointsCheck, planChecks, planCheck, planOf, headerOf}
-use Rattle.plan.specs.Planned.{Planned, ReadAs}
+use Rattle.plan.specs.File.{modulusLimit, versionAt, nAt, tAt, pAt, gateCountAt, outCountAt, layoutOf, fieldAt, gateStart, gatePlace, outPlace, pointPlace, between, partiesOk, thresholdOk, modulusOk, gateAt, outAt, majorityOk, pointAt, gateKept, outKept, majorityKept, pointKept, pointsPlaced, layoutOk, majorityCheck, pointsCheck, planChecks, planCheck, planOf, headerOf}
+use Rattle.plan.specs.Planned.{Planned, ReadAs, Within}
 use Rattle.plan.proofs.Refusals.{passed-both, passed-need, passed-found}
 use Rattle.plan.proofs.Ways.{check-of-passed, check-of-refused, header-of-passed, read-outcome}
 
@@ -107,6 +110,13 @@ laid bs h =
     let f = both-true (cond (eqb (layoutOf bs .point) 0) true (eqb (fieldAt bs 5) (pointPlace bs 0))) (eqb (length bs) (pointPlace bs (nAt bs))) (e .1) in
     record { gates = c .0; outs = e .0; long = eqb-true (length bs) (pointPlace bs (nAt bs)) (f .1) }
 
+-- all gates stand in the file
+pub laid-gate : (bs : List ℕ) (g : ℕ) → layoutOk bs ≡ true → g < gateCountAt bs → gatePlace bs (g + 1) ≤ length bs
+unfolding pointPlace outPlace gatePlace gateStart
+laid-gate bs g h l =
+    let m : (2 + 2 * layoutOf bs .field) * (g + 1) ≤ (2 + 2 * layoutOf bs .field) * gateCountAt bs = mul-le-mul-left (2 + 2 * layoutOf bs .field) (omega arith) in
+    omega (arith, m, laid bs h .long)
+
 pub planned : (bs : List ℕ) → planCheck bs ≡ Passed → Planned bs (headerOf bs)
 unfolding headerOf
 planned bs h =
@@ -178,6 +188,12 @@ module _ {bs : List ℕ} {h : Header} (k : Planned bs h) where
   pub plan-outs : length (planOf bs .outs) ≡ h .outs
   unfolding headerOf
   plan-outs = length-outs bs ∙ sym (ap (λ (x : Header). x .outs) (k .is))
+
+  pub gate-within : (l : Layout) (g : ℕ) → g < h .gates → l ≡ layoutOf bs → l .head ≤ 32 → Within bs l g
+  unfolding headerOf
+  gate-within l g lt e hi =
+      let c : h .gates ≡ gateCountAt bs = ap (λ (x : Header). x .gates) (k .is) in
+      record { is = e; high = hi; few = omega (arith, k .gates-high); long = laid-gate bs g (passing bs (k .passes) .layout) (omega (arith, c)) }
 
   pub plan-gate : (g : ℕ) → g < h .gates → getD (planOf bs .gates) g (Input 0) ≡ gateAt bs g
   unfolding planOf

@@ -1,11 +1,13 @@
 -- A plan that passes, with its contents: what the functions over a plan ask of their caller.
-use Prim.Native.Nat.{ℕ, _≤_, _<_}
+use Prim.Native.Nat.{ℕ, _+_, _≤_, _<_}
 use mathlib.Core.Path.{_≡_}
 use mathlib.Core.List.{List}
+use lib.ListN.{length}
 use Rattle.plan.specs.declared.Header.{Header}
+use Rattle.plan.specs.declared.Layout.{Layout}
 use Rattle.plan.specs.declared.Reading.{Reading}
 use Rattle.plan.specs.declared.Checked.the-variants.{Passed}
-use Rattle.plan.specs.File.{planCheck, headerOf, readPlan}
+use Rattle.plan.specs.File.{layoutOf, gatePlace, planCheck, headerOf, readPlan}
 
 -- the bounds follow from the first two fields; they stand here for arithmetic to find
 pub record Planned (bs : List ℕ) (h : Header) : Type 0 where
@@ -24,3 +26,10 @@ pub record Planned (bs : List ℕ) (h : Header) : Type 0 where
 -- what reading the bytes of a plan answers
 pub record ReadAs (bs : List ℕ) (r : Reading) : Type 0 where
   pub eq : r ≡ readPlan bs
+
+-- the file has all bytes of gate g, and this layout
+pub record Within (bs : List ℕ) (l : Layout) (g : ℕ) : Type 0 where
+  pub is : l ≡ layoutOf bs
+  pub high : l .head ≤ 32
+  pub few : g < 4294967296
+  pub long : gatePlace bs (g + 1) ≤ length bs

@@ -1,6 +1,7 @@
 // Counts of a plan's gates, coins and steps, and the step that a call sends.
 use plan::Gate;
 use plan::Header;
+use plan::Layout;
 use plan::Step;
 ghost use mathlib.Core.Path.{_≡_};
 ghost use mathlib.Core.Bool.{cond};
@@ -108,9 +109,10 @@ pub fn tally_of(plan: &[u8], h: Header, i: usize) -> Tally
     let mut own: usize = 0;
     let mut multiplies: usize = 0;
     let mut coins: usize = 0;
+    let l = plan::layout_of(plan);
     let mut g: usize = 0;
     while g < gates {
-        let gate = plan::gate_at(plan, g);
+        let gate = plan::gate_in(plan, l, g);
         let k = kind(gate);
         inputs += numbers::one_if(k == 1);
         own += numbers::one_if(is_input_of(i, gate));
@@ -194,9 +196,10 @@ pub fn coins_below(plan: &[u8], h: Header, i: usize, g: usize) -> usize
     } ⌝ }
 {
     let mut k: usize = 0;
+    let l = plan::layout_of(plan);
     let mut below: usize = 0;
     while below < g {
-        k += own_coins_at(plan, h, i, plan::gate_at(plan, below));
+        k += own_coins_at(plan, h, i, plan::gate_in(plan, l, below));
         below += 1;
     }
     k
@@ -220,12 +223,12 @@ fn step_of(g: usize, gate: Gate) -> Step
 }
 
 // Whether gate g takes rounds, by its first byte alone: every gate of a plan that passes keeps its kind's rule.
-fn rounds_at(plan: &[u8], h: Header, g: usize) -> bool
+fn rounds_at(plan: &[u8], h: Header, l: Layout, g: usize) -> bool
     requires { ⌜ Planned (now plan) h ⌝ }
     requires { ⌜ g < h .gates ⌝ }
     ensures { λ r. ⌜ r ≡ leb 5 (kindOf (gateAt (now (plan .entry)) g)) ⌝ }
 {
-    5 <= plan::kind_at(plan, g)
+    5 <= plan::kind_in(plan, l, g)
 }
 
 // The step that the calls of number k send.
@@ -245,12 +248,13 @@ fn step_after(plan: &[u8], h: Header, k: usize) -> Step
     ensures { λ r. ⌜ record { eq : r ≡ stepAt (planOf (now (plan .entry))) (suc k); of : Stepped (planOf (now (plan .entry))) r } ⌝ }
 {
     let gates = h.gates;
+    let l = plan::layout_of(plan);
     let mut left = k;
     let mut g: usize = 0;
     while g < gates {
-        if rounds_at(plan, h, g) {
+        if rounds_at(plan, h, l, g) {
             if left == 0 {
-                return step_of(g, plan::gate_at(plan, g));
+                return step_of(g, plan::known_gate(plan, h, g));
             }
             left -= 1;
         }

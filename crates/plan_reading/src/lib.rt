@@ -70,9 +70,10 @@ fn first_bad_gate(plan: &[u8]) -> Found
     let n = plan::byte(plan, 5);
     let p = plan::field(plan, 0) as u64;
     let gates = plan::field(plan, 2);
+    let l = plan::layout_of(plan);
     let mut g: usize = 0;
     while g < gates {
-        if !gate_ok(n, p, g, plan::gate_at(plan, g)) {
+        if !gate_ok(n, p, g, plan::gate_in(plan, l, g)) {
             return Found::At(g);
         }
         g += 1;
@@ -123,9 +124,10 @@ fn first_lacking(plan: &[u8]) -> Found
         return Found::Nothing;
     }
     let gates = plan::field(plan, 2);
+    let l = plan::layout_of(plan);
     let mut g: usize = 0;
     while g < gates {
-        if multiplies(plan::gate_at(plan, g)) {
+        if multiplies(plan::gate_in(plan, l, g)) {
             return Found::At(g);
         }
         g += 1;

@@ -371,7 +371,7 @@ pub fn coins_taken(plan: &[u8], h: Header, g: usize) -> usize
     ensures { λ r. ⌜ record { eq : r ≡ length (coinOwnersAt (planOf (now (plan .entry))) (gateAt (now (plan .entry)) g)); most : r ≤ 406 } ⌝ }
 {
     let t = h.t;
-    match plan::gate_at(plan, g) {
+    match plan::known_gate(plan, h, g) {
         Gate::Input(_) => t,
         Gate::Add(_, _) => 0,
         Gate::Scale(_, _) => 0,

@@ -17,7 +17,7 @@ pub fn inputs_taken(plan: &[u8], h: Header, g: usize) -> usize
     requires { ⌜ g < h .gates ⌝ }
     ensures { λ r. ⌜ record { eq : r ≡ inputsTaken (planOf (now (plan .entry))) (gateAt (now (plan .entry)) g); le : r ≤ 15 } ⌝ }
 {
-    match plan::gate_at(plan, g) {
+    match plan::known_gate(plan, h, g) {
         Gate::Input(_) => 1,
         Gate::Add(_, _) => 0,
         Gate::Scale(_, _) => 0,
@@ -47,7 +47,7 @@ fn gate_value(plan: &[u8], h: Header, g: usize, inputs: &[u8], next: usize, wire
     ensures { λ r. ⌜ Is (h .field .p) (gateValue (planOf (now (plan .entry))) (gateAt (now (plan .entry)) g) (now (wires .entry)) (drop next (numbers (now (inputs .entry))))) r ⌝ }
 {
     let f = h.field;
-    match plan::gate_at(plan, g) {
+    match plan::known_gate(plan, h, g) {
         Gate::Input(_) => numbers::read(inputs, next),
         Gate::Add(a, b) => f.add(wire(wires, a), wire(wires, b)),
         Gate::Scale(a, c) => f.mul(wire(wires, a), c),

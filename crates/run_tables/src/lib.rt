@@ -102,7 +102,7 @@ fn gate_row(
     let n = h.n;
     let t = h.t;
     let dealers = t + t + 1;
-    let gate = plan::gate_at(plan, g);
+    let gate = plan::known_gate(plan, h, g);
     match gate {
         Gate::Input(_) => {
             let x = numbers::read(inputs, i);

@@ -62,7 +62,7 @@ fn put_input(
     requires { ⌜ at ≤ 2000000 ⌝ }
     ensures { λ r. ⌜ Wrote 1 (ownOf i (inputOwnersAt (planOf (now (plan .entry))) (gateAt (now (plan .entry)) g)) (drop k (numbers (now (inputs .entry))))) at (now (out .entry)) (now (out .exit)) r ⌝ }
 {
-    let gate = plan::gate_at(plan, g);
+    let gate = plan::known_gate(plan, h, g);
     put_if(
         plan_counts::is_input_of(i, gate),
         numbers::read(inputs, k),
@@ -119,7 +119,7 @@ fn is_input_at(plan: &[u8], h: Header, g: usize, place: usize, j: usize) -> bool
     if plan::byte(plan, place) != 1 {
         return false;
     }
-    let gate = plan::gate_at(plan, g);
+    let gate = plan::known_gate(plan, h, g);
     plan_counts::is_input_of(j, gate)
 }
 
@@ -402,7 +402,7 @@ fn put_own(
     ensures { λ r. ⌜ Wrote 14 (ownOf i (coinOwnersAt (planOf (now (plan .entry))) (gateAt (now (plan .entry)) g)) (drop from (numbers (now (coins .entry))))) at (now (out .entry)) (now (out .exit)) r ⌝ }
 {
     let t = h.t;
-    match plan::gate_at(plan, g) {
+    match plan::known_gate(plan, h, g) {
         Gate::Input(s) => put_dealing(t, i, s, coins, from, at, out),
         Gate::Add(_, _) => at,
         Gate::Scale(_, _) => at,
@@ -599,7 +599,7 @@ fn put_steps(
     requires { ⌜ at ≤ 1500000 ⌝ }
     ensures { λ r. ⌜ Wrote 15 (piecesIn h (now (table .entry)) (numbers (now (coins .entry))) from (now (powers .entry)) (gateAt (now (plan .entry)) g)) at (now (out .entry)) (now (out .exit)) r ⌝ }
 {
-    match plan::gate_at(plan, g) {
+    match plan::known_gate(plan, h, g) {
         Gate::Input(_) => at,
         Gate::Add(_, _) => at,
         Gate::Scale(_, _) => at,

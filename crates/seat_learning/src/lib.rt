@@ -55,7 +55,7 @@ fn work_from(plan: &[u8], h: Header, from: usize, shares: &mut [u8])
 {
     let mut g = from;
     while g < h.gates {
-        let gate = plan::gate_at(plan, g);
+        let gate = plan::known_gate(plan, h, g);
         if plan_counts::takes_rounds(gate) {
             return;
         }
@@ -113,7 +113,7 @@ fn learn_inputs_of(
     let mut at = from;
     let mut g = 0;
     while g < h.gates {
-        let gate = plan::gate_at(plan, g);
+        let gate = plan::known_gate(plan, h, g);
         at = learn_input(h, i, g, gate, mail, at, shares);
         g += 1;
     }

@@ -99,7 +99,7 @@ fn send_inputs_to(
     let mut k: usize = 0;
     let mut g: usize = 0;
     while g < h.gates {
-        let gate = plan::gate_at(plan, g);
+        let gate = plan::known_gate(plan, h, g);
         let secret = numbers::read(inputs, place - at);
         place = send_input(h, i, gate, secret, coins, k, x, place, out);
         k += plan_counts::own_coins_at(plan, h, i, gate);

@@ -2,55 +2,39 @@ use Rattle.plan.proofs.Gates.{reading}
 use Rattle.plan.proofs.gate_at.Statement.{statement}
 use Rattle.plan.proofs.gate_at.Tie as tie
 
-layout-of-requires : tie.Need-layout-of-requires
-layout-of-requires c κs = search reading
-
 gate-place-requires : tie.Need-gate-place-requires
 gate-place-requires c κs = search reading
 
-byte-requires : tie.Need-byte-requires
-byte-requires c κs = search reading
+gate-size-requires : tie.Need-gate-size-requires
+gate-size-requires c κs = search reading
 
-add-byte : tie.Need-add-byte
-add-byte c = search reading
+add-if1 : tie.Need-add-if1
+add-if1 c = search reading
 
-byte-requires-2 : tie.Need-byte-requires-2
-byte-requires-2 c κs = search reading
-
-add-operand : tie.Need-add-operand
-add-operand c = search reading
-
-operand-requires : tie.Need-operand-requires
-operand-requires c κs = search reading
-
-add-operand-2 : tie.Need-add-operand-2
-add-operand-2 c = search reading
-
-add-operand-3 : tie.Need-add-operand-3
-add-operand-3 c = search reading
-
-operand-requires-2 : tie.Need-operand-requires-2
-operand-requires-2 c κs = search reading
-
-gate-of-requires : tie.Need-gate-of-requires
-gate-of-requires c κs = search reading
+gate-cut-requires : tie.Need-gate-cut-requires
+gate-cut-requires c κs = search reading
 
 returns : tie.Need-returns
 returns c = search reading
+
+layout-of-requires : tie.Need-layout-of-requires
+layout-of-requires c κs = search reading
+
+gate-in-requires : tie.Need-gate-in-requires
+gate-in-requires c κs = search reading
+
+returns-2 : tie.Need-returns-2
+returns-2 c = search reading
 
 pub gate-at-spec : {M : Type 1} → statement M
 gate-at-spec =
     tie.close
     (tie.spec
-    layout-of-requires
     gate-place-requires
-    byte-requires
-    add-byte
-    byte-requires-2
-    add-operand
-    operand-requires
-    add-operand-2
-    add-operand-3
-    operand-requires-2
-    gate-of-requires
-    returns)
+    gate-size-requires
+    add-if1
+    gate-cut-requires
+    returns
+    layout-of-requires
+    gate-in-requires
+    returns-2)
