@@ -1,7 +1,7 @@
 -- What a plan that passes is.
 --     Passing, passing              the checks, one by one
 --     passing-majority              2t < n where a gate multiplies
---     laid-gate                     its gates stand in the file
+--     laid-gate, laid-within        its gates stand in the file
 --     planned, planned-read         the bounds of its contents
 --     party-count .. out-of-plan    the plan's parts, by its contents
 -- Assumes nothing.
@@ -117,6 +117,11 @@ laid-gate bs g h l =
     let m : (2 + 2 * layoutOf bs .field) * (g + 1) ≤ (2 + 2 * layoutOf bs .field) * gateCountAt bs = mul-le-mul-left (2 + 2 * layoutOf bs .field) (omega arith) in
     omega (arith, m, laid bs h .long)
 
+pub laid-within : (bs : List ℕ) (gates g : ℕ) (l : Layout) → layoutOk bs ≡ true → gates ≡ fieldAt bs 2 → g < gates → l ≡ layoutOf bs → l .head ≤ 32 → Within bs l g
+laid-within bs gates g l h e lt el hi =
+    let most : gateCountAt bs ≤ 1024 = between-true 1 1024 (gateCountAt bs) (laid bs h .gates) .1 in
+    record { is = el; high = hi; few = omega arith; long = laid-gate bs g h (omega arith) }
+
 pub planned : (bs : List ℕ) → planCheck bs ≡ Passed → Planned bs (headerOf bs)
 unfolding headerOf
 planned bs h =
@@ -191,9 +196,7 @@ module _ {bs : List ℕ} {h : Header} (k : Planned bs h) where
 
   pub gate-within : (l : Layout) (g : ℕ) → g < h .gates → l ≡ layoutOf bs → l .head ≤ 32 → Within bs l g
   unfolding headerOf
-  gate-within l g lt e hi =
-      let c : h .gates ≡ gateCountAt bs = ap (λ (x : Header). x .gates) (k .is) in
-      record { is = e; high = hi; few = omega (arith, k .gates-high); long = laid-gate bs g (passing bs (k .passes) .layout) (omega (arith, c)) }
+  gate-within l g lt e hi = laid-within bs (h .gates) g l (passing bs (k .passes) .layout) (ap (λ (x : Header). x .gates) (k .is)) lt e hi
 
   pub plan-gate : (g : ℕ) → g < h .gates → getD (planOf bs .gates) g (Input 0) ≡ gateAt bs g
   unfolding planOf

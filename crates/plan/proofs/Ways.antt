@@ -366,6 +366,9 @@ module _ (s : List ℕ) (t : Bool) (et : t ≡ layoutOk s) where
   unfolding planChecks firstOf andThen need
   body-layout h = rw (← et, h)
 
+  pub body-laid : t ≡ true → layoutOk s ≡ true
+  body-laid h = sym et ∙ h
+
   module _ (ht : t ≡ true) (f : Found) (ef : f ≡ firstFailing (gateKept s) (fieldAt s 2)) where
     pub body-gate : (k : ℕ) → f ≡ At k → Refused (refusal.GateRule k) ≡ firstOf (drop 5 (planChecks s))
     unfolding planChecks firstOf andThen need unlessFound
@@ -380,7 +383,7 @@ module _ (s : List ℕ) (t : Bool) (et : t ≡ layoutOk s) where
       unfolding planChecks firstOf andThen need unlessFound
       body-last h c ec = ec ∙ rw (← et, ht, ← ef, hf, ← eo, h)
 
-pub ruleset body = (needs, not-true, not-false, body-layout, body-gate, body-out, body-last)
+pub ruleset body = (needs, not-true, not-false, body-layout, body-laid, body-gate, body-out, body-last)
 
 module _ (s : List ℕ) (c : Checked) (ec : c ≡ majorityCheck s) where
   pub last-majority : (r : Refusal) → c ≡ Refused r → Refused r ≡ firstOf (drop 8 (planChecks s))

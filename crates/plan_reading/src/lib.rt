@@ -10,7 +10,7 @@ use plan::Output;
 use plan::Reading;
 use plan::Refusal;
 ghost use mathlib.Core.Path.{_≡_};
-ghost use mathlib.Core.Bool.{_&&_, not};
+ghost use mathlib.Core.Bool.{true, _&&_, not};
 ghost use Prim.Native.Nat.{_<_};
 ghost use lib.Dec.{eqb, ltb, leb};
 ghost use lib.ListN.{length, take, drop};
@@ -65,6 +65,7 @@ fn out_ok(n: usize, gates: usize, out: Output) -> bool
 
 // The first gate that breaks its kind's rule.
 fn first_bad_gate(plan: &[u8]) -> Found
+    requires { ⌜ layoutOk (now plan) ≡ true ⌝ }
     ensures { λ r. ⌜ r ≡ firstFailing (gateKept (now (plan .entry))) (gateCountAt (now (plan .entry))) ⌝ }
 {
     let n = plan::byte(plan, 5);
@@ -124,10 +125,9 @@ fn first_lacking(plan: &[u8]) -> Found
         return Found::Nothing;
     }
     let gates = plan::field(plan, 2);
-    let l = plan::layout_of(plan);
     let mut g: usize = 0;
     while g < gates {
-        if multiplies(plan::gate_in(plan, l, g)) {
+        if multiplies(plan::gate_at(plan, g)) {
             return Found::At(g);
         }
         g += 1;

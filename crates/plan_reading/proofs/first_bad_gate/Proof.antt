@@ -1,15 +1,16 @@
 use Prim.Native.Nat.{_-_}
 use Rattle.numbers.proofs.Searches.{Seeking}
 use Rattle.plan.specs.File.{gateKept}
+use Rattle.plan.proofs.Planned.{laid-within}
 use Rattle.plan.proofs.Ways.{seeking}
 use Rattle.plan_reading.proofs.first_bad_gate.Statement.{statement}
 use Rattle.plan_reading.proofs.first_bad_gate.Tie as tie
 
 abbrev Inv-loop : tie.InvT-loop
-Inv-loop plan n p gates g₀ g = Seeking (gateKept plan) gates g
+Inv-loop plan n p gates l g₀ g = Seeking (gateKept plan) gates g
 
 abbrev μ-loop : tie.MeasureT-loop
-μ-loop plan n p gates g₀ g = gates - g
+μ-loop plan n p gates l g₀ g = gates - g
 
 byte-requires : tie.Need-byte-requires Inv-loop μ-loop
 byte-requires c κs = search seeking
@@ -20,11 +21,14 @@ field-requires c κs = search seeking
 field-requires-2 : tie.Need-field-requires-2 Inv-loop μ-loop
 field-requires-2 c κs = search seeking
 
+layout-of-requires : tie.Need-layout-of-requires Inv-loop μ-loop
+layout-of-requires c κs = search seeking
+
 loop-holds : tie.Need-loop-holds Inv-loop μ-loop
 loop-holds c = search seeking
 
-gate-at-requires : tie.Need-gate-at-requires Inv-loop μ-loop
-gate-at-requires c κs = search seeking
+gate-in-requires : tie.Need-gate-in-requires Inv-loop μ-loop
+gate-in-requires c κs = search (seeking, laid-within)
 
 gate-ok-requires : tie.Need-gate-ok-requires Inv-loop μ-loop
 gate-ok-requires c κs = search seeking
@@ -53,8 +57,9 @@ first-bad-gate-spec =
     byte-requires
     field-requires
     field-requires-2
+    layout-of-requires
     loop-holds
-    gate-at-requires
+    gate-in-requires
     gate-ok-requires
     returns
     add-g
