@@ -11,7 +11,7 @@ use native.Mathlib.Decide.{decLe}
 use native.Mathlib.Numerals.{add-one}
 use native.Mathlib.Omega.{arith}
 use borrow.Author.Needs.{needs}
-use borrow.Author.Tests.{le-leb, lt-leb, eq-eqb, ne-eqb}
+use borrow.Author.Tests.{le-leb, lt-leb, eqb-true, eq-eqb, ne-eqb}
 use lib.Dec.{eqb, leb}
 use lib.ListN.{length, getD, take, drop, replicate, take-append-drop}
 use lib.Seq.{take-suc, take-all}
@@ -26,12 +26,13 @@ use Rattle.plan.specs.declared.Rule.the-variants.{Reduction}
 use Rattle.plan.specs.declared.Output.{Output}
 use Rattle.plan.specs.declared.Dealing.{Dealing}
 use Rattle.plan.specs.declared.Header.{Header}
+use Rattle.plan.specs.declared.Layout.{Layout}
 use Rattle.plan.specs.Plans.{Plan, partyCount, dealerCount, kindOf, isKind, kindCount, operandsOf, isInputOf, firstDealings, multiplyDealings, dealingsAt, coinOwnersAt, coinOwners, lastCall, outWiresOf, outWires, inputCount, ownInputCount, coinCount, ownCoinCount, ownOutCount}
-use Rattle.plan.specs.File.{between, gateAt, outAt, planOf}
-use Rattle.plan.specs.Planned.{Planned}
+use Rattle.plan.specs.File.{between, layoutOf, gatePlace, gateOf, gateFrom, gateAt, gateOk, outAt, planOf}
+use Rattle.plan.specs.Planned.{Planned, Within}
 use Rattle.plan_counts.specs.Counts.{Tallied, IsGate, isOutOf}
-use Rattle.plan.proofs.Planned.{plan-n, plan-t, plan-gates, plan-gate, plan-outs, plan-out, plan-dealers}
-use Rattle.plan.proofs.Valid.{plain}
+use Rattle.plan.proofs.Planned.{plan-n, plan-t, plan-gates, plan-gate, plan-outs, plan-out, plan-dealers, between-true, gate-within}
+use Rattle.plan.proofs.Valid.{plain, gate-kept}
 use Rattle.plan.proofs.Counts.{count-replicate, plain-own-inputs, plain-inputs, plain-coins, plain-steps}
 
 -- ---- a gate's kind, once it is known
@@ -45,7 +46,44 @@ module _ (g q : Gate) (e : g ≡ q) where
 pub rounds-as : (g : Gate) (k : ℕ) → k ≡ kindOf g → leb 5 k ≡ leb 5 (kindOf g)
 rounds-as g k e = ap (leb 5) e
 
-pub ruleset kinds = (needs, kind-as, input-of-as, rounds-as)
+-- a gate that was read
+pub own-as : (i : ℕ) (x y : Gate) (t : Bool) → y ≡ x → t ≡ isInputOf i y → t ≡ isInputOf i x
+own-as i x y t e f = f ∙ ap (isInputOf i) e
+
+-- ---- a gate's kind by its first byte
+not-both : (t : Bool) → t ≡ true → t ≡ false → ⊥
+not-both t e f = let z : _≡_ {A = ℕ} 0 1 = cc in omega arith
+
+kind-of : (n p g kind second a b : ℕ) → gateOk n p g (gateOf kind second a b) ≡ true → kind ≡ kindOf (gateOf kind second a b)
+unfolding gateOf gateOk kindOf between
+kind-of n p g kind second a b ok = pick (eqb second 0) (eqb kind 1) (eqb b 0) (eqb kind 2) (eqb kind 3) (eqb kind 4) (eqb kind 5) refl refl refl refl refl ok
+  where
+    read : (s k1 z k2 k3 k4 k5 : Bool) → Gate
+    read s k1 z k2 k3 k4 k5 =
+        cond s (cond k1 (cond z (Input a) (Input 0)) (cond k2 (Add a b) (cond k3 (Scale a b) (cond k4 (Offset a b) (cond k5 (Multiply a b) (Input 0)))))) (Input 0)
+
+    pick :
+        (s k1 z k2 k3 k4 k5 : Bool) → eqb kind 1 ≡ k1 → eqb kind 2 ≡ k2 → eqb kind 3 ≡ k3 → eqb kind 4 ≡ k4 → eqb kind 5 ≡ k5
+        → gateOk n p g (read s k1 z k2 k3 k4 k5) ≡ true → kind ≡ kindOf (read s k1 z k2 k3 k4 k5)
+    pick false k1 z k2 k3 k4 k5 e1 e2 e3 e4 e5 h = absurd (not-both true refl (sym h))
+    pick true true true k2 k3 k4 k5 e1 e2 e3 e4 e5 h = eqb-true kind 1 e1
+    pick true true false k2 k3 k4 k5 e1 e2 e3 e4 e5 h = eqb-true kind 1 e1
+    pick true false z true k3 k4 k5 e1 e2 e3 e4 e5 h = eqb-true kind 2 e2
+    pick true false z false true k4 k5 e1 e2 e3 e4 e5 h = eqb-true kind 3 e3
+    pick true false z false false true k5 e1 e2 e3 e4 e5 h = eqb-true kind 4 e4
+    pick true false z false false false true e1 e2 e3 e4 e5 h = eqb-true kind 5 e5
+    pick true false z false false false false e1 e2 e3 e4 e5 h = absurd (not-both true refl (sym h))
+
+pub kind-byte : (bs : List ℕ) (h : Header) (g k : ℕ) → Planned bs h → g < h .gates → k ≡ getD bs (gatePlace bs g) 0 → k ≡ kindOf (gateAt bs g)
+unfolding gateAt gateFrom
+kind-byte bs h g k p l e = e ∙ kind-of (h .n) (h .field .p) g (getD bs (gatePlace bs g) 0) _ _ _ (gate-kept bs h p g (gateAt bs g) l refl)
+
+-- an input has kind 1
+pub own-not : (i k : ℕ) (x : Gate) → k ≡ kindOf x → (k ≡ 1 → ⊥) → false ≡ isInputOf i x
+unfolding isInputOf isKind
+own-not i k x e ne = rw (ne-eqb (kindOf x) 1 (λ q. ne (e ∙ q)))
+
+pub ruleset kinds = (needs, kind-as, input-of-as, rounds-as, kind-byte, own-not, own-as)
 
 -- ---- a party's coins at a gate
 -- the owners of a dealing's coins
@@ -123,6 +161,45 @@ module _ (bs : List ℕ) (h : Header) (p : Planned bs h) (i : ℕ) (gate : Gate)
   unfolding coinOwnersAt dealingsAt flatMap countWhere
   coins-spend a b e = rw e
 
+-- the same by a gate's kind
+module _ (bs : List ℕ) (h : Header) (p : Planned bs h) (i k : ℕ) (x : Gate) (ek : k ≡ kindOf x) where
+  pub coins-of-five : (r : ℕ) (t : Bool) → k ≡ 5 → t ≡ between 1 (h .t + h .t + 1) i → r ≡ cond t (h .t) 0 → r ≡ countWhere (eqb i) (coinOwnersAt (planOf bs) x)
+  unfolding kindOf
+  coins-of-five r t five f q = of x (sym ek ∙ five)
+    where
+      of : (y : Gate) → kindOf y ≡ 5 → r ≡ countWhere (eqb i) (coinOwnersAt (planOf bs) y)
+      of (Input s) e = absurd (omega arith)
+      of (Add a b) e = absurd (omega arith)
+      of (Scale a c) e = absurd (omega arith)
+      of (Offset a c) e = absurd (omega arith)
+      of (Multiply a b) e = coins-multiply bs h p i (Multiply a b) a b r t refl f q
+      of Random e = absurd (omega arith)
+      of (Spend a b) e = absurd (omega arith)
+
+  pub coins-of-local : (t : Bool) → t ≡ between 2 4 k → t ≡ true → 0 ≡ countWhere (eqb i) (coinOwnersAt (planOf bs) x)
+  unfolding kindOf
+  coins-of-local t et e = of x (rw ek at (between-true 2 4 k (sym et ∙ e)))
+    where
+      of : (y : Gate) → (2 ≤ kindOf y) × (kindOf y ≤ 4) → 0 ≡ countWhere (eqb i) (coinOwnersAt (planOf bs) y)
+      of (Input s) l = absurd (omega arith)
+      of (Add a b) l = coins-add bs h p i (Add a b) a b refl
+      of (Scale a c) l = coins-scale bs h p i (Scale a c) a c refl
+      of (Offset a c) l = coins-offset bs h p i (Offset a c) a c refl
+      of (Multiply a b) l = absurd (omega arith)
+      of Random l = absurd (omega arith)
+      of (Spend a b) l = absurd (omega arith)
+
+pub coins-of : (plan : Plan) (i r : ℕ) (x y : Gate) → y ≡ x → r ≡ countWhere (eqb i) (coinOwnersAt plan y) → r ≡ countWhere (eqb i) (coinOwnersAt plan x)
+coins-of plan i r x y e f = f ∙ ap (λ (z : Gate). countWhere (eqb i) (coinOwnersAt plan z)) e
+
+pub local-under : (k : ℕ) → k < 2 → false ≡ between 2 4 k
+unfolding between
+local-under k l = rw (lt-leb 2 k l)
+
+pub local-from : (k : ℕ) → 2 ≤ k → leb k 4 ≡ between 2 4 k
+unfolding between
+local-from k l = rw (le-leb 2 k l)
+
 pub first-under : (k i : ℕ) → i < 1 → false ≡ between 1 k i
 unfolding between
 first-under k i l = rw (lt-leb 1 i l)
@@ -131,18 +208,21 @@ pub first-from : (k i : ℕ) → 1 ≤ i → leb i k ≡ between 1 k i
 unfolding between
 first-from k i l = rw (le-leb 1 i l)
 
-pub ruleset coining = (needs, first-under, first-from, coins-input, coins-multiply, coins-random, coins-add, coins-scale, coins-offset, coins-spend)
+pub ruleset coining = (needs, first-under, first-from, coins-input, coins-multiply, coins-random, coins-add, coins-scale, coins-offset, coins-spend, coins-of-five, coins-of-local, coins-of, local-under, local-from)
 
 -- ---- a loop over the gates that counts: k of the first g pass
 module _ (f : Gate → Bool) (bs : List ℕ) (h : Header) (k g : ℕ) (p : Planned bs h) (c : Counted f (planOf bs .gates) k g) where
-  gates-next : g < h .gates → (gate : Gate) (o : ℕ) → gate ≡ gateAt bs g → o ≡ cond (f gate) 1 0 → Counted f (planOf bs .gates) (k + o) (g + 1)
-  gates-next l gate o eg eo = count-next f (planOf bs .gates) k g c o (Input 0) (rw (plan-gates p) l) (rw (plan-gate p g l, ← eg) eo)
+  gates-next : g < h .gates → (o : ℕ) → o ≡ cond (f (gateAt bs g)) 1 0 → Counted f (planOf bs .gates) (k + o) (g + 1)
+  gates-next l o eo = count-next f (planOf bs .gates) k g c o (Input 0) (rw (plan-gates p) l) (rw (plan-gate p g l) eo)
 
   gates-few : k ≤ 1024
   gates-few = omega (arith, c .small, c .within, plan-gates p, p .gates-high)
 
   gates-done : h .gates ≤ g → k ≡ countWhere f (planOf bs .gates)
   gates-done l = counted f (planOf bs .gates) k g c (rw (plan-gates p) l)
+
+pub below-within : {bs : List ℕ} {h : Header} (p : Planned bs h) (l : Layout) (g top : ℕ) → g < top → top ≤ h .gates → l ≡ layoutOf bs → l .head ≤ 32 → Within bs l g
+below-within p l g top a b e f = gate-within p l g (omega arith) e f
 
 -- a loop over the gates below `top` that adds up party i's coins: k at the first g
 pub record Coining (bs : List ℕ) (i top k g : ℕ) : Type 0 where
@@ -168,6 +248,9 @@ module _ (bs : List ℕ) (i top : ℕ) where
         next l =
             rw (add-one, take-suc (planOf bs .gates) g (Input 0) (rw (plan-gates p) l), plan-gate p g l, ← eg, flat-snoc)
             (countWhere-append (eqb i) (flatMap (coinOwnersAt (planOf bs)) (take g (planOf bs .gates))) (coinOwnersAt (planOf bs) gate))
+
+    pub coin-more : g < top → (o : ℕ) → o ≡ countWhere (eqb i) (coinOwnersAt (planOf bs) (gateAt bs g)) → o ≤ 14 → Coining bs i top (k + o) (g + 1)
+    coin-more l o eo few = coin-next l (gateAt bs g) o refl eo few
 
     pub coin-few : k ≤ 14336
     coin-few = omega (arith, c .few, c .within, p .gates-high)
@@ -206,17 +289,17 @@ module _ (bs : List ℕ) (i : ℕ) where
   }
 
   module _ (h : Header) (a b m d g : ℕ) (p : Planned bs h) (c : Tallying bs (h .gates) i a b m d g) where
-    pub tally-next : g < h .gates → (gate : Gate) → gate ≡ gateAt bs g → (k : ℕ) → k ≡ kindOf gate → (tb : Bool) (oa ob om od : ℕ)
-        → oa ≡ cond (eqb k 1) 1 0 → tb ≡ isInputOf i gate → ob ≡ cond tb 1 0 → om ≡ cond (eqb k 5) 1 0
-        → od ≡ countWhere (eqb i) (coinOwnersAt (planOf bs) gate) → od ≤ 14
+    pub tally-next : g < h .gates → (k : ℕ) → k ≡ kindOf (gateAt bs g) → (tb : Bool) (oa ob om od : ℕ)
+        → oa ≡ cond (eqb k 1) 1 0 → tb ≡ isInputOf i (gateAt bs g) → ob ≡ cond tb 1 0 → om ≡ cond (eqb k 5) 1 0
+        → od ≡ countWhere (eqb i) (coinOwnersAt (planOf bs) (gateAt bs g)) → od ≤ 14
         → Tallying bs (h .gates) i (a + oa) (b + ob) (m + om) (d + od) (g + 1)
     unfolding isKind
-    tally-next l gate e k ek tb oa ob om od ea et eb em ed few = record {
-      inputs = gates-next (isKind 1) bs h a g p (c .inputs) l gate oa e (rw (← ek) ea);
-      own = gates-next (isInputOf i) bs h b g p (c .own) l gate ob e (rw (← et) eb);
-      multiplies = gates-next (isKind 5) bs h m g p (c .multiplies) l gate om e (rw (← ek) em);
-      few = let one : cond (eqb k 1) 1 0 + cond (eqb k 5) 1 0 ≤ 1 = rw ek (one-kind gate) in omega (arith, c .few);
-      coins = coin-next bs i (h .gates) h d g p (omega arith) (c .coins) l gate od e ed few;
+    tally-next l k ek tb oa ob om od ea et eb em ed few = record {
+      inputs = gates-next (isKind 1) bs h a g p (c .inputs) l oa (rw (← ek) ea);
+      own = gates-next (isInputOf i) bs h b g p (c .own) l ob (rw (← et) eb);
+      multiplies = gates-next (isKind 5) bs h m g p (c .multiplies) l om (rw (← ek) em);
+      few = let one : cond (eqb k 1) 1 0 + cond (eqb k 5) 1 0 ≤ 1 = rw ek (one-kind (gateAt bs g)) in omega (arith, c .few);
+      coins = coin-more bs i (h .gates) h d g p (omega arith) (c .coins) l od ed few;
     }
 
     pub tally-fits : d ≤ 14336
@@ -234,7 +317,7 @@ module _ (bs : List ℕ) (i : ℕ) where
       coins-few = tally-fits;
     }
 
-pub ruleset counting = (needs, tally-none, tally-next, tally-fits, tallied, coin-none, coin-next, coin-few, coin-done)
+pub ruleset counting = (needs, gate-within, below-within, tally-none, tally-next, tally-fits, tallied, coin-none, coin-more, coin-few, coin-done)
 
 -- ---- coins at a gate
 module _ (plan : Plan) (i : ℕ) where

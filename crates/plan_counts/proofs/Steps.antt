@@ -9,8 +9,7 @@ use Prim.Native.Nat.{ℕ, zero, suc, _+_, _-_, _*_, _<_, _≤_}
 use native.Mathlib.Numerals.{add-one}
 use native.Mathlib.Omega.{arith}
 use borrow.Author.Needs.{needs}
-use borrow.Author.Tests.{eqb-true}
-use lib.Dec.{eqb, leb}
+use lib.Dec.{leb}
 use lib.ListN.{length, getD, drop, drop-of-length-le}
 use lib.Seq.{drop-cons}
 use Rattle.plan.specs.declared.Gate.{Gate}
@@ -20,11 +19,12 @@ use Rattle.plan.specs.declared.Step.{Step}
 use Rattle.plan.specs.declared.Step.the-variants.{DealInputs, DealProduct, SendOuts}
 use Rattle.plan.specs.declared.Header.{Header}
 use Rattle.plan.specs.Plans.{Plan, kindOf, multiplySteps, stepsAt, stepsFrom, steps, stepAt}
-use Rattle.plan.specs.File.{between, gatePlace, gateOf, gateFrom, gateAt, gateOk, planOf}
+use Rattle.plan.specs.File.{gateAt, planOf}
 use Rattle.plan.specs.Planned.{Planned}
-use Rattle.plan.proofs.Planned.{plan-gates, plan-gate}
-use Rattle.plan.proofs.Valid.{plain, gate-kept}
+use Rattle.plan.proofs.Planned.{plan-gates, plan-gate, gate-within}
+use Rattle.plan.proofs.Valid.{plain}
 use Rattle.plan_counts.specs.Counts.{IsGate, Stepped}
+use Rattle.plan_counts.proofs.Counts.{rounds-as}
 
 -- ---- a gate's step
 pub step-as : (g : ℕ) (x q : Gate) (s : Step) → x ≡ q → s ≡ getD (stepsAt Reduction g q) 0 SendOuts → s ≡ getD (stepsAt Reduction g x) 0 SendOuts
@@ -62,32 +62,6 @@ stepped-at plan g (Offset a c) i l = tt
 stepped-at plan g (Multiply a b) i l = i
 stepped-at plan g Random i l = absurd (omega arith)
 stepped-at plan g (Spend a b) i l = absurd (omega arith)
-
--- ---- whether a gate takes rounds, by its first byte
-rounds-of : (n p g kind second a b : ℕ) → gateOk n p g (gateOf kind second a b) ≡ true → leb 5 kind ≡ leb 5 (kindOf (gateOf kind second a b))
-unfolding gateOf gateOk kindOf between
-rounds-of n p g kind second a b ok = pick (eqb second 0) (eqb kind 1) (eqb b 0) (eqb kind 2) (eqb kind 3) (eqb kind 4) (eqb kind 5) refl refl refl refl refl ok
-  where
-    read : (s k1 z k2 k3 k4 k5 : Bool) → Gate
-    read s k1 z k2 k3 k4 k5 =
-        cond s (cond k1 (cond z (Input a) (Input 0)) (cond k2 (Add a b) (cond k3 (Scale a b) (cond k4 (Offset a b) (cond k5 (Multiply a b) (Input 0)))))) (Input 0)
-
-    pick :
-        (s k1 z k2 k3 k4 k5 : Bool) → eqb kind 1 ≡ k1 → eqb kind 2 ≡ k2 → eqb kind 3 ≡ k3 → eqb kind 4 ≡ k4 → eqb kind 5 ≡ k5
-        → gateOk n p g (read s k1 z k2 k3 k4 k5) ≡ true → leb 5 kind ≡ leb 5 (kindOf (read s k1 z k2 k3 k4 k5))
-    pick false k1 z k2 k3 k4 k5 e1 e2 e3 e4 e5 h = absurd (no true refl (sym h))
-    pick true true true k2 k3 k4 k5 e1 e2 e3 e4 e5 h = ap (leb 5) (eqb-true kind 1 e1)
-    pick true true false k2 k3 k4 k5 e1 e2 e3 e4 e5 h = ap (leb 5) (eqb-true kind 1 e1)
-    pick true false z true k3 k4 k5 e1 e2 e3 e4 e5 h = ap (leb 5) (eqb-true kind 2 e2)
-    pick true false z false true k4 k5 e1 e2 e3 e4 e5 h = ap (leb 5) (eqb-true kind 3 e3)
-    pick true false z false false true k5 e1 e2 e3 e4 e5 h = ap (leb 5) (eqb-true kind 4 e4)
-    pick true false z false false false true e1 e2 e3 e4 e5 h = ap (leb 5) (eqb-true kind 5 e5)
-    pick true false z false false false false e1 e2 e3 e4 e5 h = absurd (no true refl (sym h))
-
-pub rounds-byte : (bs : List ℕ) (h : Header) (g k : ℕ) → Planned bs h → g < h .gates → k ≡ getD bs (gatePlace bs g) 0 → leb 5 k ≡ leb 5 (kindOf (gateAt bs g))
-unfolding gateAt gateFrom
-rounds-byte bs h g k p l e =
-    ap (leb 5) e ∙ rounds-of (h .n) (h .field .p) g (getD bs (gatePlace bs g) 0) _ _ _ (gate-kept bs h p g (gateAt bs g) l refl)
 
 -- ---- the pass: at gate g, the step is the one after so many that are left
 pub record Stepping (bs : List ℕ) (gates k left g : ℕ) : Type 0 where
@@ -162,4 +136,4 @@ module _ (plan : Plan) where
   unfolding Stepped
   stepped-product s g a b i e = subst (Stepped plan) e i
 
-pub ruleset stepping = (needs, rounds-byte, step-as, steps-begin, step-found, step-of, step-passed, step-skipped, step-none, outs-stepped, inputs-stepped, step-first, step-later)
+pub ruleset stepping = (needs, rounds-as, gate-within, step-as, steps-begin, step-found, step-of, step-passed, step-skipped, step-none, outs-stepped, inputs-stepped, step-first, step-later)

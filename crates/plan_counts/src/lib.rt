@@ -13,7 +13,7 @@ ghost use Rattle.numbers.specs.Tables.{countWhere};
 ghost use Rattle.plan.specs.declared.Step.the-variants.{SendOuts};
 ghost use Rattle.plan.specs.declared.Rule.the-variants.{Reduction};
 ghost use Rattle.plan.specs.File.{between, gateAt, planOf};
-ghost use Rattle.plan.specs.Planned.{Planned};
+ghost use Rattle.plan.specs.Planned.{Planned, Within};
 ghost use Rattle.plan.specs.Plans.{kindOf, isInputOf, coinOwnersAt, stepsAt, stepAt, lastCall, inputCount, ownInputCount, coinCount, ownCoinCount};
 ghost use Rattle.plan_counts.specs.Counts.{Tallied, Stepped};
 
@@ -99,25 +99,73 @@ pub fn own_coins_at(plan: &[u8], h: Header, i: usize, gate: Gate) -> usize
     }
 }
 
+// ---- by a gate's kind, which its first byte gives: every gate of a plan that passes keeps its kind's rule
+
+fn kind_of(plan: &[u8], h: Header, l: Layout, g: usize) -> usize
+    requires { ⌜ Planned (now plan) h ⌝ }
+    requires { ⌜ Within (now plan) l g ⌝ }
+    requires { ⌜ g < h .gates ⌝ }
+    ensures { λ r. ⌜ r ≡ kindOf (gateAt (now (plan .entry)) g) ⌝ }
+{
+    plan::kind_in(plan, l, g)
+}
+
+// Whether gate g, of kind k, is an input of party i.
+fn own_by_kind(plan: &[u8], l: Layout, i: usize, g: usize, k: usize) -> bool
+    requires { ⌜ Within (now plan) l g ⌝ }
+    requires { ⌜ k ≡ kindOf (gateAt (now plan) g) ⌝ }
+    ensures { λ r. ⌜ r ≡ isInputOf i (gateAt (now (plan .entry)) g) ⌝ }
+{
+    if k != 1 {
+        return false;
+    }
+    is_input_of(i, plan::gate_in(plan, l, g))
+}
+
+// Party i's coins at gate g, of kind k.
+fn coins_by_kind(plan: &[u8], h: Header, l: Layout, i: usize, g: usize, k: usize) -> usize
+    requires { ⌜ Planned (now plan) h ⌝ }
+    requires { ⌜ Within (now plan) l g ⌝ }
+    requires { ⌜ k ≡ kindOf (gateAt (now plan) g) ⌝ }
+    ensures { λ r. ⌜ record { eq : r ≡ countWhere (eqb i) (coinOwnersAt (planOf (now (plan .entry))) (gateAt (now (plan .entry)) g)); le : r ≤ 14 } ⌝ }
+{
+    if k == 5 {
+        return coins_if(h.t, is_first(h.t + h.t + 1, i));
+    }
+    if is_local(k) {
+        return 0;
+    }
+    own_coins_at(plan, h, i, plan::gate_in(plan, l, g))
+}
+
+// Whether the gates of a kind are worked on shares alone.
+fn is_local(k: usize) -> bool
+    ensures { λ r. ⌜ r ≡ between 2 4 k ⌝ }
+{
+    if k < 2 {
+        return false;
+    }
+    k <= 4
+}
+
 // A plan's tally for party i, in one pass over its gates.
 pub fn tally_of(plan: &[u8], h: Header, i: usize) -> Tally
     requires { ⌜ Planned (now plan) h ⌝ }
     ensures { λ r. ⌜ Tallied (planOf (now (plan .entry))) i r ⌝ }
 {
     let gates = h.gates;
+    let l = plan::layout_of(plan);
     let mut inputs: usize = 0;
     let mut own: usize = 0;
     let mut multiplies: usize = 0;
     let mut coins: usize = 0;
-    let l = plan::layout_of(plan);
     let mut g: usize = 0;
     while g < gates {
-        let gate = plan::gate_in(plan, l, g);
-        let k = kind(gate);
+        let k = kind_of(plan, h, l, g);
         inputs += numbers::one_if(k == 1);
-        own += numbers::one_if(is_input_of(i, gate));
+        own += numbers::one_if(own_by_kind(plan, l, i, g, k));
         multiplies += numbers::one_if(k == 5);
-        coins += own_coins_at(plan, h, i, gate);
+        coins += coins_by_kind(plan, h, l, i, g, k);
         g += 1;
     }
     Tally {
@@ -195,11 +243,11 @@ pub fn coins_below(plan: &[u8], h: Header, i: usize, g: usize) -> usize
       le : r ≤ 14336;
     } ⌝ }
 {
-    let mut k: usize = 0;
     let l = plan::layout_of(plan);
+    let mut k: usize = 0;
     let mut below: usize = 0;
     while below < g {
-        k += own_coins_at(plan, h, i, plan::gate_in(plan, l, below));
+        k += coins_by_kind(plan, h, l, i, below, kind_of(plan, h, l, below));
         below += 1;
     }
     k
@@ -222,13 +270,14 @@ fn step_of(g: usize, gate: Gate) -> Step
     }
 }
 
-// Whether gate g takes rounds, by its first byte alone: every gate of a plan that passes keeps its kind's rule.
+// Whether gate g takes rounds.
 fn rounds_at(plan: &[u8], h: Header, l: Layout, g: usize) -> bool
     requires { ⌜ Planned (now plan) h ⌝ }
+    requires { ⌜ Within (now plan) l g ⌝ }
     requires { ⌜ g < h .gates ⌝ }
     ensures { λ r. ⌜ r ≡ leb 5 (kindOf (gateAt (now (plan .entry)) g)) ⌝ }
 {
-    5 <= plan::kind_in(plan, l, g)
+    5 <= kind_of(plan, h, l, g)
 }
 
 // The step that the calls of number k send.

@@ -1,22 +1,26 @@
+use native.Mathlib.Omega.{arith}
 use Prim.Native.Nat.{_-_}
 use Rattle.plan_counts.proofs.Counts.{Coining, counting}
 use Rattle.plan_counts.proofs.coins_below.Statement.{statement}
 use Rattle.plan_counts.proofs.coins_below.Tie as tie
 
 abbrev Inv-loop : tie.InvT-loop
-Inv-loop plan h i g k₀ below₀ k below = Coining plan i g k below
+Inv-loop plan h i g l k₀ below₀ k below = Coining plan i g k below
 
 abbrev μ-loop : tie.MeasureT-loop
-μ-loop plan h i g k₀ below₀ k below = g - below
+μ-loop plan h i g l k₀ below₀ k below = g - below
+
+layout-of-requires : tie.Need-layout-of-requires Inv-loop μ-loop
+layout-of-requires c κs = search counting
 
 loop-holds : tie.Need-loop-holds Inv-loop μ-loop
 loop-holds c = search counting
 
-gate-at-requires : tie.Need-gate-at-requires Inv-loop μ-loop
-gate-at-requires c κs = search counting
+kind-of-requires : tie.Need-kind-of-requires Inv-loop μ-loop
+kind-of-requires c κs = (search counting, (search counting, omega arith))
 
-own-coins-at-requires : tie.Need-own-coins-at-requires Inv-loop μ-loop
-own-coins-at-requires c κs = search counting
+coins-by-kind-requires : tie.Need-coins-by-kind-requires Inv-loop μ-loop
+coins-by-kind-requires c κs = search counting
 
 add-k : tie.Need-add-k Inv-loop μ-loop
 add-k c = search counting
@@ -39,9 +43,10 @@ coins-below-spec =
     (tie.spec
     Inv-loop
     μ-loop
+    layout-of-requires
     loop-holds
-    gate-at-requires
-    own-coins-at-requires
+    kind-of-requires
+    coins-by-kind-requires
     add-k
     add-below
     loop-less

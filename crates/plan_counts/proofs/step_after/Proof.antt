@@ -5,10 +5,13 @@ use Rattle.plan_counts.proofs.step_after.Statement.{statement}
 use Rattle.plan_counts.proofs.step_after.Tie as tie
 
 abbrev Inv-loop : tie.InvT-loop
-Inv-loop plan h k gates left₀ g₀ left g = Stepping plan gates k left g
+Inv-loop plan h k gates l left₀ g₀ left g = Stepping plan gates k left g
 
 abbrev μ-loop : tie.MeasureT-loop
-μ-loop plan h k gates left₀ g₀ left g = gates - g
+μ-loop plan h k gates l left₀ g₀ left g = gates - g
+
+layout-of-requires : tie.Need-layout-of-requires Inv-loop μ-loop
+layout-of-requires c κs = search stepping
 
 loop-holds : tie.Need-loop-holds Inv-loop μ-loop
 loop-holds c = search stepping
@@ -16,8 +19,8 @@ loop-holds c = search stepping
 rounds-at-requires : tie.Need-rounds-at-requires Inv-loop μ-loop
 rounds-at-requires c κs = search stepping
 
-gate-at-requires : tie.Need-gate-at-requires Inv-loop μ-loop
-gate-at-requires c κs = search stepping
+known-gate-requires : tie.Need-known-gate-requires Inv-loop μ-loop
+known-gate-requires c κs = search stepping
 
 step-of-requires : tie.Need-step-of-requires Inv-loop μ-loop
 step-of-requires c κs = search stepping
@@ -46,9 +49,10 @@ step-after-spec =
     (tie.spec
     Inv-loop
     μ-loop
+    layout-of-requires
     loop-holds
     rounds-at-requires
-    gate-at-requires
+    known-gate-requires
     step-of-requires
     returns
     sub-left

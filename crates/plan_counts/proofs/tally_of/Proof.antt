@@ -1,22 +1,22 @@
 use Prim.Native.Nat.{_-_}
-use Rattle.plan_counts.proofs.Counts.{Tallying, counting}
+use Rattle.plan_counts.proofs.Counts.{Tallying, tally-next, counting}
 use Rattle.plan_counts.proofs.tally_of.Statement.{statement}
 use Rattle.plan_counts.proofs.tally_of.Tie as tie
 
 abbrev Inv-loop : tie.InvT-loop
-Inv-loop plan h i gates inputs₀ own₀ multiplies₀ coins₀ g₀ inputs own multiplies coins g = Tallying plan gates i inputs own multiplies coins g
+Inv-loop plan h i gates l inputs₀ own₀ multiplies₀ coins₀ g₀ inputs own multiplies coins g = Tallying plan gates i inputs own multiplies coins g
 
 abbrev μ-loop : tie.MeasureT-loop
-μ-loop plan h i gates inputs₀ own₀ multiplies₀ coins₀ g₀ inputs own multiplies coins g = gates - g
+μ-loop plan h i gates l inputs₀ own₀ multiplies₀ coins₀ g₀ inputs own multiplies coins g = gates - g
+
+layout-of-requires : tie.Need-layout-of-requires Inv-loop μ-loop
+layout-of-requires c κs = search counting
 
 loop-holds : tie.Need-loop-holds Inv-loop μ-loop
 loop-holds c = search counting
 
-gate-at-requires : tie.Need-gate-at-requires Inv-loop μ-loop
-gate-at-requires c κs = search counting
-
-kind-requires : tie.Need-kind-requires Inv-loop μ-loop
-kind-requires c κs = search counting
+kind-of-requires : tie.Need-kind-of-requires Inv-loop μ-loop
+kind-of-requires c κs = search counting
 
 one-if-requires : tie.Need-one-if-requires Inv-loop μ-loop
 one-if-requires c κs = search counting
@@ -24,8 +24,8 @@ one-if-requires c κs = search counting
 add-inputs : tie.Need-add-inputs Inv-loop μ-loop
 add-inputs c = search counting
 
-is-input-of-requires : tie.Need-is-input-of-requires Inv-loop μ-loop
-is-input-of-requires c κs = search counting
+own-by-kind-requires : tie.Need-own-by-kind-requires Inv-loop μ-loop
+own-by-kind-requires c κs = search counting
 
 one-if-requires-2 : tie.Need-one-if-requires-2 Inv-loop μ-loop
 one-if-requires-2 c κs = search counting
@@ -39,8 +39,8 @@ one-if-requires-3 c κs = search counting
 add-multiplies : tie.Need-add-multiplies Inv-loop μ-loop
 add-multiplies c = search counting
 
-own-coins-at-requires : tie.Need-own-coins-at-requires Inv-loop μ-loop
-own-coins-at-requires c κs = search counting
+coins-by-kind-requires : tie.Need-coins-by-kind-requires Inv-loop μ-loop
+coins-by-kind-requires c κs = search counting
 
 add-coins : tie.Need-add-coins Inv-loop μ-loop
 add-coins c = search counting
@@ -52,7 +52,11 @@ loop-less : tie.Need-loop-less Inv-loop μ-loop
 loop-less c = search counting
 
 loop-again : tie.Need-loop-again Inv-loop μ-loop
-loop-again c = search counting
+loop-again c =
+    tally-next _ _ _ _ _ _ _ _ (c .before .before .before .before .before .before .before .before .before .before .pre) (c .before .before .before .before .before .before .before .loop .inv)
+    (c .before .before .before .before .before .before .loop-test .taken) _ (c .before .before .before .before .before .kind-of .ensures) _ _ _ _ _
+    (c .before .before .before .before .one-if .ensures .eq) (c .before .before .before .own-by-kind .ensures)
+    (c .before .before .one-if2 .ensures .eq) (c .before .one-if3 .ensures .eq) (c .coins-by-kind .ensures .eq) (c .coins-by-kind .ensures .le)
 
 returns : tie.Need-returns Inv-loop μ-loop
 returns c = search counting
@@ -63,17 +67,17 @@ tally-of-spec =
     (tie.spec
     Inv-loop
     μ-loop
+    layout-of-requires
     loop-holds
-    gate-at-requires
-    kind-requires
+    kind-of-requires
     one-if-requires
     add-inputs
-    is-input-of-requires
+    own-by-kind-requires
     one-if-requires-2
     add-own
     one-if-requires-3
     add-multiplies
-    own-coins-at-requires
+    coins-by-kind-requires
     add-coins
     add-g
     loop-less
