@@ -13,8 +13,8 @@ abbrev μ-loop : tie.MeasureT-loop
 loop-holds : tie.Need-loop-holds Inv-loop μ-loop
 loop-holds c = search comparing
 
-gate-at-requires : tie.Need-gate-at-requires Inv-loop μ-loop
-gate-at-requires c κs = search comparing
+known-gate-requires : tie.Need-known-gate-requires Inv-loop μ-loop
+known-gate-requires c κs = search comparing
 
 read-requires : tie.Need-read-requires Inv-loop μ-loop
 read-requires c κs = search comparing
@@ -53,7 +53,7 @@ first-input-off-spec =
     Inv-loop
     μ-loop
     loop-holds
-    gate-at-requires
+    known-gate-requires
     read-requires
     read-requires-2
     gate-agrees-requires

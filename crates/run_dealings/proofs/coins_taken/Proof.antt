@@ -3,8 +3,8 @@ use borrow.Author.Needs.{needs}
 use Rattle.run_dealings.proofs.coins_taken.Statement.{statement}
 use Rattle.run_dealings.proofs.coins_taken.Tie as tie
 
-gate-at-requires : tie.Need-gate-at-requires
-gate-at-requires c κs = search needs
+known-gate-requires : tie.Need-known-gate-requires
+known-gate-requires c κs = search needs
 
 enum-told : tie.Need-enum-told
 enum-told c = search needs
@@ -64,7 +64,7 @@ pub coins-taken-spec : {M : Type 1} → statement M
 coins-taken-spec =
     tie.close
     (tie.spec
-    gate-at-requires
+    known-gate-requires
     enum-told
     enum-told-2
     enum-told-3

@@ -2,8 +2,8 @@ use Rattle.run_ideal.proofs.IdealLaws.{valuing}
 use Rattle.run_ideal.proofs.gate_value.Statement.{statement}
 use Rattle.run_ideal.proofs.gate_value.Tie as tie
 
-gate-at-requires : tie.Need-gate-at-requires
-gate-at-requires c κs = search valuing
+known-gate-requires : tie.Need-known-gate-requires
+known-gate-requires c κs = search valuing
 
 enum-told : tie.Need-enum-told
 enum-told c = search valuing
@@ -93,7 +93,7 @@ pub gate-value-spec : {M : Type 1} → statement M
 gate-value-spec =
     tie.close
     (tie.spec
-    gate-at-requires
+    known-gate-requires
     enum-told
     read-requires
     enum-known-a

@@ -9,8 +9,8 @@ add-dealers c = search needs
 add-dealers-2 : tie.Need-add-dealers-2
 add-dealers-2 c = search needs
 
-gate-at-requires : tie.Need-gate-at-requires
-gate-at-requires c κs = search needs
+known-gate-requires : tie.Need-known-gate-requires
+known-gate-requires c κs = search needs
 
 enum-told : tie.Need-enum-told
 enum-told c = search needs
@@ -81,7 +81,7 @@ gate-row-spec =
     (tie.spec
     add-dealers
     add-dealers-2
-    gate-at-requires
+    known-gate-requires
     enum-told
     read-requires
     input-row-requires

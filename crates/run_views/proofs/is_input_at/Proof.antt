@@ -8,8 +8,8 @@ byte-requires c κs = search sorting
 returns : tie.Need-returns
 returns c = search sorting
 
-gate-at-requires : tie.Need-gate-at-requires
-gate-at-requires c κs = search sorting
+known-gate-requires : tie.Need-known-gate-requires
+known-gate-requires c κs = search sorting
 
 is-input-of-requires : tie.Need-is-input-of-requires
 is-input-of-requires c κs = search sorting
@@ -19,4 +19,4 @@ returns-2 c = search sorting
 
 pub is-input-at-spec : {M : Type 1} → statement M
 is-input-at-spec =
-    tie.close (tie.spec byte-requires returns gate-at-requires is-input-of-requires returns-2)
+    tie.close (tie.spec byte-requires returns known-gate-requires is-input-of-requires returns-2)

@@ -3,8 +3,8 @@ use borrow.Author.Needs.{needs}
 use Rattle.run_views.proofs.put_input.Statement.{statement}
 use Rattle.run_views.proofs.put_input.Tie as tie
 
-gate-at-requires : tie.Need-gate-at-requires
-gate-at-requires c κs = search needs
+known-gate-requires : tie.Need-known-gate-requires
+known-gate-requires c κs = search needs
 
 is-input-of-requires : tie.Need-is-input-of-requires
 is-input-of-requires c κs = search needs
@@ -25,7 +25,7 @@ pub put-input-spec : {M : Type 1} → statement M
 put-input-spec =
     tie.close
     (tie.spec
-    gate-at-requires
+    known-gate-requires
     is-input-of-requires
     read-requires
     put-if-requires

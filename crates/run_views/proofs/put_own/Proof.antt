@@ -3,8 +3,8 @@ use borrow.Author.Needs.{needs}
 use Rattle.run_views.proofs.put_own.Statement.{statement}
 use Rattle.run_views.proofs.put_own.Tie as tie
 
-gate-at-requires : tie.Need-gate-at-requires
-gate-at-requires c κs = search needs
+known-gate-requires : tie.Need-known-gate-requires
+known-gate-requires c κs = search needs
 
 enum-known-s : tie.Need-enum-known-s
 enum-known-s c = search needs
@@ -76,7 +76,7 @@ pub put-own-spec : {M : Type 1} → statement M
 put-own-spec =
     tie.close
     (tie.spec
-    gate-at-requires
+    known-gate-requires
     enum-known-s
     put-dealing-requires
     enum-told

@@ -2,8 +2,8 @@ use Rattle.run_views.proofs.ViewLaws.{gate-pieces}
 use Rattle.run_views.proofs.put_steps.Statement.{statement}
 use Rattle.run_views.proofs.put_steps.Tie as tie
 
-gate-at-requires : tie.Need-gate-at-requires
-gate-at-requires c κs = search gate-pieces
+known-gate-requires : tie.Need-known-gate-requires
+known-gate-requires c κs = search gate-pieces
 
 enum-told : tie.Need-enum-told
 enum-told c = search gate-pieces
@@ -57,7 +57,7 @@ pub put-steps-spec : {M : Type 1} → statement M
 put-steps-spec =
     tie.close
     (tie.spec
-    gate-at-requires
+    known-gate-requires
     enum-told
     enum-told-2
     enum-told-3

@@ -12,8 +12,8 @@ abbrev μ-loop : tie.MeasureT-loop
 loop-holds : tie.Need-loop-holds Inv-loop μ-loop
 loop-holds c = search learning-own
 
-gate-at-requires : tie.Need-gate-at-requires Inv-loop μ-loop
-gate-at-requires c κs = search learning-own
+known-gate-requires : tie.Need-known-gate-requires Inv-loop μ-loop
+known-gate-requires c κs = search learning-own
 
 learn-input-requires : tie.Need-learn-input-requires Inv-loop μ-loop
 learn-input-requires c κs = (search learning-own, (search learning-own, (search learning-own, search learning-own)))
@@ -40,7 +40,7 @@ learn-inputs-of-spec =
     Inv-loop
     μ-loop
     loop-holds
-    gate-at-requires
+    known-gate-requires
     learn-input-requires
     add-g
     loop-less

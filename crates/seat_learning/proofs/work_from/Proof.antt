@@ -12,8 +12,8 @@ abbrev μ-loop : tie.MeasureT-loop
 loop-holds : tie.Need-loop-holds Inv-loop μ-loop
 loop-holds c = search going-on
 
-gate-at-requires : tie.Need-gate-at-requires Inv-loop μ-loop
-gate-at-requires c κs = search going-on
+known-gate-requires : tie.Need-known-gate-requires Inv-loop μ-loop
+known-gate-requires c κs = search going-on
 
 takes-rounds-requires : tie.Need-takes-rounds-requires Inv-loop μ-loop
 takes-rounds-requires c κs = search going-on
@@ -49,7 +49,7 @@ work-from-spec =
     Inv-loop
     μ-loop
     loop-holds
-    gate-at-requires
+    known-gate-requires
     takes-rounds-requires
     same-length
     returns

@@ -12,8 +12,8 @@ abbrev μ-loop : tie.MeasureT-loop
 loop-holds : tie.Need-loop-holds Inv-loop μ-loop
 loop-holds c = search inputting
 
-gate-at-requires : tie.Need-gate-at-requires Inv-loop μ-loop
-gate-at-requires c κs = search inputting
+known-gate-requires : tie.Need-known-gate-requires Inv-loop μ-loop
+known-gate-requires c κs = search inputting
 
 sub-read : tie.Need-sub-read Inv-loop μ-loop
 sub-read c = search inputting
@@ -52,7 +52,7 @@ send-inputs-to-spec =
     Inv-loop
     μ-loop
     loop-holds
-    gate-at-requires
+    known-gate-requires
     sub-read
     read-requires
     send-input-requires
