@@ -55,7 +55,7 @@ fn match_coins(
 
 // ---- both runs
 
-// Gate g's row in both tables: the first run's with the coins, the second run's with the new ones.
+// Gate g's row in both tables: the first run's with the coins, the second run's with the new ones. No piece is seen, so none is dealt.
 fn step_both(
     plan: &[u8],
     h: Header,
@@ -78,6 +78,7 @@ fn step_both(
     ensures { λ _. ⌜ Stepped (planOf (now (plan .entry))) (h .n) (gateAt (now (plan .entry)) g) g (drop next (numbers (now (second .entry)))) (drop at (numbers (now (new .entry)))) (now (after .entry)) (now (after .exit)) ⌝ }
 {
     run_tables::step(
+        false,
         plan,
         h,
         points,
@@ -91,6 +92,7 @@ fn step_both(
         before,
     );
     run_tables::step(
+        false,
         plan,
         h,
         points,

@@ -3,4 +3,5 @@ pub mod PowerLaws
 pub mod PolynomialLaws
 pub mod ColumnLaws
 pub mod DealingLaws
+pub mod MixtureLaws
 pub mod CoinLaws

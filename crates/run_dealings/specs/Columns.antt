@@ -1,5 +1,5 @@
 -- The grid of pieces of a multiply gate, row the dealer and column the receiver, and the sums of its columns.
-use Prim.Native.Nat.{ℕ, zero, suc, _*_, _%_}
+use Prim.Native.Nat.{ℕ, zero, suc, _+_, _*_, _%_}
 use mathlib.Core.Path.{_≡_}
 use mathlib.Core.List.{List, [], _∷_, map}
 use lib.ListN.{length, take, drop, getD, set}
@@ -46,6 +46,13 @@ columnAt p k points polynomials m j = piecesBy p k (powers p (getD points j 0) k
 -- the sum of the column at point x
 unfoldable pub shareAt : ℕ → ℕ → List ℕ → List ℕ → ℕ → ℕ
 shareAt p k ws polynomials x = columnSum p ws (piecesBy p k (powers p x k) polynomials (length ws))
+
+-- coefficient i of the weighted sum of these polynomials, and the sum
+unfoldable pub mixedCoefficient : ℕ → ℕ → List ℕ → List ℕ → ℕ → ℕ
+mixedCoefficient p k ws polynomials i = dot p ws (tab (λ d. getD polynomials (k * d + i) 0) (length ws))
+
+unfoldable pub mixtureOf : ℕ → ℕ → List ℕ → List ℕ → List ℕ
+mixtureOf p k ws polynomials = tab (mixedCoefficient p k ws polynomials) k
 
 -- a grid with the first entries of column j set
 unfoldable pub withColumn : ℕ → List ℕ → List (List ℕ) → List (List ℕ)

@@ -14,7 +14,7 @@ ghost use Rattle.plan.specs.Plans.{coinOwnersAt};
 ghost use Rattle.plan.specs.File.{gateAt, planOf};
 ghost use Rattle.plan.specs.Planned.{Planned};
 ghost use Rattle.run_dealings.specs.Rows.{terms, powers, powerRows, productsOf, sharedBy, mixedAt, Powered, Dealers, Weighted, Coined, Rowed};
-ghost use Rattle.run_dealings.specs.Columns.{piecesBy, columnAt, columnSum, shareAt, withColumn, withColumns};
+ghost use Rattle.run_dealings.specs.Columns.{piecesBy, columnAt, columnSum, shareAt, mixedCoefficient, mixtureOf, withColumn, withColumns};
 
 // ---- what is worked out once for a plan
 
@@ -284,8 +284,127 @@ fn shares(
     shares_by(f, false, t, points, rows, weights, polynomials)
 }
 
-// A multiply gate's row: the dealers' products are dealt, and each receiver's pieces weighed and summed.
+// ---- one dealing
+
+// The pieces of a dealing: the polynomial's values at the points, by their power rows.
+fn dealing(f: Field, points: &[u64], rows: &[u64], polynomial: &[u64]) -> [u64; 15]
+    requires { ⌜ Ready (f .p) ⌝ }
+    requires { ⌜ (length (now points) ≤ 15) × (length (now polynomial) ≤ 16) ⌝ }
+    requires { ⌜ Powered (f .p) (length (now polynomial)) (now points) (now rows) ⌝ }
+    requires { ⌜ allBelow (f .p) (now polynomial) ≡ true ⌝ }
+    ensures { λ r. ⌜ take (length (now (points .entry))) r ≡ map (eval (f .p) (now (polynomial .entry))) (now (points .entry)) ⌝ }
+{
+    let wide = f.is_wide();
+    let m = f.reciprocal();
+    let k = polynomial.len();
+    let mut row = [0u64; 15];
+    let mut at: usize = 0;
+    let mut j: usize = 0;
+    while j < points.len() {
+        let e = at + k;
+        row[j] = sharing::dot_by(f, wide, m, &rows[at..e], polynomial);
+        at = e;
+        j += 1;
+    }
+    row
+}
+
+// ---- the same where no piece is seen: the polynomials are weighed and summed, and the sum is dealt
+
+// Coefficient i of the weighted sum of these polynomials, k coefficients each. `wide` says whether the prime is, and m is its reciprocal.
+fn mixed_coefficient(
+    f: Field,
+    wide: bool,
+    m: u64,
+    weights: &[u64],
+    k: usize,
+    polynomials: &[u64],
+    i: usize,
+) -> u64
+    requires { ⌜ Ready (f .p) ⌝ }
+    requires { ⌜ wide ≡ isWide (f .p) ⌝ }
+    requires { ⌜ m ≡ reciprocal (f .p) ⌝ }
+    requires { ⌜ (length (now weights) ≤ 15) × (allBelow (f .p) (now weights) ≡ true) ⌝ }
+    requires { ⌜ (k * length (now weights) ≤ length (now polynomials)) × (allBelow (f .p) (now polynomials) ≡ true) ⌝ }
+    requires { ⌜ i < k ⌝ }
+    ensures { λ r. ⌜ Is (f .p) (mixedCoefficient (f .p) k (now (weights .entry)) (now (polynomials .entry)) i) r ⌝ }
+{
+    let mut sum: u64 = 0;
+    let mut at: usize = i;
+    let mut d: usize = 0;
+    while d < weights.len() {
+        sum = f.add_product(wide, sum, weights[d], polynomials[at]);
+        at += k;
+        d += 1;
+    }
+    f.reduced(wide, m, sum)
+}
+
+// The weighted sum of these polynomials, of as many coefficients each as there is room for.
+fn mix(f: Field, weights: &[u64], polynomials: &[u64], out: &mut [u64])
+    requires { ⌜ Ready (f .p) ⌝ }
+    requires { ⌜ (length (now weights) ≤ 15) × (allBelow (f .p) (now weights) ≡ true) ⌝ }
+    requires { ⌜ (length (now out) * length (now weights) ≤ length (now polynomials)) × (allBelow (f .p) (now polynomials) ≡ true) ⌝ }
+    ensures { λ _. ⌜ now (out .exit) ≡ mixtureOf (f .p) (length (now (out .entry))) (now (weights .entry)) (now (polynomials .entry)) ⌝ }
+{
+    let wide = f.is_wide();
+    let m = f.reciprocal();
+    let k = out.len();
+    let mut i: usize = 0;
+    while i < out.len() {
+        out[i] = mixed_coefficient(f, wide, m, weights, k, polynomials, i);
+        i += 1;
+    }
+}
+
+// Every receiver's share, by the sum of these polynomials.
+fn mixed_shares(
+    f: Field,
+    t: usize,
+    points: &[u64],
+    rows: &[u64],
+    weights: &[u64],
+    polynomials: &[u64],
+) -> [u64; 15]
+    requires { ⌜ Ready (f .p) ⌝ }
+    requires { ⌜ (t < 8) × (length (now points) ≤ 15) ⌝ }
+    requires { ⌜ Powered (f .p) (terms t) (now points) (now rows) ⌝ }
+    requires { ⌜ (length (now weights) ≤ 15) × (allBelow (f .p) (now weights) ≡ true) ⌝ }
+    requires { ⌜ (terms t * length (now weights) ≤ length (now polynomials)) × (allBelow (f .p) (now polynomials) ≡ true) ⌝ }
+    ensures { λ r. ⌜ take (length (now (points .entry))) r ≡ map (shareAt (f .p) (terms t) (now (weights .entry)) (now (polynomials .entry))) (now (points .entry)) ⌝ }
+{
+    let k = terms(t);
+    let mut mixed = [0u64; 16];
+    mix(f, weights, polynomials, &mut mixed[..k]);
+    dealing(f, points, rows, &mixed[..k])
+}
+
+// Every receiver's share: by the grid of pieces, or by the sum of the polynomials.
+fn shares_of(
+    gridded: bool,
+    f: Field,
+    t: usize,
+    points: &[u64],
+    rows: &[u64],
+    weights: &[u64],
+    polynomials: &[u64],
+) -> [u64; 15]
+    requires { ⌜ Ready (f .p) ⌝ }
+    requires { ⌜ (t < 8) × (length (now points) ≤ 15) ⌝ }
+    requires { ⌜ Powered (f .p) (terms t) (now points) (now rows) ⌝ }
+    requires { ⌜ (length (now weights) ≤ 15) × (allBelow (f .p) (now weights) ≡ true) ⌝ }
+    requires { ⌜ (terms t * length (now weights) ≤ length (now polynomials)) × (allBelow (f .p) (now polynomials) ≡ true) ⌝ }
+    ensures { λ r. ⌜ take (length (now (points .entry))) r ≡ map (shareAt (f .p) (terms t) (now (weights .entry)) (now (polynomials .entry))) (now (points .entry)) ⌝ }
+{
+    if gridded {
+        return shares(f, t, points, rows, weights, polynomials);
+    }
+    mixed_shares(f, t, points, rows, weights, polynomials)
+}
+
+// A multiply gate's row: the dealers' products are dealt, and each receiver's pieces weighed and summed. `gridded` says whether on the grid of pieces.
 pub fn multiply_row(
+    gridded: bool,
     f: Field,
     t: usize,
     points: &[u64],
@@ -313,33 +432,10 @@ pub fn multiply_row(
     let used = k * dealers;
     let mut dealt = [0u64; 120];
     polynomials(t, k, &products[..dealers], coins, at, &mut dealt[..used]);
-    shares(f, t, points, rows, weights, &dealt[..used])
+    shares_of(gridded, f, t, points, rows, weights, &dealt[..used])
 }
 
 // ---- inputs
-
-// The pieces of a dealing: the polynomial's values at the points, by their power rows.
-fn dealing(f: Field, points: &[u64], rows: &[u64], polynomial: &[u64]) -> [u64; 15]
-    requires { ⌜ Ready (f .p) ⌝ }
-    requires { ⌜ (length (now points) ≤ 15) × (length (now polynomial) ≤ 16) ⌝ }
-    requires { ⌜ Powered (f .p) (length (now polynomial)) (now points) (now rows) ⌝ }
-    requires { ⌜ allBelow (f .p) (now polynomial) ≡ true ⌝ }
-    ensures { λ r. ⌜ take (length (now (points .entry))) r ≡ map (eval (f .p) (now (polynomial .entry))) (now (points .entry)) ⌝ }
-{
-    let wide = f.is_wide();
-    let m = f.reciprocal();
-    let k = polynomial.len();
-    let mut row = [0u64; 15];
-    let mut at: usize = 0;
-    let mut j: usize = 0;
-    while j < points.len() {
-        let e = at + k;
-        row[j] = sharing::dot_by(f, wide, m, &rows[at..e], polynomial);
-        at = e;
-        j += 1;
-    }
-    row
-}
 
 // An input gate's row: the input is dealt.
 pub fn input_row(

@@ -78,6 +78,7 @@ fn offset_row(f: Field, n: usize, a: usize, c: u64, table: &[u64]) -> [u64; 15]
 
 // The row of gate g's wire, from the rows of the wires below it. No plan file has a gate of the last two kinds.
 fn gate_row(
+    gridded: bool,
     plan: &[u8],
     h: Header,
     points: &[u64],
@@ -112,6 +113,7 @@ fn gate_row(
         Gate::Scale(a, c) => scale_row(f, n, a, c, table),
         Gate::Offset(a, c) => offset_row(f, n, a, c, table),
         Gate::Multiply(a, b) => run_dealings::multiply_row(
+            gridded,
             f,
             t,
             points,
@@ -142,7 +144,9 @@ fn put_row(table: &mut [u64], at: usize, row: [u64; 15], n: usize)
 }
 
 // Works gate g for all parties: sets the row of its wire, from the rows of the wires below it. Its inputs stand from place i on, its coins from place `at` on.
+// `gridded` says whether a product is worked on the grid of pieces.
 pub fn step(
+    gridded: bool,
     plan: &[u8],
     h: Header,
     points: &[u64],
@@ -167,6 +171,7 @@ pub fn step(
     let n = h.n;
     let start = n * g;
     let row = gate_row(
+        gridded,
         plan,
         h,
         points,
@@ -208,6 +213,7 @@ fn steps(
     let mut g: usize = 0;
     while g < gates {
         step(
+            true,
             plan,
             h,
             points,

@@ -29,11 +29,11 @@ polynomials-requires c κs = (search multiplying, (search multiplying, search mu
 array-share-prefix-dealt : tie.Need-array-share-prefix-dealt
 array-share-prefix-dealt c = search multiplying
 
-slice-aggregate-shares : tie.Need-slice-aggregate-shares
-slice-aggregate-shares c = search multiplying
+slice-aggregate-shares-of : tie.Need-slice-aggregate-shares-of
+slice-aggregate-shares-of c = search multiplying
 
-shares-requires : tie.Need-shares-requires
-shares-requires c κs = (search multiplying, ((search multiplying, search multiplying), (search multiplying, ((search multiplying, search multiplying), (search multiplying, search multiplying)))))
+shares-of-requires : tie.Need-shares-of-requires
+shares-of-requires c κs = (search multiplying, ((search multiplying, search multiplying), (search multiplying, ((search multiplying, search multiplying), (search multiplying, search multiplying)))))
 
 returns : tie.Need-returns
 returns c = search multiplying
@@ -51,6 +51,6 @@ multiply-row-spec =
     slice-aggregate-polynomials-2
     polynomials-requires
     array-share-prefix-dealt
-    slice-aggregate-shares
-    shares-requires
+    slice-aggregate-shares-of
+    shares-of-requires
     returns)
