@@ -75,10 +75,10 @@
  * -----
  *
  * A call takes at most so many bytes of its thread's stack: pool_bench and
- * pool_record POOL_STACK_BENCH, pool_match POOL_STACK_MATCH, pool_import and
- * pool_import_size POOL_STACK_IMPORT, pool_sheet and pool_sheet_size
- * POOL_STACK_SHEET, every other function POOL_STACK_SEAT. A thread's own start
- * takes some more (PTHREAD_STACK_MIN).
+ * pool_record POOL_STACK_BENCH, pool_count POOL_STACK_COUNT, pool_match
+ * POOL_STACK_MATCH, pool_import and pool_import_size POOL_STACK_IMPORT,
+ * pool_sheet and pool_sheet_size POOL_STACK_SHEET, every other function
+ * POOL_STACK_SEAT. A thread's own start takes some more (PTHREAD_STACK_MIN).
  */
 #ifndef POOL_H
 #define POOL_H
@@ -100,6 +100,7 @@ extern "C" {
 /* The bytes of stack that a call takes at most. */
 #define POOL_STACK_SEAT 4096
 #define POOL_STACK_BENCH 131072
+#define POOL_STACK_COUNT (POOL_STACK_BENCH + 4096)
 #define POOL_STACK_MATCH 262144
 #define POOL_STACK_IMPORT 81920
 #define POOL_STACK_SHEET 40960
@@ -367,6 +368,55 @@ uint64_t pool_match(const uint8_t *plan, size_t plan_len, uint16_t set,
     const uint8_t *second, size_t second_len,
     const uint8_t *coins, size_t coins_len,
     uint8_t *matched, size_t matched_len);
+
+/*
+ * The size in bytes of the list of a coalition's views.
+ *
+ * plan, plan_len: the plan file.
+ * set:            a coalition of at most t parties: bit i - 1 stands for
+ *                 party i.
+ *
+ * A setting of the others' coins gives each coin of a party outside the
+ * coalition a number below p; so there are p to the power of the count of these
+ * coins. The list has a row for each of them, and a row has the numbers of the
+ * coalition's view and one more.
+ *
+ * Answers the size as its value: POOL_NUMBER_BYTES for each number of these
+ * rows; or the first of refusals 1 to 8, 25, 26, 9 and 30. A list of 65,536 long
+ * rows can take hundreds of megabytes: look at the size before you lend it.
+ */
+uint64_t pool_count_size(const uint8_t *plan, size_t plan_len, uint16_t set);
+
+/*
+ * The views of a coalition counted: how many settings of the others' coins lead
+ * to each of them.
+ *
+ * plan, plan_len:       the plan file.
+ * set:                  a coalition of at most t parties.
+ * figures, figures_len: all inputs, in the plan's order.
+ * coins, coins_len:     the members' coins alone, in the order in which they
+ *                       stand among all coins (by gate, not by member): as many
+ *                       as pool_seat_size says for all members together.
+ * rows, rows_len:       written: the list, of exactly its size. For each view
+ *                       that a setting leads to a row: the view's numbers as
+ *                       pool_bench writes them, then how many settings lead to
+ *                       it. These rows stand ascending, compared from their
+ *                       first number on; the rows left over are 0.
+ *
+ * The counts add up to the number of settings. The view of the empty coalition
+ * has no number: its one row is the count of all settings. Where t is 0 there
+ * are no coins, and one setting. For a coalition of exactly t parties no view
+ * has two settings, so every count is 1. Two lists of inputs that agree at the
+ * members' inputs and give the members the same results give the same rows.
+ *
+ * Answers 0 and has written rows, or answers the first of refusals 1 to 8, 25,
+ * 26, 9 to 13, 30 and 19 and has written nothing. It takes a run's time for each
+ * setting and sorts the rows where they stand.
+ */
+uint64_t pool_count(const uint8_t *plan, size_t plan_len, uint16_t set,
+    const uint8_t *figures, size_t figures_len,
+    const uint8_t *coins, size_t coins_len,
+    uint8_t *rows, size_t rows_len);
 
 /*
  * The size in bytes of the record of a run.

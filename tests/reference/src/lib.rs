@@ -6,6 +6,7 @@
 
 pub mod charge;
 pub mod convert;
+pub mod count;
 pub mod field;
 pub mod formulas;
 pub mod import;

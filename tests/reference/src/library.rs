@@ -2,6 +2,7 @@
 
 use crate::charge::charge;
 use crate::convert::{convert, convert_file};
+use crate::count::{count, count_size};
 use crate::import::{import, import_file};
 use crate::matching::matching;
 use crate::plan::{plan_check, refuse, Plan, Refusal};
@@ -31,6 +32,8 @@ pub struct Interface {
     pub record_size: fn(&[u8]) -> u64,
     pub read_all: fn(&[u8], &[u8], &mut [u8]) -> u64,
     pub read_seat: fn(&[u8], &[u8], u16, &mut [u8]) -> u64,
+    pub count: fn(&[u8], u16, &[u8], &[u8], &mut [u8]) -> u64,
+    pub count_size: fn(&[u8], u16) -> u64,
 }
 
 /// An answer's 64 bits.
@@ -91,6 +94,8 @@ pub const REFERENCE: Interface = Interface {
     record_size: |plan| answer(record_size(plan)),
     read_all: |plan, record, numbers| answer(read_all(plan, record, numbers).map(|_| 0)),
     read_seat: |plan, record, seat, numbers| answer(read_seat(plan, record, seat, numbers).map(|_| 0)),
+    count: |plan, set, figures, coins, rows| answer(count(plan, set, figures, coins, rows).map(|_| 0)),
+    count_size: |plan, set| answer(count_size(plan, set)),
 };
 
 /// The product's static library.
@@ -193,6 +198,18 @@ pub const LIBRARY: Interface = {
                 numbers: *mut u8,
                 numbers_len: usize,
             ) -> u64;
+            pub fn pool_count(
+                plan: Bytes,
+                plan_len: usize,
+                set: u16,
+                figures: Bytes,
+                figures_len: usize,
+                coins: Bytes,
+                coins_len: usize,
+                rows: *mut u8,
+                rows_len: usize,
+            ) -> u64;
+            pub fn pool_count_size(plan: Bytes, plan_len: usize, set: u16) -> u64;
         }
     }
     Interface {
@@ -291,6 +308,20 @@ pub const LIBRARY: Interface = {
                 numbers.len(),
             )
         },
+        count: |plan, set, figures, coins, rows| unsafe {
+            c::pool_count(
+                plan.as_ptr(),
+                plan.len(),
+                set,
+                figures.as_ptr(),
+                figures.len(),
+                coins.as_ptr(),
+                coins.len(),
+                rows.as_mut_ptr(),
+                rows.len(),
+            )
+        },
+        count_size: |plan, set| unsafe { c::pool_count_size(plan.as_ptr(), plan.len(), set) },
     }
 };
 

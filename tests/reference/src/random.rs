@@ -230,6 +230,49 @@ pub fn large_plan(random: &mut Random, most: usize) -> Vec<u8> {
     file(3, (n as u8, t as u8, p), &gates, &outs, &points)
 }
 
+/// How many settings the coins of the seats outside a set have, at most `u32::MAX`: p for each coin.
+pub fn settings(n: u16, t: usize, p: u32, set: u16, gates: &[Gate]) -> u32 {
+    let other = |seat: u16| u32::from(set >> (seat - 1) & 1 == 0);
+    let dealings = |gate: &Gate| match *gate {
+        Gate::Input(seat) => other(seat),
+        Gate::Multiply(..) => (1..=n.min(2 * t as u16 + 1)).map(other).sum(),
+        _ => 0,
+    };
+    p.saturating_pow(t as u32 * gates.iter().map(dealings).sum::<u32>())
+}
+
+/// Gates with more than one and at most `most` settings for a set, once in eight with one; none if they are not found soon.
+fn tiny_gates(random: &mut Random, (n, t, p): (u16, usize, u32), set: u16, most: u32) -> Option<Vec<Gate>> {
+    let least = if t == 0 || random.once_in(8) { 1 } else { 2 };
+    let multiplies = if 2 * t < usize::from(n) { 2 } else { 0 };
+    (0..20).find_map(|_| {
+        let count = random.range(1, 6);
+        let gates = gates(random, n, p, count, multiplies);
+        (least..=most).contains(&settings(n, t, p, set, &gates)).then_some(gates)
+    })
+}
+
+/// A random plan file of any version with few gates, and a set for which there are at most `most` settings.
+pub fn tiny_plan(random: &mut Random, most: u32) -> (Vec<u8>, u16) {
+    loop {
+        let n = if random.once_in(5) { random.range(1, 15) } else { random.range(2, 5) } as u16;
+        let t = if random.once_in(12) { 0 } else { random.below(usize::from(n)) };
+        let p = match random.below(6) {
+            0 => prime(random, n),
+            1 => large_prime(random),
+            _ => PRIMES.iter().copied().find(|&p| p > u32::from(n)).expect("a prime above n"),
+        };
+        let members = if random.once_in(3) { t } else { random.below(t + 1) };
+        let set = set(random, n, members);
+        let Some(gates) = tiny_gates(random, (n, t, p), set, most) else { continue };
+        let version = if p > 65_535 { 3 } else { random.range(1, 3) as u8 };
+        let count = random.range(1, 3);
+        let outs = outs(random, n, gates.len(), count);
+        let points = points(random, n, p);
+        return (file(version, (n as u8, t as u8, p), &gates, &outs, &points), set);
+    }
+}
+
 /// A set of at most `t` of the `n` seats.
 pub fn set(random: &mut Random, n: u16, t: usize) -> u16 {
     let size = if random.once_in(3) { random.below(t + 1) } else { t };

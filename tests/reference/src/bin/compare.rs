@@ -39,10 +39,12 @@ enum Case {
     RecordSize { plan: Vec<u8> },
     ReadAll { plan: Vec<u8>, record: Vec<u8>, numbers: Vec<u8> },
     ReadSeat { plan: Vec<u8>, record: Vec<u8>, seat: u16, numbers: Vec<u8> },
+    Count { plan: Vec<u8>, set: u16, figures: Vec<u8>, coins: Vec<u8>, rows: Vec<u8> },
+    CountSize { plan: Vec<u8>, set: u16 },
 }
 
 /// Kinds of calls; the refusals and none.
-const KINDS: usize = 17;
+const KINDS: usize = 19;
 const NUMBERS: usize = 32;
 
 const NAMES: [&str; KINDS] = [
@@ -63,6 +65,8 @@ const NAMES: [&str; KINDS] = [
     "rec. size",
     "read all",
     "read seat",
+    "count",
+    "count size",
 ];
 
 const IMPORT: usize = 6;
@@ -72,9 +76,11 @@ const CONVERT: usize = 11;
 const RECORD: usize = 13;
 const READ_ALL: usize = 15;
 const READ_SEAT: usize = 16;
+const COUNT: usize = 17;
+const COUNT_SIZE: usize = 18;
 
 /// How often a call must meet a refusal: kind of call, refusal, times.
-const MET: [(usize, usize, usize); 28] = [
+const MET: [(usize, usize, usize); 37] = [
     (IMPORT, 23, 500),
     (IMPORT, 24, 500),
     (SHEET, 27, 500),
@@ -103,10 +109,19 @@ const MET: [(usize, usize, usize); 28] = [
     (READ_SEAT, 9, 200),
     (READ_SEAT, 19, 200),
     (READ_SEAT, 28, 500),
+    (COUNT, 0, 5000),
+    (COUNT, 9, 50),
+    (COUNT, 10, 50),
+    (COUNT, 11, 50),
+    (COUNT, 12, 50),
+    (COUNT, 13, 50),
+    (COUNT, 19, 50),
+    (COUNT, 30, 200),
+    (COUNT_SIZE, 30, 200),
 ];
 
 /// How often all calls together must meet a refusal.
-const MET_BY_ALL: [(usize, usize); 4] = [(4, 200), (25, 200), (26, 200), (28, 500)];
+const MET_BY_ALL: [(usize, usize); 5] = [(4, 200), (25, 200), (26, 200), (28, 500), (30, 500)];
 
 /// The refusals that cases are damaged for, in checking order.
 const ORDER: [u8; 21] = [1, 2, 3, 4, 5, 6, 7, 8, 9, 10, 11, 12, 13, 14, 15, 16, 17, 18, 19, 20, 21];
@@ -119,6 +134,10 @@ const POINTED_ORDER: [u8; 23] = [1, 2, 3, 4, 5, 6, 7, 8, 25, 26, 9, 10, 11, 12, 
 
 /// Those of the run record's calls.
 const RECORD_ORDER: [u8; 17] = [1, 2, 3, 4, 5, 6, 7, 8, 25, 26, 28, 9, 10, 11, 12, 13, 19];
+
+/// Those of the counted views, for sets with few settings; with too many, where 19 comes after 30.
+const COUNT_ORDER: [u8; 16] = [1, 2, 3, 4, 5, 6, 7, 8, 25, 26, 9, 10, 11, 12, 13, 19];
+const SETTINGS_ORDER: [u8; 15] = [1, 2, 3, 4, 5, 6, 7, 8, 25, 26, 9, 10, 11, 12, 13];
 
 /// How many of them are a plan's.
 fn of_plans(order: &[u8]) -> usize {
@@ -161,6 +180,8 @@ impl Case {
             Case::RecordSize { .. } => 14,
             Case::ReadAll { .. } => READ_ALL,
             Case::ReadSeat { .. } => READ_SEAT,
+            Case::Count { .. } => COUNT,
+            Case::CountSize { .. } => COUNT_SIZE,
         }
     }
 
@@ -175,6 +196,7 @@ impl Case {
             Case::Charge { plan, .. } | Case::Convert { plan, .. } | Case::ConvertSize { plan } => Some(plan),
             Case::Record { plan, .. } | Case::RecordSize { plan } => Some(plan),
             Case::ReadAll { plan, .. } | Case::ReadSeat { plan, .. } => Some(plan),
+            Case::Count { plan, .. } | Case::CountSize { plan, .. } => Some(plan),
             Case::Import { .. } | Case::ImportSize { .. } | Case::Sheet { .. } | Case::SheetSize { .. } => None,
         }
     }
@@ -230,6 +252,11 @@ impl Case {
                 let mut numbers = Lent::new(numbers);
                 ((with.read_seat)(plan, record, *seat, numbers.slice()), vec![numbers.0])
             }
+            Case::Count { plan, set, figures, coins, rows } => {
+                let mut rows = Lent::new(rows);
+                ((with.count)(plan, *set, figures, coins, rows.slice()), vec![rows.0])
+            }
+            Case::CountSize { plan, set } => ((with.count_size)(plan, *set), vec![]),
         }
     }
 
@@ -302,6 +329,16 @@ impl Case {
             Case::ReadSeat { plan, record, seat, numbers: room } => {
                 write!(numbers, "\n  seat {seat} room {}", room.len()).unwrap();
                 [("plan", plan), ("record", record)].iter().for_each(|(name, bytes)| list(name, bytes));
+            }
+            Case::Count { plan, set, figures, coins, rows } => {
+                write!(numbers, "\n  set {set} room {}", rows.len()).unwrap();
+                [("plan", plan), ("figures", figures), ("coins", coins)]
+                    .iter()
+                    .for_each(|(name, bytes)| list(name, bytes));
+            }
+            Case::CountSize { plan, set } => {
+                write!(numbers, "\n  set {set}").unwrap();
+                list("plan", plan);
             }
         }
         text + &numbers
@@ -877,9 +914,11 @@ fn damage(random: &mut Random, case: &mut Case, world: &Plan, refusal: u8) -> bo
         (Case::Bench { set, .. } | Case::Match { set, .. } | Case::RunSize { set, .. }, 9) => {
             *set = wrong_set(random, world);
         }
+        (Case::Count { set, .. } | Case::CountSize { set, .. }, 9) => *set = wrong_set(random, world),
         (Case::Call { figures, .. } | Case::Bench { figures, .. } | Case::Record { figures, .. }, 10) => {
             wrong_length(random, figures, 4);
         }
+        (Case::Count { figures, .. }, 10) => wrong_length(random, figures, 4),
         (Case::Match { first, second, .. }, 10) => {
             let list = if random.once_in(2) { first } else { second };
             wrong_length(random, list, 4);
@@ -887,6 +926,7 @@ fn damage(random: &mut Random, case: &mut Case, world: &Plan, refusal: u8) -> bo
         (Case::Call { figures, .. } | Case::Bench { figures, .. } | Case::Record { figures, .. }, 11) => {
             return too_large(random, figures, p);
         }
+        (Case::Count { figures, .. }, 11) => return too_large(random, figures, p),
         (Case::Match { first, second, .. }, 11) => {
             let both = random.once_in(3);
             if both || random.once_in(2) {
@@ -900,8 +940,10 @@ fn damage(random: &mut Random, case: &mut Case, world: &Plan, refusal: u8) -> bo
         }
         (Case::Call { coins, .. } | Case::Bench { coins, .. }, 12) => wrong_length(random, coins, 4),
         (Case::Match { coins, .. } | Case::Record { coins, .. }, 12) => wrong_length(random, coins, 4),
+        (Case::Count { coins, .. }, 12) => wrong_length(random, coins, 4),
         (Case::Call { coins, .. } | Case::Bench { coins, .. }, 13) => return too_large(random, coins, p),
         (Case::Match { coins, .. } | Case::Record { coins, .. }, 13) => return too_large(random, coins, p),
+        (Case::Count { coins, .. }, 13) => return too_large(random, coins, p),
         (Case::Call { state, .. }, 14) => wrong_length(random, state, 4),
         (Case::Call { state, .. }, 15) => {
             if random.once_in(3) {
@@ -919,6 +961,7 @@ fn damage(random: &mut Random, case: &mut Case, world: &Plan, refusal: u8) -> bo
         (Case::Bench { view, .. }, 19) => wrong_length(random, view, 4),
         (Case::Match { matched, .. }, 19) => wrong_length(random, matched, 4),
         (Case::Record { record, .. }, 19) => wrong_length(random, record, 4),
+        (Case::Count { rows, .. }, 19) => wrong_length(random, rows, 4),
         (Case::ReadAll { numbers, .. } | Case::ReadSeat { numbers, .. }, 19) => wrong_length(random, numbers, 4),
         (Case::Call { state, mail, .. }, 20) => {
             if long(state, 0) != last || mail.is_empty() || world.t + 1 == usize::from(world.n) {
@@ -1976,6 +2019,79 @@ fn all_records(tally: &mut Tally) {
     }
 }
 
+/// The views of a set counted: its rows and their size, whole, damaged, and for the set with bits that name no seat. With too many settings
+/// these are refused whatever the rows' room.
+fn counts(random: &mut Random, tally: &mut Tally, file: Vec<u8>, set: u16, often: usize) {
+    let plan = Plan::read(&file).expect("a plan that passes");
+    let (p, t) = (plan.field.p(), plan.t);
+    let settings = random::settings(plan.n, t, p, set, &plan.gates);
+    let few = settings <= 65_536;
+    let (order, expected): (&[u8], u8) = if few { (&COUNT_ORDER, 0) } else { (&SETTINGS_ORDER, 30) };
+    let own = plan.coin_seats().iter().filter(|&&seat| set >> (seat - 1) & 1 == 1).count();
+    let room =
+        if few { 4 * settings as usize * (plan.view(set).expect("a set that passes") + 1) } else { random.below(99) };
+    let (figures, coins) = (random.elements(plan.inputs.len(), p), random.elements(own, p));
+    let rows = filler(random, room);
+    let size = Case::CountSize { plan: file.clone(), set };
+    let whole = Case::Count { plan: file, set, figures: bytes(&figures), coins: bytes(&coins), rows };
+    for case in [whole, size] {
+        tally.compare(&case, Some(expected));
+        damaged(random, tally, &case, &plan, order, often);
+    }
+}
+
+/// Every plan of two inputs or fewer and at most one more gate over a small prime, with each set and each seat that its out may go to.
+fn every_tiny_plan(random: &mut Random, tally: &mut Tally, (n, t, p): (u16, usize, u32)) {
+    let inputs: Vec<Gate> = (1..=n).map(Gate::Input).collect();
+    let mut last = vec![None, Some(Gate::Add(0, 1)), Some(Gate::Add(0, 0))];
+    last.extend((0..p).flat_map(|c| [Some(Gate::Scale(0, c)), Some(Gate::Offset(1, c))]));
+    if 2 * t < usize::from(n) {
+        last.extend([Some(Gate::Multiply(0, 1)), Some(Gate::Multiply(1, 1))]);
+    }
+    let pairs = inputs.iter().flat_map(|&a| inputs.iter().map(move |&b| [a, b]));
+    for (pair, last) in pairs.flat_map(|pair| last.iter().map(move |&last| (pair, last))) {
+        let gates: Vec<Gate> = pair.into_iter().chain(last).collect();
+        let sets = (0..1u16 << n).filter(|set| set.count_ones() as usize <= t);
+        for (set, seat) in sets.flat_map(|set| (1..=n).map(move |seat| (set, seat))) {
+            let outs = [Out { seat, wire: gates.len() - 1 }];
+            let points = random::points(random, n, p);
+            let version = random.range(1, 3) as u8;
+            counts(random, tally, file(version, (n as u8, t as u8, p), &gates, &outs, &points), set, 0);
+        }
+    }
+}
+
+/// Counted views of tiny plans of every version, of those at the ends, and of plans with too many settings.
+fn all_counts(tally: &mut Tally) {
+    let mut random = Random(20_261_213);
+    for (n, t, p) in [(1, 0, 2), (2, 1, 3), (3, 1, 5), (3, 2, 5)] {
+        every_tiny_plan(&mut random, tally, (n, t, p));
+    }
+    for _ in 0..2500 {
+        let (file, set) = random::tiny_plan(&mut random, 1000);
+        counts(&mut random, tally, file, set, 4);
+    }
+    for most in [3000, 10_000, 65_536].repeat(4) {
+        let (file, set) = random::tiny_plan(&mut random, most);
+        counts(&mut random, tally, file, set, 2);
+    }
+    for (version, p, coins) in
+        [(1, 65521, 1), (1, 251, 2), (2, 3, 10), (1, 257, 2), (3, 65537, 1), (3, 3, 11), (3, MOST, 3)]
+    {
+        let gates = vec![Gate::Input(1); coins];
+        let plan = file(version, (2, 1, p), &gates, &[Out { seat: 2, wire: 0 }], &[1, 2]);
+        for set in [0, 1, 2] {
+            counts(&mut random, tally, plan.clone(), set, 2);
+        }
+    }
+    for plan in [random::plan, random::wide_plan, random::pointed_plan, random::large_plan].repeat(150) {
+        let file = plan(&mut random, 12);
+        let Plan { n, t, .. } = Plan::read(&file).expect("a plan that passes");
+        let set = random::set(&mut random, n, t);
+        counts(&mut random, tally, file, set, 4);
+    }
+}
+
 /// The bench program on the other plans.
 fn other_programs(tally: &mut Tally) {
     programs(&mut Random(20_260_305), tally, 100, random::wide_plan);
@@ -2003,6 +2119,7 @@ const PARTS: [Part; 2] = [
         |tally| large_plans(&mut Random(20_260_606), tally),
         |tally| large_texts(&mut Random(20_260_607), tally),
         other_programs,
+        all_counts,
     ],
 ];
 
@@ -2049,6 +2166,7 @@ fn report(tally: &Tally) -> bool {
     println!("{sheets} sheets compiled or refused; {} runs of their plans compared with the formula", tally.values);
     println!("{bills} charges");
     println!("{} runs stored or refused; {} and {} reads of all and of a seat", records[0], records[1], records[2]);
+    println!("{} lists of views counted", tally.met[COUNT][0]);
     println!("bench program: {} inputs", tally.inputs);
     println!("{} cases, {} passed, {} differ", tally.cases(), tally.passed, tally.differences);
     LINKED
