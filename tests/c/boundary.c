@@ -84,6 +84,26 @@ static void record_calls(const uint8_t *k, size_t k_len)
         free(lent[j].block);
 }
 
+/* The counted views of two seats' sum modulo 3, whole or not. */
+static void count_calls(unsigned version)
+{
+    uint8_t tiny[80], list[BYTES(2)] = {1, 0};
+    size_t tiny_len = contents_in(version, tiny, 2, 1, 3, 3, 1);
+    gate(tiny, 0, 1, 1, 0);
+    gate(tiny, 1, 1, 2, 0);
+    gate(tiny, 2, 2, 0, 1);
+    out(tiny, 3, 0, 1, 2);
+    struct slice plan = below(4) ? lend(tiny, tiny_len) : lend_text((const char *)tiny, tiny_len);
+    struct slice figures = lend(list, below(4) ? BYTES(2) : below(sizeof list)), coins = lend(list, below(4) ? BYTES(1) : below(sizeof list));
+    struct slice rows = lend(NULL, below(4) ? BYTES(15) : below(70));
+    uint16_t set = (uint16_t)(below(4) ? 2 : below(4));
+    check(pool_count_size(plan.at, plan.len, set));
+    check(pool_count(plan.at, plan.len, set, figures.at, figures.len, coins.at, coins.len, rows.at, rows.len));
+    struct slice lent[] = {plan, figures, coins, rows};
+    for (unsigned j = 0; j < sizeof lent / sizeof *lent; j++)
+        free(lent[j].block);
+}
+
 /* The calls that take a text. */
 static void text_calls(unsigned p)
 {
@@ -111,6 +131,7 @@ int main(void)
         size_t k_len = in_version(1 + i % VERSIONS, k, first, (const unsigned[]){1, 2, 3});
         plan_calls(k, k_len);
         record_calls(k, k_len);
+        count_calls(1 + i % VERSIONS);
         text_calls(i % 2 ? 11 : MOST_PRIME);
     }
     passed = failed == 0;

@@ -63,6 +63,33 @@ static uint64_t read_record(void)
     return answer;
 }
 
+/* The views of parties that have all coins, of which there is one setting: the last t parties, where all inputs are theirs and nothing is
+ * multiplied; or nobody, where there are no coins. Of other plans there are too many settings. */
+static uint64_t count(void)
+{
+    uint16_t set = last_parties();
+    unsigned refusal = plan[6] && 2 * plan[6] < plan[5] ? 30 : 0;
+    for (unsigned g = 0; g < plan[5]; g++)
+        gate(plan, g, 1, plan[5], 0);
+    uint64_t size = pool_count_size(plan, plan_len, set);
+    size_t own = 0;
+    for (unsigned i = 0; i < plan[5]; i++)
+        own += set >> i & 1 ? POOL_VALUE(pool_seat_size(plan, plan_len, (uint16_t)(i + 1), 0, POOL_SEAT_COINS)) : 0;
+    uint64_t answer = pool_count(plan, plan_len, set, figures, run_size(set, 0), coins, own, buffer, refusal ? 0 : POOL_VALUE(size));
+    return POOL_REFUSAL(size) - refusal + POOL_REFUSAL(answer) - refusal;
+}
+
+/* 59,049 settings: ten inputs of party 1, the last of them for party 2. */
+static uint64_t count_settings(void)
+{
+    static uint8_t rows[BYTES(14 * 59049)];
+    size_t len = contents(plan, 2, 1, 3, 10, 1);
+    for (unsigned g = 0; g < 10; g++)
+        gate(plan, g, 1, 1, 0);
+    out(plan, 10, 0, 2, 9);
+    return POOL_VALUE(pool_count_size(plan, len, 2)) - sizeof rows + pool_count(plan, len, 2, figures, BYTES(10), coins, 0, rows, sizeof rows);
+}
+
 static uint64_t match(void)
 {
     uint16_t set = last_parties();
@@ -97,6 +124,8 @@ static uint64_t small(void)
         refusals += POOL_REFUSAL(pool_seat_size(plan, plan_len, 1, 1, what)) + POOL_REFUSAL(pool_run_size(plan, plan_len, 0, what));
     uint8_t parts[60];
     refusals += POOL_REFUSAL(pool_charge(plan, plan_len, 999999, parts, 4u * plan[5]));
+    if (POOL_REFUSAL(pool_count_size(plan, plan_len, last_parties())) != (plan[6] ? 30 : 0))
+        refusals++;
     return refusals;
 }
 
@@ -209,7 +238,9 @@ int main(void)
         on_stack("pool_seat_call, the last call", last_call, POOL_STACK_SEAT);
         on_stack("plan check, sizes and charge", small, POOL_STACK_SEAT);
         on_stack("pool_convert", convert, POOL_STACK_SEAT);
+        on_stack("pool_count", count, POOL_STACK_COUNT);
     }
+    on_stack("pool_count, many settings", count_settings, POOL_STACK_COUNT);
     on_stack("pool_import", import, POOL_STACK_IMPORT);
     on_stack("pool_sheet", sheet, POOL_STACK_SHEET);
     printf("%d passed, %d failed\n", passed, failed);
