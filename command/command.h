@@ -20,7 +20,7 @@ struct command {
 };
 
 extern const struct command check_command, show_command, run_command, match_command, import_command, sheet_command, convert_command, charge_command,
-    record_command, read_command;
+    record_command, read_command, count_command;
 
 /* The subcommand that runs; null before it is known. */
 extern const struct command *current;
@@ -102,6 +102,9 @@ struct report {
 };
 
 void open_report(struct report *r);
+
+/* Ends the report: its text. */
+struct bytes close_text(struct report *r);
 
 /* Writes the report to a file, or to standard output where path is null or `-`. */
 void close_report(struct report *r, const char *path);

@@ -15,13 +15,19 @@ void open_report(struct report *r)
         fail(NOT_POSSIBLE, "no memory");
 }
 
-void close_report(struct report *r, const char *path)
+struct bytes close_text(struct report *r)
 {
     bool whole = !ferror(r->to);
     if (fclose(r->to) || !whole)
         fail(NOT_POSSIBLE, "no memory");
-    write_output(path ? path : "-", (struct bytes){(uint8_t *)r->text, r->len});
-    free(r->text);
+    return (struct bytes){(uint8_t *)r->text, r->len};
+}
+
+void close_report(struct report *r, const char *path)
+{
+    struct bytes all = close_text(r);
+    write_output(path ? path : "-", all);
+    free(all.at);
 }
 
 /* The mode of a file that is to be replaced, or of a new one. */

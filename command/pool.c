@@ -19,6 +19,7 @@ static const struct command *const commands[] = {
     &charge_command,
     &record_command,
     &read_command,
+    &count_command,
 };
 
 enum { COMMANDS = sizeof commands / sizeof *commands };
