@@ -3,7 +3,7 @@
 # make test     everything: proofs, must-fail edits, programs, C and Rust tests; the last line counts
 # make seats    run plan K with a process for each seat, and print each seat's results
 # make install  the library, its header, pool, seat and their manual pages below PREFIX (and DESTDIR before it)
-# make speed    time the library against the Rust reference in one process, as ratios
+# make speed    time the library against the Rust reference and against hand-written C in one process, as ratios (WORKS="bench count": these alone)
 .PHONY: run test seats speed library host pool install
 
 VERSION = 1.0.0
@@ -25,8 +25,8 @@ seats: host
 	@host/run-seats examples/K.plan target/seats
 
 speed: library
-	@cd tests/reference && POOL_LIB_DIR="$(CURDIR)/target/staticlib" CARGO_TARGET_DIR="$(CURDIR)/target/reference" \
-		cargo run --offline --release --quiet --bin speed
+	@flint=$$(tests/speed/build) && cd tests/reference && POOL_LIB_DIR="$(CURDIR)/target/staticlib" POOL_LIMIT_DIR="$(CURDIR)/target/speed" \
+		POOL_FLINT="$$flint" CARGO_TARGET_DIR="$(CURDIR)/target/reference" cargo run --offline --release --quiet --bin speed -- $(WORKS)
 
 # the static library
 library: $(LIBRARY)

@@ -11,6 +11,7 @@ pub mod field;
 pub mod formulas;
 pub mod import;
 pub mod library;
+pub mod limit;
 pub mod matching;
 pub mod plan;
 pub mod primes;
