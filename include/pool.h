@@ -100,7 +100,7 @@ extern "C" {
 /* The bytes of stack that a call takes at most. */
 #define POOL_STACK_SEAT 4096
 #define POOL_STACK_BENCH 131072
-#define POOL_STACK_COUNT (POOL_STACK_BENCH + 4096)
+#define POOL_STACK_COUNT 212992
 #define POOL_STACK_MATCH 262144
 #define POOL_STACK_IMPORT 81920
 #define POOL_STACK_SHEET 40960
