@@ -26,8 +26,8 @@ static const char style[] =
     ".shows { background: var(--note); border-left: 5px solid var(--edge); padding: .7rem 1.1rem; margin: 1.4rem 0; border-radius: 3px }\n"
     ".shows.open { background: var(--warn); border-color: var(--warnedge) }\n"
     "table { border-collapse: collapse; font-variant-numeric: tabular-nums } caption { text-align: left; color: var(--soft); padding-bottom: .4rem }\n"
-    "th, td { padding: .22rem .7rem; border-bottom: 1px solid var(--line); text-align: right }\n"
-    "th { font-weight: 600; text-align: center; background: var(--tint) } th.sub { font-weight: 400; color: var(--soft) }\n"
+    "th, td { padding: .22rem .6rem; border-bottom: 1px solid var(--line); text-align: right }\n"
+    "th { font-weight: 600; text-align: center; background: var(--tint); white-space: nowrap } th.sub { font-weight: 400; color: var(--soft) }\n"
     "table.words th, table.words td { text-align: left } table.words td.n { text-align: right }\n"
     "thead { position: sticky; top: 0 } .first { border-left: 2px solid var(--line) }\n"
     "td.c0, td.c1 { min-width: 5.5rem; --w: 100%; background: linear-gradient(to right, var(--bar) var(--w), transparent 0) no-repeat }\n"
@@ -211,7 +211,7 @@ static size_t others_coins(const struct counted *c)
 static void put_who_looks(FILE *to, const struct counted *c)
 {
     size_t coins = others_coins(c), members = (size_t)__builtin_popcount(c->set);
-    fputs("<h2>Who looks</h2>\n<p>", to);
+    fputs("<h2>The set: who looks</h2>\n<p>", to);
     if (members) {
         fputs(members == 1 ? "One seat looks: " : "These seats put what they see together: ", to);
         print_set(to, c->set);
