@@ -58,13 +58,15 @@ static inline int wrong_list(const u8 *at, size_t len, size_t count, u32 p)
 {
     if (len != 4 * count)
         return 1;
-    __m128i most = _mm_set1_epi32((int)p - 1), bad = _mm_setzero_si128();
+    __m128i most = _mm_set1_epi32((int)p - 1), bad[2] = {_mm_setzero_si128(), _mm_setzero_si128()};
     size_t i = 0;
-    for (; i + 4 <= count; i += 4) {
-        __m128i x = _mm_loadu_si128((const __m128i *)(at + 4 * i));
-        bad = _mm_or_si128(bad, _mm_or_si128(x, _mm_cmpgt_epi32(x, most)));
-    }
-    int wrong = _mm_movemask_ps(_mm_castsi128_ps(bad)) != 0;
+#pragma GCC unroll 4
+    for (; i + 8 <= count; i += 8)
+        for (int k = 0; k < 2; k++) {
+            __m128i x = _mm_loadu_si128((const __m128i *)(at + 4 * i + 16 * k));
+            bad[k] = _mm_or_si128(bad[k], _mm_or_si128(x, _mm_cmpgt_epi32(x, most)));
+        }
+    int wrong = _mm_movemask_ps(_mm_castsi128_ps(_mm_or_si128(bad[0], bad[1]))) != 0;
     for (; i < count; i++)
         wrong |= get4(at + 4 * i) >= p;
     return wrong;
@@ -115,12 +117,15 @@ struct shape {
     unsigned width, gate;                /* the bytes of a number of the file, and of a gate */
     const u8 *gates_at, *outs_at;
     u32 points[16];
-    unsigned inputs, multiplies, inputs_of[16], outs_of[16]; /* by seat, from 1 on */
+    unsigned inputs, multiplies, own;    /* the last: inputs of the seat that was asked for */
+    unsigned inputs_of[16], outs_of[16]; /* by seat, from 1 on */
 };
 
-/* 1 where it does not pass. The first leaves the inputs and the counts by seat alone. */
-int read_plan(const u8 *plan, size_t plan_len, struct shape *s);
+/* Reads a plan: 1 where it does not pass. The counts by seat are made apart; the second makes both. */
+int read_plan(const u8 *plan, size_t plan_len, unsigned seat, struct shape *s);
 int read_shape(const u8 *plan, size_t plan_len, struct shape *s);
+void count_inputs(struct shape *s);
+void count_outs(struct shape *s);
 
 INLINE const u8 *gate_at(const struct shape *s, unsigned g)
 {

@@ -50,18 +50,30 @@ static int is_prime(u32 p)
     return 1;
 }
 
-/* Whether a gate breaks its kind's rule. All gates are looked at, without a branch for a kind. */
-INLINE unsigned wrong_gates(const u8 *at, unsigned gates, unsigned n, u32 p, unsigned width, unsigned *multiplies)
+/* Whether a gate breaks its kind's rule. All gates are looked at, and counted. */
+INLINE unsigned wrong_gates(struct shape *s, unsigned seat, unsigned width)
 {
-    unsigned wrong = 0, fives = 0;
+    const u8 *at = s->gates_at;
+    unsigned wrong = 0, multiplies = 0, inputs = 0, own = 0, gates = s->gates, n = s->n;
+    u32 p = (u32)s->f.p;
     for (unsigned g = 0; g < gates; g++, at += 2 + 2 * width) {
         unsigned kind = at[0];
-        u32 a = get_of(at + 2, width), b = get_of(at + 2 + width, width), top = (kind == 2) | (kind == 5) ? g : p;
-        unsigned right = kind == 1 ? (a - 1 < n) & (b == 0) : (kind - 2 < 4) & (a < g) & (b < top);
-        wrong |= (right ^ 1) | at[1];
-        fives += kind == 5;
+        u32 a = get_of(at + 2, width), b = get_of(at + 2 + width, width);
+        wrong |= at[1];
+        if (kind == 5) {
+            wrong |= (a >= g) | (b >= g);
+            multiplies++;
+        } else if (kind == 1) {
+            wrong |= (a - 1 >= n) | b;
+            inputs++;
+            own += a == seat;
+        } else {
+            wrong |= (kind - 2 >= 3) | (a >= g) | (b >= (kind == 2 ? g : p));
+        }
     }
-    *multiplies = fives;
+    s->multiplies = multiplies;
+    s->inputs = inputs;
+    s->own = own;
     return wrong;
 }
 
@@ -77,7 +89,7 @@ static unsigned wrong_points(struct shape *s, const u8 *at)
     return wrong;
 }
 
-int read_plan(const u8 *plan, size_t len, struct shape *s)
+int read_plan(const u8 *plan, size_t len, unsigned seat, struct shape *s)
 {
     if (len < 18 || memcmp(plan, "POOL", 4) || plan[4] < 1 || plan[4] > 3 || plan[5] < 1 || plan[5] > 15 || plan[6] >= plan[5])
         return 1;
@@ -94,7 +106,7 @@ int read_plan(const u8 *plan, size_t len, struct shape *s)
         return 1;
     *s = (struct shape){.f = field_of(p), .n = n, .t = plan[6], .gates = gates, .outs = outs, .width = width, .gate = 2 + 2 * width,
         .gates_at = plan + head, .outs_at = plan + outs_at};
-    wrong = width == 2 ? wrong_gates(s->gates_at, gates, n, p, 2, &s->multiplies) : wrong_gates(s->gates_at, gates, n, p, 4, &s->multiplies);
+    wrong = width == 2 ? wrong_gates(s, seat, 2) : wrong_gates(s, seat, 4);
     for (unsigned o = 0; o < outs; o++)
         wrong |= (s->outs_at[3 * o] - 1u >= n) | (out_wire(s->outs_at + 3 * o) >= gates);
     wrong |= s->multiplies && 2 * s->t >= n;
@@ -107,20 +119,31 @@ int read_plan(const u8 *plan, size_t len, struct shape *s)
 u64 limit_plan_check(const u8 *plan, size_t plan_len)
 {
     struct shape s;
-    return (u64)read_plan(plan, plan_len, &s);
+    return (u64)read_plan(plan, plan_len, 0, &s);
+}
+
+void count_inputs(struct shape *s)
+{
+    for (unsigned g = 0, left = s->inputs; left > 0; g++) {
+        const u8 *at = gate_at(s, g);
+        if (at[0] == 1) {
+            s->inputs_of[field_a(s, at)]++;
+            left--;
+        }
+    }
+}
+
+void count_outs(struct shape *s)
+{
+    for (unsigned o = 0; o < s->outs; o++)
+        s->outs_of[s->outs_at[3 * o]]++;
 }
 
 int read_shape(const u8 *plan, size_t plan_len, struct shape *s)
 {
-    if (read_plan(plan, plan_len, s))
+    if (read_plan(plan, plan_len, 0, s))
         return 1;
-    for (unsigned g = 0; g < s->gates; g++) {
-        const u8 *at = gate_at(s, g);
-        unsigned input = at[0] == 1;
-        s->inputs += input;
-        s->inputs_of[input ? field_a(s, at) : 0]++;
-    }
-    for (unsigned o = 0; o < s->outs; o++)
-        s->outs_of[s->outs_at[3 * o]]++;
+    count_inputs(s);
+    count_outs(s);
     return 0;
 }

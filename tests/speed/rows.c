@@ -77,22 +77,30 @@ INLINE void grid_gate(const struct shape *s, const struct tables *x, const u64 *
     EACH(v) store(to + 2 * v, reduced(&by, sums[v], wide));
 }
 
+/* Coefficients 2k and 2k + 1 of a dealing's polynomial; nothing is read past its coins. */
+INLINE V terms_of(u64 value, const u8 *coins, unsigned t, unsigned k)
+{
+    if (k == 0)
+        return t == 0 ? _mm_set_epi64x(0, (long long)value) : _mm_set_epi64x(get4(coins), (long long)value);
+    return 2 * k < t ? load_numbers(coins + 4 * (2 * k - 1)) : _mm_cvtsi32_si128((int)get4(coins + 4 * (2 * k - 1)));
+}
+
 INLINE void gate_at_once(const struct shape *s, const struct tables *x, const u64 *dealt, const u8 *coins, u64 *to, unsigned t, unsigned lanes, int wide)
 {
     const unsigned vectors = lanes / 2, dealers = 2 * t + 1, terms = (t + 2) / 2;
     const struct reducing by = reducing_by(&s->f);
     row sum;
-    V sums[8], shares[8];
+    V sums[4], shares[8];
+#pragma GCC unroll 4
     for (unsigned k = 0; k < terms; k++)
         sums[k] = _mm_setzero_si128();
     for (unsigned d = 0; d < dealers; d++) {
-        row poly = {dealt[d]};
         V w = all(x->w[d]), high_w = all(x->high_w[d]);
-        for (unsigned k = 0; k < t; k++)
-            poly[k + 1] = get4(coins + 4 * (d * t + k));
+#pragma GCC unroll 4
         for (unsigned k = 0; k < terms; k++)
-            sums[k] = with_product(sums[k], load(poly + 2 * k), w, high_w, wide);
+            sums[k] = with_product(sums[k], terms_of(dealt[d], coins + 4 * d * t, t, k), w, high_w, wide);
     }
+#pragma GCC unroll 4
     for (unsigned k = 0; k < terms; k++)
         store(sum + 2 * k, reduced(&by, sums[k], wide));
     EACH(v) shares[v] = all(sum[0]);

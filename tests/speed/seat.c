@@ -4,36 +4,39 @@
 /* What a call takes, checked, and where the call stands in the plan. */
 struct call {
     struct shape s;
-    unsigned seat, number, deals, own;
+    unsigned seat, number, deals;
     unsigned learnt, next, end; /* the multiply just learnt, the next one, and where the gates between end; gates where there is none */
     size_t dealt;               /* the seat's dealings before the next multiply */
     const u8 *figures, *coins, *mail;
     u8 *shares, *out;
 };
 
-/* One pass over the gates: the inputs by seat, and the multiplies around the call. */
+/* Finds the multiply that is dealt and the one before it, in one pass up to there. */
+INLINE void find_place_by(struct call *c, unsigned width)
+{
+    const struct shape *s = &c->s;
+    const u8 *at = s->gates_at;
+    unsigned multiplies = 0, own = 0, g = 0, last = c->number <= s->multiplies ? c->number : s->multiplies;
+    c->learnt = c->next = c->end = s->gates;
+    for (; multiplies < last; g++, at += 2 + 2 * width) {
+        multiplies += at[0] == 5;
+        own += (at[0] == 1) & (get_of(at + 2, width) == c->seat);
+    }
+    if (last == c->number)
+        c->next = c->end = --g;
+    c->dealt = own + (c->deals ? c->number - 1 : 0);
+    while (c->number >= 2 && g > 0 && c->learnt == s->gates)
+        c->learnt = gate_at(s, --g)[0] == 5 ? g : c->learnt;
+}
+
 static void find_place(struct call *c)
 {
-    struct shape *s = &c->s;
-    unsigned multiplies = 0;
-    c->learnt = c->next = c->end = s->gates;
-    for (unsigned g = 0; g < s->gates; g++) {
-        const u8 *at = gate_at(s, g);
-        if (at[0] == 1) {
-            s->inputs++;
-            s->inputs_of[field_a(s, at)]++;
-        } else if (at[0] == 5) {
-            multiplies++;
-            c->learnt = multiplies + 1 == c->number ? g : c->learnt;
-            if (multiplies == c->number) {
-                c->next = c->end = g;
-                c->dealt = s->inputs_of[c->seat] + (c->deals ? multiplies - 1 : 0);
-            }
-        }
-    }
-    c->own = s->inputs_of[c->seat];
-    for (unsigned o = 0; o < s->outs; o++)
-        s->outs_of[s->outs_at[3 * o]]++;
+    if (c->number == 0)
+        c->learnt = c->next = c->end = c->s.gates;
+    else if (c->s.width == 2)
+        find_place_by(c, 2);
+    else
+        find_place_by(c, 4);
 }
 
 static size_t mail_numbers(const struct call *c)
@@ -50,7 +53,7 @@ static size_t out_numbers(const struct call *c)
 {
     const struct shape *s = &c->s;
     if (c->number == 0)
-        return (size_t)s->n * c->own;
+        return (size_t)s->n * c->s.own;
     if (c->number <= s->multiplies)
         return c->deals ? s->n : 0;
     return c->number == s->multiplies + 1 ? s->outs : s->outs_of[c->seat];
@@ -76,14 +79,15 @@ static void deal_inputs(const struct call *c)
             continue;
         const u8 *coins = c->coins + 4 * s->t * (size_t)(k + (c->deals ? multiplies : 0));
         for (unsigned j = 0; j < s->n; j++)
-            put4(c->out + 4 * (c->own * j + k), piece(s, get4(c->figures + 4 * k), coins, s->points[j]));
+            put4(c->out + 4 * (c->s.own * j + k), piece(s, get4(c->figures + 4 * k), coins, s->points[j]));
         k++;
     }
 }
 
-static void learn_inputs(const struct call *c)
+static void learn_inputs(struct call *c)
 {
     const u8 *from[16];
+    count_inputs(&c->s);
     from[1] = c->mail;
     for (unsigned seat = 1; seat < c->s.n; seat++)
         from[seat + 1] = from[seat] + 4 * c->s.inputs_of[seat];
@@ -169,14 +173,15 @@ u64 limit_seat_call(const u8 *plan, size_t plan_len, u16 seat, const u8 *figures
 {
     struct call c = {.seat = seat, .figures = figures, .coins = coins, .mail = mail, .shares = state + 4, .out = out};
     const struct shape *s = &c.s;
-    if (read_plan(plan, plan_len, &c.s) || seat < 1 || seat > s->n || state_len != 4 * (1 + (size_t)s->gates))
+    if (read_plan(plan, plan_len, seat, &c.s) || seat < 1 || seat > s->n || state_len != 4 * (1 + (size_t)s->gates))
         return 1;
     c.number = get4(state);
     c.deals = seat <= s->dealers;
     find_place(&c);
+    count_outs(&c.s);
     u32 p = (u32)s->f.p;
-    size_t own_coins = (size_t)s->t * (c.own + (c.deals ? s->multiplies : 0));
-    if (wrong_list(figures, figures_len, c.own, p) || wrong_list(coins, coins_len, own_coins, p) || c.number > s->multiplies + 2 ||
+    size_t own_coins = (size_t)s->t * (s->own + (c.deals ? s->multiplies : 0));
+    if (wrong_list(figures, figures_len, s->own, p) || wrong_list(coins, coins_len, own_coins, p) || c.number > s->multiplies + 2 ||
         wrong_list(state + 4, state_len - 4, s->gates, p) || wrong_list(mail, mail_len, mail_numbers(&c), p) || out_len != 4 * out_numbers(&c))
         return 1;
     if (c.number == s->multiplies + 2) {
