@@ -1,0 +1,13 @@
+pub mod Choices
+pub mod Lengths
+pub mod Orders
+pub mod Sorting
+pub mod Heaping
+pub mod Tabled
+pub mod Comparing
+pub mod Calls
+pub mod Steps
+pub mod Merging
+pub mod Listing
+pub mod SortedRows
+pub mod Worked

@@ -1,0 +1,4 @@
+pub mod Tables
+pub mod Sorts
+pub mod Heaps
+pub mod Merges
