@@ -1,0 +1,4 @@
+pub mod Orders
+pub mod Tallies
+pub mod Joins
+pub mod RightRows
