@@ -2,3 +2,4 @@ pub mod Orders
 pub mod Tallies
 pub mod Joins
 pub mod RightRows
+pub mod Settings
