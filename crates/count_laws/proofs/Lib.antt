@@ -3,3 +3,4 @@ pub mod Tallies
 pub mod Joins
 pub mod RightRows
 pub mod Settings
+pub mod Owned
