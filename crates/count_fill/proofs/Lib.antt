@@ -1,0 +1,3 @@
+pub mod OwnerLaws
+pub mod SettingLaws
+pub mod RowLaws
