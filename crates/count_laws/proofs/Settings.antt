@@ -2,6 +2,7 @@
 --     setting-long, setting-small      a setting has all coins of a run, each below p
 --     setting-once                     no two settings are the same
 --     setting-held, setting-reached    a setting has the members' coins as given, and every list of coins that has them is one
+--     view-below                       the numbers of a view are elements
 --     views-long                       every view has the numbers that `viewCount` says
 --     view-list                        the list of views, by sorting and merging
 -- Assumes nothing.
@@ -15,14 +16,22 @@ use borrow.Author.Tests.{lt-ltb}
 use lib.ListN.{length, drop, getD, length-drop}
 use Rattle.numbers.specs.Tables.{tab, countWhere}
 use Rattle.numbers.specs.Bytes.{allBelow}
-use Rattle.numbers.proofs.Below.{allBelow-at, allBelow-drop}
-use Rattle.sharing_laws.specs.Interp.{All}
-use Rattle.plan.specs.Plans.{Plan, partyCount, coinCount, coinOwners, kindCount}
+use Rattle.numbers.proofs.Below.{allBelow-at, allBelow-drop, append-below, map-below, flatMap-below}
+use Rattle.field.proofs.Solve.{canon-lt}
+use Rattle.field.proofs.Inverse.{pos}
+use Rattle.sharing_laws.proofs.Sums.{dot-canon}
+use Rattle.sharing_laws.specs.Interp.{All, interpolate}
+use Rattle.sharing_laws.specs.Sharing.{opened}
+use Rattle.plan.specs.Plans.{Plan, partyCount, coinCount, inputOwners, coinOwners, kindCount, ownInputs, ownCoins, outWires, steps}
 use Rattle.plan.proofs.Valid.{Valid}
 use Rattle.plan_coalition.specs.Coalitions.{inSet, members, setOk}
 use Rattle.plan_coalition.proofs.Coalitions.{member-in, member-party, all-members}
 use Rattle.run_protocol.specs.Rounds.{view, viewCount}
+use Rattle.run_protocol.specs.Tables.{tableMail, tableResults, tableViewOf}
 use Rattle.run_protocol.proofs.Given.{tabled-none}
+use Rattle.run_protocol.proofs.Runs.{views-table}
+use Rattle.run_protocol.proofs.Below.{mail-below}
+use Rattle.run_protocol.proofs.Accepted.{own-below}
 use Rattle.run_protocol.proofs.ViewCounts.{view-count}
 use Rattle.count_rows.specs.Sorts.{sorted}
 use Rattle.count_rows.specs.Merges as merges
@@ -194,3 +203,18 @@ module _ (plan : Plan) (valid : Valid plan) (none : kindCount plan 7 ≡ 0) (set
       ≡ viewList plan set xs cs
   unfolding viewList rowWidth
   view-list = listed-rows (viewCount plan (members set)) (settingCount plan set) (viewsOf plan set xs cs) views-long
+
+-- ---- the numbers of a view are elements
+pub view-below :
+    (plan : Plan) → Valid plan → kindCount plan 7 ≡ 0 → (xs coins : List ℕ) → allBelow (plan .p) xs ≡ true → length coins ≡ coinCount plan → allBelow (plan .p) coins ≡ true
+    → (ms : List ℕ) → All (λ i. (1 ≤ i) × (i ≤ partyCount plan)) ms → allBelow (plan .p) (view plan ms xs coins []) ≡ true
+unfolding tableViewOf ownInputs ownCoins tableResults opened interpolate
+view-below plan valid none xs coins small full below ms within =
+    let above : 0 < plan .p = pos (valid .prime) in
+    ap (allBelow (plan .p)) (views-table plan valid xs coins [] [] full (tabled-none plan [] none) ms within)
+    ∙ flatMap-below (plan .p) (tableViewOf plan xs coins []) ms
+    (λ i.
+    append-below (plan .p) _ _ (own-below plan above i (inputOwners plan) xs small)
+    (append-below (plan .p) _ _ (own-below plan above i (coinOwners plan) coins below)
+    (append-below (plan .p) _ _ (flatMap-below (plan .p) (tableMail plan xs coins [] i) (steps plan) (mail-below plan above xs coins [] i))
+    (map-below (plan .p) _ (outWires plan i) (λ w. canon-lt above (dot-canon (plan .p) _ _))))))

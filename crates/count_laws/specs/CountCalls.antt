@@ -33,16 +33,24 @@ countSize plan set = width * (rowWidth plan set * settingCount plan set)
 unfoldable pub settingsOk : Plan → ℕ → Bool
 settingsOk plan set = leb (settingCount plan set) 65536 && eqb (kindCount plan 6 + kindCount plan 7) 0
 
--- ---- the call: refusals of the plan, 9, 10 to 13 with the members' coins alone, 30 and 19
+-- ---- the call
+-- refusals 10 to 13, of the members' coins alone
+unfoldable pub memberChecks : Plan → ℕ → List ℕ → List ℕ → List Checked
+memberChecks plan set xs cs =
+    listChecks refusal.InputCount refusal.InputValue (plan .p) (inputCount plan) xs
+    ++ listChecks refusal.CoinCount refusal.CoinValue (plan .p) (memberCoins plan set) cs
+
+-- refusals 9 to 13, 30 and 19
+unfoldable pub countingChecks : Plan → ℕ → List ℕ → List ℕ → ℕ → List Checked
+countingChecks plan set xs cs room =
+    need refusal.Coalition (setOk plan set)
+    ∷ memberChecks plan set xs cs
+    ++ (need refusal.Record (settingsOk plan set)
+    ∷ need refusal.BufferLength (eqb room (countSize plan set))
+    ∷ [])
+
 unfoldable pub countChecks : List ℕ → ℕ → List ℕ → List ℕ → ℕ → List Checked
-countChecks bs set xs cs room =
-    planChecks bs
-    ++ (need refusal.Coalition (setOk (planOf bs) set)
-    ∷ (listChecks refusal.InputCount refusal.InputValue (planOf bs .p) (inputCount (planOf bs)) xs
-    ++ (listChecks refusal.CoinCount refusal.CoinValue (planOf bs .p) (memberCoins (planOf bs) set) cs
-    ++ (need refusal.Record (settingsOk (planOf bs) set)
-    ∷ need refusal.BufferLength (eqb room (countSize (planOf bs) set))
-    ∷ []))))
+countChecks bs set xs cs room = planChecks bs ++ countingChecks (planOf bs) set xs cs room
 
 unfoldable pub countAnswer : List ℕ → ℕ → List ℕ → List ℕ → ℕ → Checked
 countAnswer bs set xs cs room = firstOf (countChecks bs set xs cs room)

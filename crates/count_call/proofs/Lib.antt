@@ -1,0 +1,3 @@
+pub mod SizeLaws
+pub mod CheckLaws
+pub mod CallLaws
