@@ -26,11 +26,10 @@ fn fill_rows(plan: &[u8], h: Header, set: u16, inputs: &[u8], given: &[u8], v: u
     ensures { λ _. ⌜ now (out .exit) ≡ rowsFilled (planOf (now (plan .entry))) set (numbers (now (inputs .entry))) (numbers (now (given .entry))) k ⌝ }
 {
     let n = plan_counts::coin_count(plan, h);
-    let used = numbers::WIDTH * n;
     let mut owners = [0u8; 14368];
     let mut coins = [0u8; 57472];
-    count_fill::owners(plan, h, &mut owners[..n]);
-    count_fill::fill(plan, h, set, inputs, given, &owners[..n], v, k, &mut coins[..used], out);
+    count_fill::owners(plan, h, &mut owners);
+    count_fill::fill(plan, h, set, inputs, given, &owners[..n], v, k, &mut coins, out);
 }
 
 // Writes the views of a call that no refusal falls on, each with its count.

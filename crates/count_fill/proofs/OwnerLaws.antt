@@ -196,11 +196,11 @@ pub ruleset gating = (
 -- ---- the gates
 pub record Owned (bs : List ℕ) (h : Header) (d₀ d : List ℕ) (at g : ℕ) : Type 0 where
   pub within : g ≤ h .gates
-  pub room : length d₀ ≡ coinCount (planOf bs)
+  pub room : coinCount (planOf bs) ≤ length d₀
   pub long : length d ≡ length d₀
   pub put : Put (flatMap (coinOwnersAt (planOf bs)) (take g (planOf bs .gates))) 0 d₀ d at
 
-pub owned-none : (bs : List ℕ) (h : Header) (d : List ℕ) → length d ≡ coinCount (planOf bs) → Owned bs h d d 0 0
+pub owned-none : (bs : List ℕ) (h : Header) (d : List ℕ) → coinCount (planOf bs) ≤ length d → Owned bs h d d 0 0
 unfolding flatMap
 owned-none bs h d l = record { within = omega arith; room = l; long = refl; put = put-none 0 d }
 
@@ -243,11 +243,11 @@ module _ (bs : List ℕ) (h : Header) (d₀ d : List ℕ) (at g : ℕ) (o : Owne
         (put-then (flatMap (coinOwnersAt (planOf bs)) (take g (planOf bs .gates))) (coinOwnersAt (planOf bs) (gateAt bs g)) 0 at r d₀ d e (o .put) p);
   }
 
-  pub owned-done : h .gates ≤ g → d ≡ coinOwners (planOf bs)
+  pub owned-done : h .gates ≤ g → take (coinCount (planOf bs)) d ≡ coinOwners (planOf bs)
   unfolding coinOwners coinCount
   owned-done l =
       let all : take g (planOf bs .gates) ≡ planOf bs .gates = take-all g (planOf bs .gates) (omega (arith, plan-gates pl)) in
-      let end : at ≡ length d = omega (arith, o .put .place, o .room, o .long, ap (λ (gs : List Gate). length (flatMap (coinOwnersAt (planOf bs)) gs)) all) in
-      sym (take-all at d (omega arith)) ∙ o .put .front ∙ ap (flatMap (coinOwnersAt (planOf bs))) all
+      let end : at ≡ length (flatMap (coinOwnersAt (planOf bs)) (planOf bs .gates)) = omega (arith, o .put .place, ap (λ (gs : List Gate). length (flatMap (coinOwnersAt (planOf bs)) gs)) all) in
+      ap (λ (n : ℕ). take n d) (sym end) ∙ o .put .front ∙ ap (flatMap (coinOwnersAt (planOf bs))) all
 
 pub ruleset owning = (needs, owned-none, owned-room, owned-next, owned-done)

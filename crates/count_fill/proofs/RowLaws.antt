@@ -163,3 +163,17 @@ pub ruleset filling = (
   needs, prime-some, coins-room, setting-given, row-is, set-fits, view-wide, row-size, row-next-size, fill-none, row-end, row-here, row-sized, row-written,
   rows-written, rows-long,
 )
+
+-- ---- the room of the coins
+module _ (bs : List ℕ) (set v : ℕ) (inputs given owners : List ℕ) (le : Lent (planOf bs) set inputs given owners v) (room : List ℕ) (l : width * length owners ≤ length room) where
+  pub room-long : width * length owners ≡ length (take (width * length owners) room)
+  room-long = sym (length-take-le (width * length owners) room l)
+
+  pub room-coins : length (take (width * length owners) room) ≡ width * coinCount (planOf bs)
+  unfolding coinCount
+  room-coins = sym room-long ∙ ap (λ (os : List ℕ). width * length os) (le .owned)
+
+pub room-fits : (owners room : List ℕ) → width * length owners ≤ length room → length room < 2 ^ 64 → Fits w64 (width * length owners)
+room-fits owners room l f = record { fits = omega arith }
+
+pub ruleset rooming = (needs, room-long, room-coins, room-fits)

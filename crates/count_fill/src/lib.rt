@@ -5,7 +5,7 @@ ghost use mathlib.Core.Path.{_≡_};
 ghost use mathlib.Core.Bool.{true, cond};
 ghost use mathlib.Core.List.{[], _∷_, _++_, flatMap};
 ghost use Prim.Native.Nat.{suc, _+_, _*_, _/_, _%_, _≤_, _<_};
-ghost use lib.ListN.{length, getD, replicate};
+ghost use lib.ListN.{length, take, getD, replicate};
 ghost use Rattle.numbers.specs.Tables.{tab};
 ghost use Rattle.numbers.specs.Bytes.{width, numbers, bytesOf};
 ghost use Rattle.plan.specs.Plans.{coinCount, coinOwnersAt, coinOwners};
@@ -67,11 +67,11 @@ fn put_owners(plan: &[u8], h: Header, g: usize, at: usize, out: &mut [u8]) -> us
     }
 }
 
-// The owner of each coin of a run.
+// The owner of each coin of a run, in front of the room.
 pub fn owners(plan: &[u8], h: Header, out: &mut [u8])
     requires { ⌜ Planned (now plan) h ⌝ }
-    requires { ⌜ length (now out) ≡ coinCount (planOf (now plan)) ⌝ }
-    ensures { λ _. ⌜ now (out .exit) ≡ coinOwners (planOf (now (plan .entry))) ⌝ }
+    requires { ⌜ coinCount (planOf (now plan)) ≤ length (now out) ⌝ }
+    ensures { λ _. ⌜ take (coinCount (planOf (now (plan .entry)))) (now (out .exit)) ≡ coinOwners (planOf (now (plan .entry))) ⌝ }
 {
     let mut at: usize = 0;
     let mut g: usize = 0;
@@ -138,8 +138,8 @@ fn fill_row(plan: &[u8], h: Header, set: u16, inputs: &[u8], coins: &[u8], v: us
     numbers::write(row, v, 1);
 }
 
-// The rows of the first `settings` settings; `coins` is the room of a run's coins.
-pub fn fill(
+// The rows of the first `settings` settings; `coins` takes each setting's coins.
+fn fill_by(
     plan: &[u8],
     h: Header,
     set: u16,
@@ -167,4 +167,28 @@ pub fn fill(
         at = e;
         s += 1;
     }
+}
+
+// The same, where the room of the coins may have bytes left over.
+pub fn fill(
+    plan: &[u8],
+    h: Header,
+    set: u16,
+    inputs: &[u8],
+    given: &[u8],
+    owners: &[u8],
+    v: usize,
+    settings: usize,
+    room: &mut [u8],
+    out: &mut [u8],
+)
+    requires { ⌜ Planned (now plan) h ⌝ }
+    requires { ⌜ Lent (planOf (now plan)) set (now inputs) (now given) (now owners) v ⌝ }
+    requires { ⌜ width * length (now owners) ≤ length (now room) ⌝ }
+    requires { ⌜ length (now out) ≡ width * (v + 1) * settings ⌝ }
+    ensures { λ _. ⌜ now (out .exit) ≡ rowsFilled (planOf (now (plan .entry))) set (numbers (now (inputs .entry))) (numbers (now (given .entry))) settings ⌝ }
+{
+    let used = numbers::WIDTH * owners.len();
+    let coins = &mut room[..used];
+    fill_by(plan, h, set, inputs, given, owners, v, settings, coins, out);
 }
