@@ -105,7 +105,7 @@ module _ (bs : List ℕ) (h : Header) (pl : Planned bs h) (set : ℕ) (inputs co
   room-check = need refusal.BufferLength (eqb room (countSize (planOf bs) set))
 
   abbrev many-check : Checked
-  many-check = need refusal.Record (settingsOk (planOf bs) set)
+  many-check = need refusal.Settings (settingsOk (planOf bs) set)
 
   parts :
       firstOf (countingChecks (planOf bs) set inputs coins room)
@@ -135,8 +135,8 @@ module _ (bs : List ℕ) (h : Header) (pl : Planned bs h) (set : ℕ) (inputs co
       past-lists : firstOf (countingChecks (planOf bs) set inputs coins room) ≡ andThen many-check room-check
       past-lists = past-set ∙ andThen-passed c _ e
 
-      pub check-many : 65536 < k → Refused refusal.Record ≡ firstOf (countingChecks (planOf bs) set inputs coins room)
-      check-many l = sym (past-lists ∙ andThen-refused many-check _ refusal.Record (need-false refusal.Record (settingsOk (planOf bs) set) (over bs h pl set k ek l)))
+      pub check-many : 65536 < k → Refused refusal.Settings ≡ firstOf (countingChecks (planOf bs) set inputs coins room)
+      check-many l = sym (past-lists ∙ andThen-refused many-check _ refusal.Settings (need-false refusal.Settings (settingsOk (planOf bs) set) (over bs h pl set k ek l)))
 
       module _ (l : k ≤ 65536) (w : ℕ) (ew : w ≡ rowWidth (planOf bs) set) where
         size-is : width * (w * k) ≡ countSize (planOf bs) set
@@ -145,7 +145,7 @@ module _ (bs : List ℕ) (h : Header) (pl : Planned bs h) (set : ℕ) (inputs co
 
         past-many : firstOf (countingChecks (planOf bs) set inputs coins room) ≡ need refusal.BufferLength (eqb room (width * (w * k)))
         past-many =
-            past-lists ∙ andThen-passed many-check _ (need-true refusal.Record (settingsOk (planOf bs) set) (few-ok bs h pl set k ek l))
+            past-lists ∙ andThen-passed many-check _ (need-true refusal.Settings (settingsOk (planOf bs) set) (few-ok bs h pl set k ek l))
             ∙ ap (λ (n : ℕ). need refusal.BufferLength (eqb room n)) (sym size-is)
 
         pub check-room : (room ≡ width * (w * k) → ⊥) → Refused refusal.BufferLength ≡ firstOf (countingChecks (planOf bs) set inputs coins room)
@@ -181,7 +181,7 @@ module _ (plan : Plan) (set : ℕ) (inputs coins : List ℕ) (room : ℕ) (e : f
         inputs-count = holds-length (inputCount plan) inputs (passed-need refusal.InputCount _ (b .0));
         inputs-below = firstOver-nothing (plan .p) (numbers inputs) (passed-found refusal.InputValue _ (c .0));
         given-below = firstOver-nothing (plan .p) (numbers coins) (passed-found refusal.CoinValue _ (f .0));
-        few = leb-true (settingCount plan set) 65536 (both-true (leb (settingCount plan set) 65536) _ (passed-need refusal.Record _ (g .0)) .0);
+        few = leb-true (settingCount plan set) 65536 (both-true (leb (settingCount plan set) 65536) _ (passed-need refusal.Settings _ (g .0)) .0);
       }
 
   pub passed-size : room ≡ countSize plan set

@@ -104,7 +104,7 @@ pub fn check(plan: &[u8], h: Header, set: u16, inputs: &[u8], coins: &[u8], room
     };
     let k = settings(plan, h, set);
     if 65536 < k {
-        return Checked::Refused(Refusal::Record);
+        return Checked::Refused(Refusal::Settings);
     }
     if room != numbers::WIDTH * (row_width(plan, h, set) * k) {
         return Checked::Refused(Refusal::BufferLength);

@@ -45,7 +45,7 @@ unfoldable pub countingChecks : Plan → ℕ → List ℕ → List ℕ → ℕ �
 countingChecks plan set xs cs room =
     need refusal.Coalition (setOk plan set)
     ∷ memberChecks plan set xs cs
-    ++ (need refusal.Record (settingsOk plan set)
+    ++ (need refusal.Settings (settingsOk plan set)
     ∷ need refusal.BufferLength (eqb room (countSize plan set))
     ∷ [])
 
@@ -63,4 +63,4 @@ countAfter bs set xs cs out =
 -- of these refusals, those that the plan and the set decide
 unfoldable pub countSizeAnswer : List ℕ → ℕ → Checked
 countSizeAnswer bs set =
-    firstOf (planChecks bs ++ (need refusal.Coalition (setOk (planOf bs) set) ∷ need refusal.Record (settingsOk (planOf bs) set) ∷ []))
+    firstOf (planChecks bs ++ (need refusal.Coalition (setOk (planOf bs) set) ∷ need refusal.Settings (settingsOk (planOf bs) set) ∷ []))

@@ -8,7 +8,7 @@ use Rattle.plan.specs.Refusals.{numberOf}
 
 -- the numbers in checking order
 unfoldable pub checkingOrder : List ℕ
-checkingOrder = 23 ∷ 27 ∷ 24 ∷ 1 ∷ 2 ∷ 3 ∷ 4 ∷ 5 ∷ 6 ∷ 7 ∷ 8 ∷ 25 ∷ 26 ∷ 31 ∷ 28 ∷ 9 ∷ 10 ∷ 11 ∷ 12 ∷ 13 ∷ 14 ∷ 15 ∷ 16 ∷ 17 ∷ 18 ∷ 19 ∷ 20 ∷ 21 ∷ 22 ∷ []
+checkingOrder = 23 ∷ 27 ∷ 24 ∷ 1 ∷ 2 ∷ 3 ∷ 4 ∷ 5 ∷ 6 ∷ 7 ∷ 8 ∷ 25 ∷ 26 ∷ 31 ∷ 28 ∷ 9 ∷ 10 ∷ 11 ∷ 12 ∷ 13 ∷ 30 ∷ 14 ∷ 15 ∷ 16 ∷ 17 ∷ 18 ∷ 19 ∷ 20 ∷ 21 ∷ 22 ∷ []
 
 unfoldable pub rankIn : List ℕ → ℕ → ℕ
 rankIn [] m = 0

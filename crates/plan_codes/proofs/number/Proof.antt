@@ -90,6 +90,9 @@ enum-told-28 c = search coding
 enum-told-29 : tie.Need-enum-told-29
 enum-told-29 c = search coding
 
+enum-told-30 : tie.Need-enum-told-30
+enum-told-30 c = search coding
+
 returns : tie.Need-returns
 unfolding numberOf
 returns c = search coding
@@ -206,6 +209,10 @@ returns-29 : tie.Need-returns-29
 unfolding numberOf
 returns-29 c = search coding
 
+returns-30 : tie.Need-returns-30
+unfolding numberOf
+returns-30 c = search coding
+
 pub number-spec : {M : Type 1} → statement M
 number-spec =
     tie.close
@@ -239,6 +246,7 @@ number-spec =
     enum-told-27
     enum-told-28
     enum-told-29
+    enum-told-30
     returns
     returns-2
     returns-3
@@ -267,4 +275,5 @@ number-spec =
     returns-26
     returns-27
     returns-28
-    returns-29)
+    returns-29
+    returns-30)

@@ -75,11 +75,14 @@ enum-told-19 c = search coding
 enum-told-20 : tie.Need-enum-told-20
 enum-told-20 c = search coding
 
+enum-told-21 : tie.Need-enum-told-21
+enum-told-21 c = search coding
+
 enum-known-r-5 : tie.Need-enum-known-r-5
 enum-known-r-5 c = search coding
 
-enum-told-21 : tie.Need-enum-told-21
-enum-told-21 c = search coding
+enum-told-22 : tie.Need-enum-told-22
+enum-told-22 c = search coding
 
 enum-known-r-6 : tie.Need-enum-known-r-6
 enum-known-r-6 c = search coding
@@ -206,6 +209,10 @@ returns-29 : tie.Need-returns-29
 unfolding placeOf
 returns-29 c = search coding
 
+returns-30 : tie.Need-returns-30
+unfolding placeOf
+returns-30 c = search coding
+
 pub place-spec : {M : Type 1} → statement M
 place-spec =
     tie.close
@@ -234,8 +241,9 @@ place-spec =
     enum-told-18
     enum-told-19
     enum-told-20
-    enum-known-r-5
     enum-told-21
+    enum-known-r-5
+    enum-told-22
     enum-known-r-6
     enum-known-r-7
     enum-known-r-8
@@ -267,4 +275,5 @@ place-spec =
     returns-26
     returns-27
     returns-28
-    returns-29)
+    returns-29
+    returns-30)
