@@ -85,14 +85,14 @@ capped-within x l = by (leb x 65536) refl l
     by false e m = absurd (omega arith)
 
 module _ (bs : List ℕ) (h : Header) (pl : Planned bs h) (set k : ℕ) (ek : k ≡ capped (settingCount (planOf bs) set)) where
-  over : 65536 < k → settingsOk (planOf bs) set ≡ false
+  pub over : 65536 < k → settingsOk (planOf bs) set ≡ false
   unfolding settingsOk
   over l = rw (capped-over (settingCount (planOf bs) set) (omega arith)) refl
 
   pub few-are : k ≤ 65536 → k ≡ settingCount (planOf bs) set
   few-are l = ek ∙ capped-within (settingCount (planOf bs) set) (omega arith) .0
 
-  few-ok : k ≤ 65536 → settingsOk (planOf bs) set ≡ true
+  pub few-ok : k ≤ 65536 → settingsOk (planOf bs) set ≡ true
   unfolding settingsOk
   few-ok l =
       let none : eqb (kindCount (planOf bs) 6 + kindCount (planOf bs) 7) 0 ≡ true =
@@ -154,7 +154,7 @@ module _ (bs : List ℕ) (h : Header) (pl : Planned bs h) (set : ℕ) (inputs co
         pub check-passed : room ≡ width * (w * k) → Passed ≡ firstOf (countingChecks (planOf bs) set inputs coins room)
         check-passed q = sym (past-many ∙ need-true refusal.BufferLength (eqb room (width * (w * k))) (eq-eqb room (width * (w * k)) q))
 
-few-numbers : (w k : ℕ) → w ≤ 524289 → k ≤ 65536 → w * k ≤ 34359803904
+pub few-numbers : (w k : ℕ) → w ≤ 524289 → k ≤ 65536 → w * k ≤ 34359803904
 few-numbers w k l m = mul-le-mul {n₁ = w} {m₁ = k} {n₂ = 524289} {m₂ = 65536} l m
 
 pub numbers-fit : (w k : ℕ) → w ≤ 524289 → k ≤ 65536 → Fits w64 (w * k)

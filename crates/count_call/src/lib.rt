@@ -18,7 +18,16 @@ ghost use Rattle.count_call.specs.Counting.{Countable};
 pub mod checking;
 
 // The rows of all settings, as they come. Where there are at most 65,536 settings a run has at most 14,368 coins.
-fn fill_rows(plan: &[u8], h: Header, set: u16, inputs: &[u8], given: &[u8], v: usize, k: usize, out: &mut [u8])
+fn fill_rows(
+    plan: &[u8],
+    h: Header,
+    set: u16,
+    inputs: &[u8],
+    given: &[u8],
+    v: usize,
+    k: usize,
+    out: &mut [u8],
+)
     requires { ⌜ Planned (now plan) h ⌝ }
     requires { ⌜ Countable (planOf (now plan)) set (now inputs) (now given) ⌝ }
     requires { ⌜ (v ≡ viewCount (planOf (now plan)) (members set)) × (v ≤ 524288) ⌝ }
@@ -29,7 +38,18 @@ fn fill_rows(plan: &[u8], h: Header, set: u16, inputs: &[u8], given: &[u8], v: u
     let mut owners = [0u8; 14368];
     let mut coins = [0u8; 57472];
     count_fill::owners(plan, h, &mut owners);
-    count_fill::fill(plan, h, set, inputs, given, &owners[..n], v, k, &mut coins, out);
+    count_fill::fill(
+        plan,
+        h,
+        set,
+        inputs,
+        given,
+        &owners[..n],
+        v,
+        k,
+        &mut coins,
+        out,
+    );
 }
 
 // Writes the views of a call that no refusal falls on, each with its count.

@@ -189,8 +189,20 @@ pub few-parties : (bs : List ℕ) (h : Header) → Planned bs h → h .n ≤ 15
 few-parties bs h pl = pl .n-high
 
 pub ruleset gating = (
-  needs, few-parties, input-party, dealers-few, input-room, multiply-room, random-room, put-input, put-multiply, put-random, put-add, put-scale,
-  put-offset, put-spend,
+  needs,
+  few-parties,
+  input-party,
+  dealers-few,
+  input-room,
+  multiply-room,
+  random-room,
+  put-input,
+  put-multiply,
+  put-random,
+  put-add,
+  put-scale,
+  put-offset,
+  put-spend,
 )
 
 -- ---- the gates

@@ -160,8 +160,22 @@ module _ (bs : List ℕ) (set : ℕ) (xs cs : List ℕ) (v settings size : ℕ) 
   rows-long = f .written .long
 
 pub ruleset filling = (
-  needs, prime-some, coins-room, setting-given, row-is, set-fits, view-wide, row-size, row-next-size, fill-none, row-end, row-here, row-sized, row-written,
-  rows-written, rows-long,
+  needs,
+  prime-some,
+  coins-room,
+  setting-given,
+  row-is,
+  set-fits,
+  view-wide,
+  row-size,
+  row-next-size,
+  fill-none,
+  row-end,
+  row-here,
+  row-sized,
+  row-written,
+  rows-written,
+  rows-long,
 )
 
 -- ---- the room of the coins

@@ -3,7 +3,6 @@
 --     owners-within        every coin's owner is a party of the plan
 --     members-sum          the members' coins, added party by party
 --     few-coins            where there are at most 65,536 settings, a run has at most 14,368 coins
---     other-dealings       under the rule of versions 1 to 3 the others have t coins for each of their dealings
 -- Assumes nothing.
 use Prim.Native.Nat.{ℕ, zero, suc, _+_, _*_, _^_, _<_, _≤_}
 use mathlib.Core.Path.{_≡_, refl, sym, ap, ap₂, subst, _∙_}
@@ -33,7 +32,7 @@ use Rattle.plan_coalition.proofs.Coalitions.{member-most}
 use Rattle.run_protocol.proofs.Owners.{blocks, length-blocks}
 use Rattle.run_protocol.proofs.Dealt.{input-owners, reduction-owners}
 use Rattle.count_rows.proofs.Choices.{at-least}
-use Rattle.count_laws.specs.Settings.{memberCoins, otherCoins, settingCount, otherDealings}
+use Rattle.count_laws.specs.Settings.{memberCoins, otherCoins}
 
 -- ---- together they are all
 both-by : (b : Bool) (c d n : ℕ) → c + d ≡ n → cond b (suc c) c + cond (not b) (suc d) d ≡ suc n
@@ -50,7 +49,7 @@ unfolding memberCoins otherCoins coinCount
 members-others plan set = count-both (inSet set) (coinOwners plan)
 
 -- ---- blocks of coins
-count-replicate : (f : ℕ → Bool) (c x : ℕ) → countWhere f (replicate c x) ≡ c * cond (f x) 1 0
+pub count-replicate : (f : ℕ → Bool) (c x : ℕ) → countWhere f (replicate c x) ≡ c * cond (f x) 1 0
 unfolding countWhere
 count-replicate f zero x = sym (zero-mul (cond (f x) 1 0))
 count-replicate f (suc c) x = by (f x) (count-replicate f c x)
@@ -270,6 +269,5 @@ few-coins plan valid plain n gates set ok few =
     omega (
       arith,
       gates-few plan (plain .rule) (omega (arith, valid .threshold)) set (member-most (partyCount plan) (plan .t) set ok) (plan .gates) (plain .kinds)
-      (λ j l m. omega (arith, valid .majority j l m)),
+          (λ j l m. omega (arith, valid .majority j l m)),
     )
-

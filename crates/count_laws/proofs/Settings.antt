@@ -154,9 +154,10 @@ reached-by : (p set : ℕ) (os held : List ℕ) (x m e : ℕ) (c : List ℕ) (b 
     × (cond b (getD (cond b (x ∷ held) held) 0 0 ∷ coinsFrom p set os (drop 1 (cond b (x ∷ held) held)) (cond b m (x + p * m)))
     (cond b m (x + p * m) % p ∷ coinsFrom p set os (cond b (x ∷ held) held) (cond b m (x + p * m) / p)) ≡ x ∷ c)
 reached-by p set os held x m e c true l h q = (h, ap (λ (r : List ℕ). x ∷ r) q)
-reached-by p set os held x m e c false l h q =
-    (rw pow-suc (digits-below p x m (p ^ e) l h),
-     ap₂ (λ (y : ℕ) (r : List ℕ). y ∷ r) (digit-low p x m l) (ap (coinsFrom p set os held) (digit-high p x m l) ∙ q))
+reached-by p set os held x m e c false l h q = (
+  rw pow-suc (digits-below p x m (p ^ e) l h),
+  ap₂ (λ (y : ℕ) (r : List ℕ). y ∷ r) (digit-low p x m l) (ap (coinsFrom p set os held) (digit-high p x m l) ∙ q),
+)
 
 reached : (p set : ℕ) (os c : List ℕ) → 0 < p → length c ≡ length os → allBelow p c ≡ true
     → (numberFrom p set os c < p ^ free set os) × (coinsFrom p set os (heldFrom set os c) (numberFrom p set os c) ≡ c)

@@ -40,6 +40,9 @@ use Rattle.charge_call.specs.ChargeCalls.{priceChecks, chargeAnswer, chargedOf,
 use Rattle.seat_admission.specs.Parts.{listChecks}
 use Rattle.run_bench.specs.Checks.{givenChecks}
 use Rattle.record_laws.specs.Records.{recordChecks, recordAnswer, recordAfter, benchReadChecks, benchReadAnswer, benchReadAfter, plantReadChecks, plantReadAnswer, plantReadAfter}
+use Rattle.count_laws.specs.Settings.{memberCoins}
+use Rattle.count_laws.specs.CountCalls.{memberChecks, countingChecks, countChecks, countAnswer, countAfter}
+use Rattle.count_laws.proofs.Owned.{members-others}
 use Rattle.pool_answers.specs.Answers.{answerOf, billedOf}
 use Rattle.demands.specs.Order.{checkingOrder, rankIn, rankOf}
 use Rattle.demands.specs.Demands.{Answers, Demand1}
@@ -161,6 +164,7 @@ number-range refusal.InputCount = (omega arith, omega arith)
 number-range (refusal.InputValue i) = (omega arith, omega arith)
 number-range refusal.CoinCount = (omega arith, omega arith)
 number-range (refusal.CoinValue i) = (omega arith, omega arith)
+number-range refusal.Settings = (omega arith, omega arith)
 number-range refusal.StateCount = (omega arith, omega arith)
 number-range refusal.StateValue = (omega arith, omega arith)
 number-range refusal.Finished = (omega arith, omega arith)
@@ -377,6 +381,18 @@ party-number : (ok : Bool) {ns : List ℕ} {cs : List Checked} → Numbers ns cs
 unfolding numberOf
 party-number ok rest = need-number refusal.Coalition ok ▹ rest
 
+counting-numbers : (plan : Plan) (set : ℕ) (xs coins : List ℕ) (room : ℕ) → Numbers (9 ∷ 10 ∷ 11 ∷ 12 ∷ 13 ∷ 30 ∷ 19 ∷ []) (countingChecks plan set xs coins room)
+unfolding countingChecks memberChecks listChecks numberOf
+counting-numbers plan set xs coins room =
+    need-number refusal.Coalition _
+    ▹ need-number refusal.InputCount _
+    ▹ found-number refusal.InputValue 11 _ (λ j. refl)
+    ▹ need-number refusal.CoinCount _
+    ▹ found-number refusal.CoinValue 13 _ (λ j. refl)
+    ▹ need-number refusal.Settings _
+    ▹ need-number refusal.BufferLength _
+    ▹ none
+
 plan-bounded : (bs : List ℕ) → Bounded (planChecks bs)
 unfolding planChecks majorityCheck pointsCheck placeOf
 plan-bounded bs =
@@ -481,6 +497,18 @@ module _ (bs : List ℕ) (passes : planCheck bs ≡ Passed) where
       ▸ λ e3. list-small refusal.CoinCount refusal.CoinValue (planOf bs .p) (coinCount (planOf bs)) coins (λ j. refl) (omega (arith, coins-few bs passes)) e3
       ▸ λ e4. Bounded.none
 
+  counting-bounded : (set : ℕ) (xs coins : List ℕ) (room : ℕ) → Bounded (countingChecks (planOf bs) set xs coins room)
+  unfolding countingChecks memberChecks listChecks placeOf
+  counting-bounded set xs coins room =
+      need-small refusal.Coalition _ refl
+      ▸ λ e0. need-small refusal.InputCount _ refl
+      ▸ λ e1. list-small refusal.InputCount refusal.InputValue (planOf bs .p) (inputCount (planOf bs)) xs (λ j. refl) (omega (arith, inputs-few bs passes)) e1
+      ▸ λ e2. need-small refusal.CoinCount _ refl
+      ▸ λ e3. list-small refusal.CoinCount refusal.CoinValue (planOf bs .p) (memberCoins (planOf bs) set) coins (λ j. refl) (omega (arith, coins-few bs passes, members-others (planOf bs) set)) e3
+      ▸ λ e4. need-small refusal.Settings _ refl
+      ▸ λ e5. need-small refusal.BufferLength _ refl
+      ▸ λ e6. Bounded.none
+
   pair-bounded : (set : ℕ) (xs ys coins : List ℕ) (room : ℕ) → Bounded (pairChecks (planOf bs) set xs ys coins room)
   unfolding pairChecks placeOf
   pair-bounded set xs ys coins room =
@@ -530,7 +558,7 @@ unfolding billedOf chargedOf
 bill-none b a r e = rw e refl
 
 pub demand1 : Demand1
-unfolding planCheck callChecks callAnswer benchAnswer matchAnswer importChecks importAnswer sheet.sheetChecks sheet.sheetAnswer chargeAnswer recordChecks recordAnswer benchReadChecks benchReadAnswer plantReadChecks plantReadAnswer placeOf stateAfter outAfter viewAfter matchedAfter importAfter sheet.sheetAfter chargeAfter recordAfter benchReadAfter plantReadAfter ordered before rankIn checkingOrder
+unfolding planCheck callChecks callAnswer benchAnswer matchAnswer importChecks importAnswer sheet.sheetChecks sheet.sheetAnswer chargeAnswer recordChecks recordAnswer benchReadChecks benchReadAnswer plantReadChecks plantReadAnswer placeOf stateAfter outAfter viewAfter matchedAfter importAfter sheet.sheetAfter chargeAfter recordAfter benchReadAfter plantReadAfter countChecks countAnswer countAfter ordered before rankIn checkingOrder
 demand1 = record {
   plan = λ bs. answers Unit (plan-numbers bs) refl (plan-bounded bs) (λ r e. tt);
   call = λ bs i inputs coins state mail out.
@@ -559,6 +587,9 @@ demand1 = record {
   read-one = λ bs stored i out.
       answers _ (joined (plan-numbers bs) (record-number _ (party-number _ (room-number _)))) refl
       (bounded-joined (plan-bounded bs) (λ e. no-place refusal.Record _ refl (no-place refusal.Coalition _ refl (room-bounded _)))) (λ r e. kept _ r _ out e);
+  count = λ bs set xs coins out.
+      answers _ (joined (plan-numbers bs) (counting-numbers (planOf bs) set xs coins (length out))) refl
+      (bounded-joined (plan-bounded bs) (λ e. counting-bounded bs e set xs coins (length out))) (λ r e. kept _ r _ out e);
   counted = λ bs set xs coins room e. sent-whole bs _ (plan-passed bs _ e) e;
   uncounted = λ bs set xs coins room r e. sent-none _ _ r e;
   billed = λ bs price room e. bill-whole bs price _ (charge-passed bs price room e .0) (charge-passed bs price room e .1) e;

@@ -31,6 +31,7 @@ use Rattle.run_bench.specs.Checks.{givenChecks}
 use Rattle.run_bench.specs.BenchCalls.{runChecks, benchAnswer, viewAfter}
 use Rattle.match_agreement.specs.MatchCalls.{pairChecks, matchAnswer, matchedAfter}
 use Rattle.record_laws.specs.Records.{bodySize, recordSize, recordOf, recordChecks, recordAnswer, recordAfter, recordOk, benchReadChecks, benchReadAnswer, bodiesOf, benchReadAfter, bodyOf, plantReadChecks, plantReadAnswer, plantReadAfter}
+use Rattle.count_laws.specs.CountCalls.{viewList, countingChecks, countChecks, countAnswer, countAfter}
 use Rattle.demands.specs.Further.{SameCalls, Rewritten, SameVersions, Converted, Converts}
 
 -- two files that pass, with one plan
@@ -72,8 +73,12 @@ module _ (bs file : List ℕ) (passes : planCheck bs ≡ Passed) (passes′ : pl
       ∷ need refusal.BufferLength (eqb room (bodySize plan i))
       ∷ [])
 
+  same-counting : (set : ℕ) (inputs coins : List ℕ) (room : ℕ) → countAnswer file set inputs coins room ≡ countAnswer bs set inputs coins room
+  unfolding countAnswer countChecks
+  same-counting set inputs coins room = further (λ plan. countingChecks plan set inputs coins room)
+
   calls : SameCalls bs file
-  unfolding calledOn stateAfter outAfter viewAfter matchedAfter recordAfter benchReadAfter plantReadAfter
+  unfolding calledOn stateAfter outAfter viewAfter matchedAfter recordAfter benchReadAfter plantReadAfter countAfter
   calls = record {
     answer = same-answer;
     state =
@@ -104,6 +109,10 @@ module _ (bs file : List ℕ) (passes : planCheck bs ≡ Passed) (passes′ : pl
     read = λ r out. ap₂ (λ (c : Checked) (plan : Plan). unlessRefused c (bodiesOf plan r) out) (same-reading r (length out)) same;
     reading-one = same-reading-one;
     read-one = λ r i out. ap₂ (λ (c : Checked) (plan : Plan). unlessRefused c (bodyOf plan r i) out) (same-reading-one r i (length out)) same;
+    counting = same-counting;
+    counted =
+        λ set inputs coins out.
+        ap₂ (λ (c : Checked) (plan : Plan). unlessRefused c (bytesOf (viewList plan set (numbers inputs) (numbers coins))) out) (same-counting set inputs coins (length out)) same;
   }
 
 pub same-versions : SameVersions

@@ -24,6 +24,7 @@ use Rattle.sheet_call.specs.Compiling.{sheetChecks, sheetAnswer, sheetAfter}
 use Rattle.charge_laws.specs.Charges.{billOf}
 use Rattle.charge_call.specs.ChargeCalls.{priceChecks, chargeAnswer, chargedOf, chargeAfter}
 use Rattle.record_laws.specs.Records.{recordChecks, recordAnswer, recordAfter, benchReadChecks, benchReadAnswer, benchReadAfter, plantReadChecks, plantReadAnswer, plantReadAfter}
+use Rattle.count_laws.specs.CountCalls.{countChecks, countAnswer, countAfter}
 use Rattle.pool_answers.specs.Answers.{answerOf, billedOf}
 use Rattle.demands.specs.Order.{rankOf}
 use Rattle.demands.specs.Apart as apart
@@ -71,6 +72,9 @@ pub record Demand1 : Type 0 where
   pub read-one :
       (bs stored : List ℕ) (i : ℕ) (out : List ℕ)
       → Answers (plantReadChecks bs stored i (length out)) (plantReadAnswer bs stored i (length out)) (plantReadAfter bs stored i out ≡ out)
+  pub count :
+      (bs : List ℕ) (set : ℕ) (xs coins out : List ℕ)
+      → Answers (countChecks bs set xs coins (length out)) (countAnswer bs set xs coins (length out)) (countAfter bs set xs coins out ≡ out)
   -- the bench's answer is the refusal's, which counts no elements, or has the elements sent above its low byte, whole
   pub counted :
       (bs : List ℕ) (set : ℕ) (xs coins : List ℕ) (room : ℕ) → benchAnswer bs set xs coins room ≡ Passed

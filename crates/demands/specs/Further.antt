@@ -22,6 +22,7 @@ use Rattle.run_protocol.specs.Settings.{Coins}
 use Rattle.match_privacy.specs.Matching.{matchedCoins}
 use Rattle.match_agreement.specs.MatchCalls.{matchAnswer, matchedAfter}
 use Rattle.record_laws.specs.Records.{recordAnswer, recordAfter, benchReadAnswer, benchReadAfter, plantReadAnswer, plantReadAfter}
+use Rattle.count_laws.specs.CountCalls.{countAnswer, countAfter}
 use Rattle.demands.specs.Apart.{partCount}
 use Rattle.demands.specs.Demands.{Alike, SameBytes}
 
@@ -91,6 +92,8 @@ pub record SameCalls (first second : List ℕ) : Type 0 where
   pub read : (r out : List ℕ) → benchReadAfter second r out ≡ benchReadAfter first r out
   pub reading-one : (r : List ℕ) (i room : ℕ) → plantReadAnswer second r i room ≡ plantReadAnswer first r i room
   pub read-one : (r : List ℕ) (i : ℕ) (out : List ℕ) → plantReadAfter second r i out ≡ plantReadAfter first r i out
+  pub counting : (set : ℕ) (inputs coins : List ℕ) (room : ℕ) → countAnswer second set inputs coins room ≡ countAnswer first set inputs coins room
+  pub counted : (set : ℕ) (inputs coins out : List ℕ) → countAfter second set inputs coins out ≡ countAfter first set inputs coins out
 
 -- a file that passes as another does, with the same plan: t, p, points, gates and outs, in order
 pub record Rewritten (first second : List ℕ) : Type 0 where

@@ -93,7 +93,7 @@ pub fn code(c: Checked) -> u64
 
 // An answer with a value, which stands above the low byte.
 pub fn value(v: usize) -> u64
-    requires { ⌜ v < 4294967296 ⌝ }
+    requires { ⌜ v < 72057594037927936 ⌝ }
     ensures { λ r. ⌜ r ≡ 256 * v ⌝ }
 {
     256 * (v as u64)

@@ -14,6 +14,8 @@ ghost use Rattle.sheet_call.specs.Compiling.{sheetAnswer, sheetAfter};
 ghost use Rattle.charge_laws.specs.Charges.{billOf};
 ghost use Rattle.charge_call.specs.ChargeCalls.{chargeAnswer, chargedOf, chargeAfter};
 ghost use Rattle.record_laws.specs.Records.{recordAnswer, recordAfter, benchReadAnswer, benchReadAfter, plantReadAnswer, plantReadAfter};
+ghost use Rattle.count_laws.specs.CountCalls.{countAnswer, countAfter};
+ghost use Rattle.pool_views.specs.ViewSizes.{viewsSize};
 ghost use Rattle.pool_sizes.specs.Sizes.{seatSize, callCount, runSize, storedSize};
 ghost use Rattle.pool_files.specs.FileSizes.{importSize, sheetSize, convertSize};
 ghost use Rattle.pool_answers.specs.Answers.{answerOf, billedOf};
@@ -188,6 +190,30 @@ pub extern "C" fn pool_record_read_seat(
     ensures numbers { λ _. ⌜ now (numbers .exit) ≡ plantReadAfter (now (plan .entry)) (now (file .entry)) seat (now (numbers .entry)) ⌝ }
 {
     plan_codes::code(record_read::read_seat(plan, file, seat, numbers))
+}
+
+// The bytes of the list of views: refusals 1 to 8, 25, 26, 9 and 30.
+#[no_mangle]
+pub extern "C" fn pool_count_size(plan: &[u8], set: u16) -> u64
+    ensures { λ r. ⌜ r ≡ viewsSize (now (plan .entry)) set ⌝ }
+{
+    pool_views::count_size(plan, set)
+}
+
+// Each view of a set that the others' coins lead to, with the number of settings that do: refusals 1 to 8, 25, 26, 9 to 13, 30 and 19. The coins
+// are the members' alone.
+#[no_mangle]
+pub extern "C" fn pool_count(
+    plan: &[u8],
+    set: u16,
+    figures: &[u8],
+    coins: &[u8],
+    rows: &mut [u8],
+) -> u64
+    ensures answer { λ r. ⌜ r ≡ codeOf (countAnswer (now (plan .entry)) set (now (figures .entry)) (now (coins .entry)) (length (now (rows .entry)))) ⌝ }
+    ensures rows { λ _. ⌜ now (rows .exit) ≡ countAfter (now (plan .entry)) set (now (figures .entry)) (now (coins .entry)) (now (rows .entry)) ⌝ }
+{
+    plan_codes::code(count_call::count(plan, set, figures, coins, rows))
 }
 
 // The line charge, by party: refusals 1 to 8, 31 and 19.

@@ -24,8 +24,8 @@ pub sent-refused : (b : Benched) (r : Refusal) (k : ℕ) → b ≡ benched.Refus
 unfolding answerOf
 sent-refused b r k e f = f ∙ sym (rw e refl)
 
-pub small-rest : (n : ℕ) → n % 4294967296 < 4294967296
-small-rest n = mod-lt n (omega arith)
+pub small-rest : (n : ℕ) → n % 4294967296 < 72057594037927936
+small-rest n = omega (arith, mod-lt n {m = 4294967296} (omega arith))
 
 pub bench-answered : (b w : Benched) (r : ℕ) → b ≡ w → r ≡ answerOf b → r ≡ answerOf w
 bench-answered b w r e f = f ∙ ap answerOf e

@@ -23,7 +23,7 @@ use Rattle.plan.proofs.Refusals.{firstOf-append, andThen-passed, andThen-refuse
 use Rattle.plan.proofs.Planned.{planned-read, refused-read, plan-n, plan-gates}
 use Rattle.plan.proofs.Ways.{read-outcome}
 use Rattle.plan_codes.specs.Values.{valueOf}
-use Rattle.plan_codes.proofs.Codes.{value-refused, value-passed}
+use Rattle.plan_codes.proofs.Codes.{value-refused, value-passed, plan-refused}
 use Rattle.plan_coalition.specs.Coalitions.{members, setFits, setOk}
 use Rattle.plan_coalition.proofs.Coalitions.{set-ok}
 use Rattle.run_protocol.specs.Rounds.{viewCount}
@@ -32,26 +32,17 @@ use Rattle.pool_sizes.specs.Sizes.{mailOfCall, writtenByCall, seatCount,
 
 -- a refused plan, whatever else is checked
 module _ (bs : List ℕ) (r : Reading) (q : Refusal) (c : Checked) (k : ℕ) (read : ReadAs bs r) (turned : r ≡ reading.Refused q) (handed : c ≡ outcomeOf r) (is : k ≡ codeOf c) where
-  first : planCheck bs ≡ Refused q
-  first = refused-read bs r q read turned
-
-  plan-refused : (checks : List Checked) (v : ℕ) → k ≡ valueOf (firstOf (planChecks bs ++ checks)) v
-  unfolding planCheck
-  plan-refused checks v =
-      let whole : firstOf (planChecks bs ++ checks) ≡ Refused q = firstOf-append (planChecks bs) checks ∙ andThen-refused _ _ q first in
-      is ∙ ap codeOf (read-outcome bs r c read handed ∙ first ∙ sym whole) ∙ sym (value-refused _ q v whole)
-
   pub seat-plan-refused : (i call what : ℕ) → k ≡ seatSize bs i call what
   unfolding seatSize
-  seat-plan-refused i call what = plan-refused _ _
+  seat-plan-refused i call what = plan-refused bs r q c k read turned handed is _ _
 
   pub run-plan-refused : (set what : ℕ) → k ≡ runSize bs set what
   unfolding runSize
-  run-plan-refused set what = plan-refused _ _
+  run-plan-refused set what = plan-refused bs r q c k read turned handed is _ _
 
   pub calls-refused : k ≡ callCount bs
   unfolding callCount
-  calls-refused = is ∙ ap codeOf (read-outcome bs r c read handed) ∙ sym (value-refused _ q _ first)
+  calls-refused = is ∙ ap codeOf (read-outcome bs r c read handed) ∙ sym (value-refused _ q _ (refused-read bs r q read turned))
 
 -- a plan that passes, then one check more
 module _ (bs : List ℕ) (r : Reading) (h : Header) (read : ReadAs bs r) (went : r ≡ reading.Passed h) where

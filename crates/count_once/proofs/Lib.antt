@@ -1,0 +1,3 @@
+pub mod Dealt
+pub mod Seen
+pub mod Once
