@@ -26,6 +26,7 @@ use Rattle.run_protocol.specs.Shares.{wireAt, shareTable, gateShare, dealtAt, s
 use Rattle.run_protocol.specs.Tables.{beforeGate, gateIn, tableMail}
 use Rattle.run_protocol.proofs.Owners.{length-own}
 use Rattle.run_protocol.proofs.Table.{table-at}
+use Rattle.run_protocol.proofs.Expected.{Tabled}
 use Rattle.run_protocol.proofs.Given.{tabled-none}
 use Rattle.run_protocol.proofs.Runs.{run-mail}
 use Rattle.run_protocol.proofs.Counts.{mail-count}
@@ -75,6 +76,7 @@ tab-below f (suc n) w (List·Memᴰ·tail m) = let r = tab-below (λ k. f (suc k
 
 module _ (plan : Plan) (valid : Valid plan) (plain : Plain plan) (ms : List ℕ) (within : All (λ i. (1 ≤ i) × (i ≤ partyCount plan)) ms) (xs c d : List ℕ)
     (full : length c ≡ coinCount plan) (full′ : length d ≡ coinCount plan) (same : view plan ms xs c [] ≡ view plan ms xs d []) where
+  none : Tabled plan [] []
   none = tabled-none plan [] (plain-no-7 plan plain)
 
   low : (i : ℕ) → List·Memᴰ i ms → 1 ≤ i
