@@ -2040,14 +2040,16 @@ fn counts(random: &mut Random, tally: &mut Tally, file: Vec<u8>, set: u16, often
     }
 }
 
-/// Every plan of two inputs or fewer and at most one more gate over a small prime, with each set and each seat that its out may go to.
+/// Every plan of two inputs and at most one more gate over a small prime, with the last wire as its out for each seat, and with each set.
 fn every_tiny_plan(random: &mut Random, tally: &mut Tally, (n, t, p): (u16, usize, u32)) {
     let inputs: Vec<Gate> = (1..=n).map(Gate::Input).collect();
-    let mut last = vec![None, Some(Gate::Add(0, 1)), Some(Gate::Add(0, 0))];
-    last.extend((0..p).flat_map(|c| [Some(Gate::Scale(0, c)), Some(Gate::Offset(1, c))]));
-    if 2 * t < usize::from(n) {
-        last.extend([Some(Gate::Multiply(0, 1)), Some(Gate::Multiply(1, 1))]);
+    let mut last = vec![None];
+    for (a, b) in [(0, 0), (0, 1), (1, 0), (1, 1)] {
+        last.push(Some(Gate::Add(a, b)));
+        last.extend((2 * t < usize::from(n)).then_some(Some(Gate::Multiply(a, b))));
     }
+    last.extend((0..2 * p).map(|i| Some(Gate::Scale(i as usize % 2, i / 2))));
+    last.extend((0..2 * p).map(|i| Some(Gate::Offset(i as usize % 2, i / 2))));
     let pairs = inputs.iter().flat_map(|&a| inputs.iter().map(move |&b| [a, b]));
     for (pair, last) in pairs.flat_map(|pair| last.iter().map(move |&last| (pair, last))) {
         let gates: Vec<Gate> = pair.into_iter().chain(last).collect();
@@ -2103,8 +2105,8 @@ fn other_programs(tally: &mut Tally) {
 /// Streams of cases, each from its own seed.
 type Part = &'static [fn(&mut Tally)];
 
-/// The streams in parts that take about as long; each may be worked in a process of its own.
-const PARTS: [Part; 2] = [
+/// The streams in parts; each may be worked in a process of its own.
+const PARTS: [Part; 3] = [
     &[
         first_plans,
         |tally| sheets(&mut Random(20_260_205), tally),
@@ -2119,8 +2121,8 @@ const PARTS: [Part; 2] = [
         |tally| large_plans(&mut Random(20_260_606), tally),
         |tally| large_texts(&mut Random(20_260_607), tally),
         other_programs,
-        all_counts,
     ],
+    &[all_counts],
 ];
 
 /// Works a part, counted from 0.
