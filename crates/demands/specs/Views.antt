@@ -1,7 +1,7 @@
 -- What is claimed of counting the views (document 02, R-13): "how many settings of the others' coins lead to each view. [..] Views reached stand
 -- ascending, compared from their first number; rows left over are 0. For a set of exactly t members, under the version 1 to 3 multiply rule, no view has
 -- two settings, and the number of views is p to the power e, where e is t times the count of non-members' dealings." And worked lists, as one table.
-use Prim.Native.Nat.{ℕ, _*_, _^_, _<_}
+use Prim.Native.Nat.{ℕ, _+_, _*_, _^_, _<_}
 use mathlib.Core.Path.{_≡_}
 use mathlib.Core.Bool.{true}
 use mathlib.Core.List.{List, [], _∷_, _++_}
