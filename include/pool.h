@@ -407,7 +407,9 @@ uint64_t pool_count_size(const uint8_t *plan, size_t plan_len, uint16_t set);
  * has no number: its one row is the count of all settings. Where t is 0 there
  * are no coins, and one setting. For a coalition of exactly t parties no view
  * has two settings, so every count is 1. Two lists of inputs that agree at the
- * members' inputs and give the members the same results give the same rows.
+ * members' inputs and give the members the same results give the same rows,
+ * since pool_match takes the one list's settings to the other's, one to one,
+ * and keeps the view.
  *
  * Answers 0 and has written rows, or answers the first of refusals 1 to 8, 25,
  * 26, 9 to 13, 30 and 19 and has written nothing. It takes a run's time for each
