@@ -112,6 +112,9 @@ void close_report(struct report *r, const char *path);
 /* Replaces a file as a whole, or writes standard output for `-`. */
 void write_output(const char *path, struct bytes all);
 
+/* Puts a text at the right of its column. The blanks before it wait in *blanks until something stands after them, so that no line ends in blanks. */
+void put_right(FILE *to, int *blanks, int width, const char *text);
+
 /* Writes a file, and the report to standard output where the file is another. */
 void write_and_report(const char *path, struct bytes all, struct report *r);
 

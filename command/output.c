@@ -103,3 +103,12 @@ void write_and_report(const char *path, struct bytes all, struct report *r)
         free(r->text);
     }
 }
+
+void put_right(FILE *to, int *blanks, int width, const char *text)
+{
+    *blanks += width - (int)strlen(text);
+    if (!*text)
+        return;
+    fprintf(to, "%*s%s", *blanks, "", text);
+    *blanks = 0;
+}

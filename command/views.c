@@ -26,14 +26,9 @@ struct line {
     struct part cells[MAX_SEATS];
 };
 
-/* Puts a text at the right of its column. Blanks wait until something stands after them, so that no line ends in blanks. */
 static void put(struct table *t, int width, const char *text)
 {
-    t->blanks += width - (int)strlen(text);
-    if (!*text)
-        return;
-    fprintf(t->to, "%*s%s", t->blanks, "", text);
-    t->blanks = 0;
+    put_right(t->to, &t->blanks, width, text);
 }
 
 static void end_line(struct table *t)
