@@ -98,52 +98,147 @@ pub const REFERENCE: Interface = Interface {
     count_size: |plan, set| answer(count_size(plan, set)),
 };
 
+/// The calls that are timed, linked under these names.
+#[cfg(any(pool_lib, pool_limit))]
+macro_rules! linked {
+    ($check:literal, $seat:literal, $bench:literal, $matching:literal, $count:literal) => {{
+        mod c {
+            type Bytes = *const u8;
+            extern "C" {
+                #[link_name = $check]
+                pub fn plan_check(plan: Bytes, plan_len: usize) -> u64;
+                #[link_name = $seat]
+                pub fn seat_call(
+                    plan: Bytes,
+                    plan_len: usize,
+                    seat: u16,
+                    figures: Bytes,
+                    figures_len: usize,
+                    coins: Bytes,
+                    coins_len: usize,
+                    state: *mut u8,
+                    state_len: usize,
+                    mail: Bytes,
+                    mail_len: usize,
+                    out: *mut u8,
+                    out_len: usize,
+                ) -> u64;
+                #[link_name = $bench]
+                pub fn bench(
+                    plan: Bytes,
+                    plan_len: usize,
+                    set: u16,
+                    figures: Bytes,
+                    figures_len: usize,
+                    coins: Bytes,
+                    coins_len: usize,
+                    view: *mut u8,
+                    view_len: usize,
+                ) -> u64;
+                #[link_name = $matching]
+                pub fn matching(
+                    plan: Bytes,
+                    plan_len: usize,
+                    set: u16,
+                    first: Bytes,
+                    first_len: usize,
+                    second: Bytes,
+                    second_len: usize,
+                    coins: Bytes,
+                    coins_len: usize,
+                    matched: *mut u8,
+                    matched_len: usize,
+                ) -> u64;
+                #[link_name = $count]
+                pub fn count(
+                    plan: Bytes,
+                    plan_len: usize,
+                    set: u16,
+                    figures: Bytes,
+                    figures_len: usize,
+                    coins: Bytes,
+                    coins_len: usize,
+                    rows: *mut u8,
+                    rows_len: usize,
+                ) -> u64;
+            }
+        }
+        $crate::limit::Calls {
+            plan_check: |plan| unsafe { c::plan_check(plan.as_ptr(), plan.len()) },
+            seat_call: |plan, seat, figures, coins, state, mail, out| unsafe {
+                c::seat_call(
+                    plan.as_ptr(),
+                    plan.len(),
+                    seat,
+                    figures.as_ptr(),
+                    figures.len(),
+                    coins.as_ptr(),
+                    coins.len(),
+                    state.as_mut_ptr(),
+                    state.len(),
+                    mail.as_ptr(),
+                    mail.len(),
+                    out.as_mut_ptr(),
+                    out.len(),
+                )
+            },
+            bench: |plan, set, figures, coins, view| unsafe {
+                c::bench(
+                    plan.as_ptr(),
+                    plan.len(),
+                    set,
+                    figures.as_ptr(),
+                    figures.len(),
+                    coins.as_ptr(),
+                    coins.len(),
+                    view.as_mut_ptr(),
+                    view.len(),
+                )
+            },
+            matching: |plan, set, first, second, coins, matched| unsafe {
+                c::matching(
+                    plan.as_ptr(),
+                    plan.len(),
+                    set,
+                    first.as_ptr(),
+                    first.len(),
+                    second.as_ptr(),
+                    second.len(),
+                    coins.as_ptr(),
+                    coins.len(),
+                    matched.as_mut_ptr(),
+                    matched.len(),
+                )
+            },
+            count: |plan, set, figures, coins, rows| unsafe {
+                c::count(
+                    plan.as_ptr(),
+                    plan.len(),
+                    set,
+                    figures.as_ptr(),
+                    figures.len(),
+                    coins.as_ptr(),
+                    coins.len(),
+                    rows.as_mut_ptr(),
+                    rows.len(),
+                )
+            },
+        }
+    }};
+}
+#[cfg(pool_limit)]
+pub(crate) use linked;
+
+#[cfg(pool_lib)]
+const TIMED: crate::limit::Calls =
+    linked!("pool_plan_check", "pool_seat_call", "pool_bench", "pool_match", "pool_count");
+
 /// The product's static library.
 #[cfg(pool_lib)]
 pub const LIBRARY: Interface = {
     mod c {
         type Bytes = *const u8;
         extern "C" {
-            pub fn pool_plan_check(plan: Bytes, plan_len: usize) -> u64;
-            pub fn pool_seat_call(
-                plan: Bytes,
-                plan_len: usize,
-                seat: u16,
-                figures: Bytes,
-                figures_len: usize,
-                coins: Bytes,
-                coins_len: usize,
-                state: *mut u8,
-                state_len: usize,
-                mail: Bytes,
-                mail_len: usize,
-                out: *mut u8,
-                out_len: usize,
-            ) -> u64;
-            pub fn pool_bench(
-                plan: Bytes,
-                plan_len: usize,
-                set: u16,
-                figures: Bytes,
-                figures_len: usize,
-                coins: Bytes,
-                coins_len: usize,
-                view: *mut u8,
-                view_len: usize,
-            ) -> u64;
-            pub fn pool_match(
-                plan: Bytes,
-                plan_len: usize,
-                set: u16,
-                first: Bytes,
-                first_len: usize,
-                second: Bytes,
-                second_len: usize,
-                coins: Bytes,
-                coins_len: usize,
-                matched: *mut u8,
-                matched_len: usize,
-            ) -> u64;
             pub fn pool_seat_size(plan: Bytes, plan_len: usize, seat: u16, call: u16, what: u16) -> u64;
             pub fn pool_run_size(plan: Bytes, plan_len: usize, set: u16, what: u16) -> u64;
             pub fn pool_import(
@@ -198,67 +293,14 @@ pub const LIBRARY: Interface = {
                 numbers: *mut u8,
                 numbers_len: usize,
             ) -> u64;
-            pub fn pool_count(
-                plan: Bytes,
-                plan_len: usize,
-                set: u16,
-                figures: Bytes,
-                figures_len: usize,
-                coins: Bytes,
-                coins_len: usize,
-                rows: *mut u8,
-                rows_len: usize,
-            ) -> u64;
             pub fn pool_count_size(plan: Bytes, plan_len: usize, set: u16) -> u64;
         }
     }
     Interface {
-        plan_check: |plan| unsafe { c::pool_plan_check(plan.as_ptr(), plan.len()) },
-        seat_call: |plan, seat, figures, coins, state, mail, out| unsafe {
-            c::pool_seat_call(
-                plan.as_ptr(),
-                plan.len(),
-                seat,
-                figures.as_ptr(),
-                figures.len(),
-                coins.as_ptr(),
-                coins.len(),
-                state.as_mut_ptr(),
-                state.len(),
-                mail.as_ptr(),
-                mail.len(),
-                out.as_mut_ptr(),
-                out.len(),
-            )
-        },
-        bench: |plan, set, figures, coins, view| unsafe {
-            c::pool_bench(
-                plan.as_ptr(),
-                plan.len(),
-                set,
-                figures.as_ptr(),
-                figures.len(),
-                coins.as_ptr(),
-                coins.len(),
-                view.as_mut_ptr(),
-                view.len(),
-            )
-        },
-        matching: |plan, set, first, second, coins, matched| unsafe {
-            c::pool_match(
-                plan.as_ptr(),
-                plan.len(),
-                set,
-                first.as_ptr(),
-                first.len(),
-                second.as_ptr(),
-                second.len(),
-                coins.as_ptr(),
-                coins.len(),
-                matched.as_mut_ptr(),
-                matched.len(),
-            )
-        },
+        plan_check: TIMED.plan_check,
+        seat_call: TIMED.seat_call,
+        bench: TIMED.bench,
+        matching: TIMED.matching,
         seat_size: |plan, seat, call, what| unsafe { c::pool_seat_size(plan.as_ptr(), plan.len(), seat, call, what) },
         run_size: |plan, set, what| unsafe { c::pool_run_size(plan.as_ptr(), plan.len(), set, what) },
         import: |text, n, t, p, plan| unsafe {
@@ -308,19 +350,7 @@ pub const LIBRARY: Interface = {
                 numbers.len(),
             )
         },
-        count: |plan, set, figures, coins, rows| unsafe {
-            c::pool_count(
-                plan.as_ptr(),
-                plan.len(),
-                set,
-                figures.as_ptr(),
-                figures.len(),
-                coins.as_ptr(),
-                coins.len(),
-                rows.as_mut_ptr(),
-                rows.len(),
-            )
-        },
+        count: TIMED.count,
         count_size: |plan, set| unsafe { c::pool_count_size(plan.as_ptr(), plan.len(), set) },
     }
 };
