@@ -1,4 +1,6 @@
 // The bench program (document 01): reads a plan, a set, figures and coins from standard input, and prints the set's view of the run.
+#![tactic(auto)]
+
 ghost use Rattle.std.specs.Prelude.{◌≤◌, length};
 ghost use Rattle.bench_fitting.specs.Fitting.{longest};
 

@@ -1,4 +1,6 @@
 // The bench program's text, whole: a buffer of 3,000,000 bytes holds every report.
+#![tactic(auto)]
+
 ghost use Rattle.std.specs.Prelude.{◌≤◌, length};
 ghost use Rattle.bench_lines.specs.Report.{report};
 ghost use Rattle.bench_fitting.specs.Fitting.{longest, Whole};

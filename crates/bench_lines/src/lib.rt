@@ -1,5 +1,7 @@
 // The lines of a bench run, or of its refusal. Those of a run are read off the view's numbers, which stand member by member: its
 // inputs, its coins, its mail by rounds, its results.
+#![tactic(auto)]
+
 ghost use Rattle.std.specs.Prelude.{◌≡◌, cond, ◌<◌, ◌≤◌, length, take, drop};
 ghost use mathlib.Core.List.{[], ◌∷◌, flat_map};
 ghost use Rattle.numbers.specs.Bytes.{numbers};

@@ -1,4 +1,6 @@
 // The bench program's text (document 01, "The bench program reads standard input"): the lines of a bench run, or of its refusal.
+#![tactic(auto)]
+
 ghost use Rattle.std.specs.Prelude.{◌≡◌, ◌*◌, ◌/◌, ◌<◌, ◌≤◌, min, length, take};
 ghost use Rattle.numbers.specs.Bytes.{width, number_at};
 ghost use Rattle.plan.specs.File.{plan_of};

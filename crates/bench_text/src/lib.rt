@@ -1,4 +1,6 @@
 // Text is appended to what stands in a lent buffer, as far as there is room. Each function answers how many bytes stand afterwards.
+#![tactic(auto)]
+
 ghost use mathlib.Core.List.{[], ◌∷◌, flat_map};
 ghost use Rattle.std.specs.Prelude.{◌≤◌, length, take, drop};
 ghost use Rattle.numbers.specs.Bytes.{numbers};

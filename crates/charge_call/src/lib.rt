@@ -1,4 +1,6 @@
 // The line charge (document 02, R-14): what each party sends, the carrier's bill, and each party's part of it.
+#![tactic(auto)]
+
 ghost use Rattle.std.specs.Prelude.{◌≡◌, cond, ◌*◌, ◌<◌, ◌≤◌, leb, length};
 ghost use Rattle.numbers.specs.Bytes.{width, bytes_of};
 ghost use Rattle.plan.specs.File.{plan_of};
@@ -9,7 +11,7 @@ ghost use Rattle.charge_call.specs.ChargeCalls.{charge_answer, charged_of, charg
 use plan::{Checked, Header, Reading, Refusal};
 
 // What the charge answers: the bill in cents, or the first refusal.
-#[derive(Drop)]
+#[derive(Clone, Copy)]
 pub enum Charged {
     Bill(u64),
     Refused(Refusal),

@@ -1,4 +1,6 @@
 // A bill's parts (document 02, R-14): rounded down, then the cents left over, and the parts as a list that is lent.
+#![tactic(auto)]
+
 ghost use Rattle.std.specs.Prelude.{◌≡◌, ◌+◌, ◌*◌, ◌<◌, ◌≤◌, length};
 ghost use Rattle.numbers.specs.Tables.{tab, total};
 ghost use Rattle.numbers.specs.Bytes.{width, bytes_of};

@@ -1,4 +1,6 @@
 // A plan of version 1 or 2 written as one of version 3 (document 02, R-6).
+#![tactic(auto)]
+
 ghost use Rattle.std.specs.Prelude.{◌≡◌, ◌+◌, ◌*◌, ◌<◌, ◌≤◌, length, get_or};
 ghost use mathlib.Core.List.{flat_map};
 ghost use Rattle.numbers.specs.Bytes.{bytes_from};

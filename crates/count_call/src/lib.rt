@@ -1,5 +1,7 @@
 // Counting the views (document 02, R-13): for given inputs, a set and its members' coins, how many settings of the others' coins lead to each
 // view. A row a setting stands in the lent list: it is filled with the setting's view and 1, and the rows are sorted and merged where they stand.
+#![tactic(auto)]
+
 ghost use Rattle.std.specs.Prelude.{◌≡◌, ◌+◌, ◌*◌, ◌≤◌, length};
 ghost use Rattle.numbers.specs.Bytes.{width, numbers, bytes_of};
 ghost use Rattle.plan.specs.File.{plan_of};

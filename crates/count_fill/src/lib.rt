@@ -1,4 +1,6 @@
 // The rows of all settings (document 02, R-13), filled one after the other: a setting's coins, the set's view of the run with them, and 1.
+#![tactic(auto)]
+
 ghost use Rattle.std.specs.Prelude.{◌≡◌, true, cond, suc, ◌+◌, ◌*◌, ◌/◌, ◌%◌, ◌≤◌, ◌<◌, length, take, get_or, replicate};
 ghost use mathlib.Core.List.{[], ◌∷◌, ◌++◌, flat_map};
 ghost use Rattle.numbers.specs.Tables.{tab};

@@ -1,4 +1,6 @@
 // A circuit in Bristol Fashion imported into a plan (document 02, R-1).
+#![tactic(auto)]
+
 ghost use Rattle.std.specs.Prelude.{◌≡◌, ◌≤◌, length};
 ghost use Rattle.import_call.specs.Importing.{import_file, measure, measured_of, refusal_of, import_answer, import_after};
 ghost use Rattle.plan.specs.Refusals.{and_then, first_of};
@@ -13,7 +15,7 @@ use import_check::Survey;
 use plan::{Checked, Refusal};
 
 // How many gates and outs the plan has, or the refusal.
-#[derive(Drop)]
+#[derive(Clone, Copy)]
 pub enum Measured {
     Counts(usize, usize),
     Refused(Refusal),

@@ -1,4 +1,6 @@
 // The first pass over a circuit's text (document 02, R-1): refusal 23, and how many gates and outs the plan has.
+#![tactic(auto)]
+
 ghost use Rattle.std.specs.Prelude.{◌≡◌, ◌&&◌, ◌+◌, ◌*◌, ◌<◌, ◌≤◌, length, set};
 ghost use Rattle.import_circuit.specs.Wires.{is_set, can_set, gate_fits};
 ghost use Rattle.import_check.specs.Surveying.{survey_of, head_ok, marks_of, sized_from, Surveyed};
@@ -7,7 +9,7 @@ use import_text::{GateRead, Head, HeadRead, LogicGate};
 use numbers::Found;
 
 // The plan's gates and outs, or that the text is refused.
-#[derive(Drop)]
+#[derive(Clone, Copy)]
 pub enum Survey {
     Counts(usize, usize),
     Wrong,

@@ -1,4 +1,6 @@
 // A gate of a circuit: the wire that it sets, and the plan's gates that it takes.
+#![tactic(auto)]
+
 ghost use Rattle.std.specs.Prelude.{◌≡◌, ◌≤◌};
 ghost use Rattle.import_circuit.specs.Wires.{set_by};
 ghost use Rattle.import_circuit.specs.Making.{gate_size};

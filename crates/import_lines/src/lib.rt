@@ -1,4 +1,6 @@
 // Lines, fields and numbers of a text (document 02, R-1), read from a place on.
+#![tactic(auto)]
+
 ghost use Rattle.std.specs.Prelude.{◌≡◌, ◌+◌, ◌*◌, ◌<◌, ◌≤◌, length};
 ghost use Rattle.import_lines.specs.Places.{is_gap, line_start, line_over, field_over, number_at, letters_at, word_past, numbers_at, summed, values_at, NumberRead, ValuesRead};
 
@@ -7,7 +9,7 @@ use text_decimals::Numeral;
 
 // A line of numbers that says how many follow: the count, the first one's place, their sum, and the place past them; or that it breaks
 // the format.
-#[derive(Drop)]
+#[derive(Clone, Copy)]
 pub enum Values {
     Read(usize, usize, usize, usize),
     Wrong,

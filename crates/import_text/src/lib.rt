@@ -1,4 +1,6 @@
 // A circuit in Bristol Fashion (document 02, R-1): its text, line by line.
+#![tactic(auto)]
+
 ghost use Rattle.std.specs.Prelude.{◌≡◌, ◌<◌};
 ghost use Rattle.import_text.specs.Scanning.{first_ended, ended, two_named, one_named, two_wires, one_wire, wires_at, gate_at, values_head, head_at, HeadIs};
 
@@ -7,7 +9,7 @@ use numbers::Found;
 use text_decimals::Numeral;
 
 // A gate of the circuit: the wires it reads, then the wire it sets.
-#[derive(Drop)]
+#[derive(Clone, Copy)]
 pub enum LogicGate {
     Xor(usize, usize, usize),
     And(usize, usize, usize),
@@ -15,7 +17,7 @@ pub enum LogicGate {
 }
 
 // A gate's line with the place past it, or that it breaks the format.
-#[derive(Drop)]
+#[derive(Clone, Copy)]
 pub enum GateRead {
     Read(LogicGate, usize),
     Wrong,
@@ -23,7 +25,7 @@ pub enum GateRead {
 
 // What the lines before the gates say: the gates and wires; the count of input values, the place of the first one's count of wires, and
 // the wires of all; the wires of all output values; and the place past these lines.
-#[derive(Drop)]
+#[derive(Clone, Copy)]
 pub struct Head {
     pub gates: usize,
     pub wires: usize,
@@ -34,7 +36,7 @@ pub struct Head {
     pub at: usize,
 }
 
-#[derive(Drop)]
+#[derive(Clone, Copy)]
 pub enum HeadRead {
     Read(Head),
     Wrong,

@@ -1,4 +1,6 @@
 // The second pass over a circuit's text (document 02, R-1): the plan's file is written.
+#![tactic(auto)]
+
 ghost use Rattle.std.specs.Prelude.{◌≡◌, ◌+◌, ◌*◌, ◌<◌, ◌≤◌, length, get_or, set, replicate};
 ghost use mathlib.Core.List.{[], ◌∷◌, ◌++◌, flat_map};
 ghost use Rattle.numbers.specs.Tables.{tab};

@@ -1,4 +1,6 @@
 // Refusals 9 to 13, 19, 21 and 22 of a matching, in their order.
+#![tactic(auto)]
+
 ghost use Rattle.std.specs.Prelude.{◌≡◌, true, ◌<◌, length};
 ghost use Rattle.numbers.specs.Tables.{first_failing};
 ghost use Rattle.numbers.specs.Bytes.{numbers, all_below};

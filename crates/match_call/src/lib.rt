@@ -1,4 +1,6 @@
 // The matching of coins: the coins with which a second list of inputs gives a coalition the same view.
+#![tactic(auto)]
+
 pub mod working;
 
 ghost use Rattle.std.specs.Prelude.{◌≡◌, length};

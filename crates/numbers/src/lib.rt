@@ -1,5 +1,7 @@
 // Lists of numbers that are lent as bytes: four bytes a number, the low byte first. A read past the end is 0, and a write
 // there changes nothing.
+#![tactic(auto)]
+
 ghost use Rattle.std.specs.Prelude.{◌≡◌, cond, ◌&&◌, ◌/◌, ◌%◌, ◌<◌, ◌≤◌, ltb, length, get_or, drop};
 ghost use Rattle.numbers.specs.Bytes.{word_at, width, limit, numbers, holds_count, stored, first_over, all_below};
 
@@ -7,7 +9,7 @@ ghost use Rattle.numbers.specs.Bytes.{word_at, width, limit, numbers, holds_coun
 pub const WIDTH: usize = 4;
 
 // What a search answers.
-#[derive(Drop)]
+#[derive(Clone, Copy)]
 pub enum Found {
     At(usize),
     Nothing,

@@ -91,7 +91,7 @@ module _ (n gates : ℕ) (o : Output) (t : Bool) (e : t ≡ between 1 n o.party)
   unfolding out_ok
   rule-wire f = rw (← e, f)
 
-pub ruleset rules = (rules, not-true, not-false, between_under, between_from, below_first-not, below_first, rule-input, rule-add, rule-scale, rule-offset, rule-multiply, rule-random, rule-spend, rule-no-party, rule-wire)
+pub ruleset ruling = (rules, not-true, not-false, between_under, between_from, below_first-not, below_first, rule-input, rule-add, rule-scale, rule-offset, rule-multiply, rule-random, rule-spend, rule-no-party, rule-wire)
 
 -- ---- the two searches
 module _ (bs : List ℕ) (gates : ℕ) where

@@ -1,4 +1,6 @@
 // Coalitions (document 01: sets of plants): bit i - 1 of a 16-bit number stands for party i.
+#![tactic(auto)]
+
 ghost use Rattle.std.specs.Prelude.{◌≡◌, ◌≤◌, ◌^◌, leb, length};
 ghost use Rattle.plan_coalition.specs.Coalitions.{in_set, members, set_fits};
 

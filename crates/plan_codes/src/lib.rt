@@ -1,4 +1,6 @@
 // Refusals as documents 01 and 02 number them, and the answer of a C call.
+#![tactic(auto)]
+
 ghost use Rattle.std.specs.Prelude.{◌≡◌, ◌≤◌, ◌<◌, ◌+◌, ◌*◌};
 ghost use Rattle.plan.specs.Refusals.{number_of, place_of, code_of};
 

@@ -1,4 +1,6 @@
 // Counts of a plan's gates, coins and steps, and the step that a call sends.
+#![tactic(auto)]
+
 ghost use Rattle.std.specs.Prelude.{◌≡◌, cond, suc, ◌<◌, ◌≤◌, eqb, leb, length, take, get_or};
 ghost use mathlib.Core.List.{flat_map};
 ghost use Rattle.numbers.specs.Tables.{count_where};
@@ -12,7 +14,7 @@ ghost use Rattle.plan_counts.specs.Counts.{Tallied, Stepped};
 use plan::{Gate, Header, Layout, Step};
 
 // Counts of a plan's gates, for one party.
-#[derive(Drop)]
+#[derive(Clone, Copy)]
 pub struct Tally {
     // input gates
     pub inputs: usize,

@@ -1,5 +1,7 @@
 // A plan file that is written, in a version's layout: the contents, gates, outs and points, and refusals 3 to 6 by what decides them in the file of a
 // plan that is made. A write past the end changes nothing.
+#![tactic(auto)]
+
 ghost use Rattle.std.specs.Prelude.{◌≡◌, ◌&&◌, cond, eqb, [], ◌∷◌, ◌+◌, ◌*◌, ◌<◌, ◌≤◌, suc, length};
 ghost use Rattle.numbers.specs.Tables.{tab};
 ghost use Rattle.numbers.specs.Bytes.{bytes_from};

@@ -1,4 +1,6 @@
 // A plan file read and checked: refusals 1 to 8 of document 01, 25 and 26 of document 02.
+#![tactic(auto)]
+
 ghost use Rattle.std.specs.Prelude.{◌≡◌, true, ◌&&◌, not, ◌<◌, eqb, ltb, leb, length, take, drop};
 ghost use Rattle.numbers.specs.Tables.{first_failing};
 ghost use Rattle.plan.specs.Refusals.{first_of};

@@ -1,4 +1,6 @@
 // The sizes of a run's lists: a party's outs, what a step brings and sends, the mail that a call takes, what it writes, and the elements sent.
+#![tactic(auto)]
+
 ghost use Rattle.std.specs.Prelude.{◌≡◌, cond, ◌<◌, ◌≤◌, leb};
 ghost use Rattle.plan.specs.File.{plan_of};
 ghost use Rattle.plan.specs.Planned.{Planned};

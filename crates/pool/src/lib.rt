@@ -1,4 +1,6 @@
 // The C interface: include/pool.h is its manual.
+#![tactic(auto)]
+
 ghost use Rattle.std.specs.Prelude.{◌≡◌, ◌*◌, ◌<◌, length};
 ghost use Rattle.plan.specs.Refusals.{code_of};
 ghost use Rattle.plan.specs.File.{plan_check, plan_of};

@@ -1,4 +1,6 @@
 // The answers of the bench and of the line charge, whose values stand above the low byte.
+#![tactic(auto)]
+
 ghost use Rattle.std.specs.Prelude.{◌≡◌};
 ghost use Rattle.pool_answers.specs.Answers.{answer_of, billed_of};
 

@@ -1,4 +1,6 @@
 // The sizes of the plans that are made of circuits, sheets and older plans.
+#![tactic(auto)]
+
 ghost use Rattle.std.specs.Prelude.{◌≡◌};
 ghost use Rattle.pool_files.specs.FileSizes.{import_size, sheet_size, convert_size};
 

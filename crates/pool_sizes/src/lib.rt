@@ -1,4 +1,6 @@
 // The sizes of the lists and of the record that a host lends.
+#![tactic(auto)]
+
 ghost use Rattle.std.specs.Prelude.{◌≡◌, ◌≤◌};
 ghost use Rattle.plan.specs.File.{plan_of};
 ghost use Rattle.plan.specs.Planned.{Planned};

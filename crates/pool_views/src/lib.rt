@@ -1,4 +1,6 @@
 // The size of the list of views.
+#![tactic(auto)]
+
 ghost use Rattle.std.specs.Prelude.{◌≡◌};
 ghost use Rattle.pool_views.specs.ViewSizes.{views_size};
 

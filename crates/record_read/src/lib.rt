@@ -1,4 +1,6 @@
 // The two readers of a run record (document 02, R-8). Numbers are shown as stored: no share is checked.
+#![tactic(auto)]
+
 ghost use Rattle.std.specs.Prelude.{◌≡◌, ◌&&◌, ◌+◌, ◌-◌, ◌*◌, ◌≤◌, eqb, length, take, drop};
 ghost use Rattle.numbers.specs.Bytes.{number_at};
 ghost use Rattle.plan.specs.Refusals.{first_of};

@@ -1,5 +1,7 @@
 // The run record (document 02, R-8), written: contents first, an offset from the file's start and a length in bytes for each party; then each
 // party's inputs, coins, mail and results. All numbers have four bytes.
+#![tactic(auto)]
+
 ghost use Rattle.std.specs.Prelude.{◌≡◌, ◌+◌, ◌-◌, ◌*◌, ◌^◌, ◌≤◌, length, take};
 ghost use Rattle.numbers.specs.Bytes.{numbers, stored};
 ghost use Rattle.plan.specs.File.{plan_of};

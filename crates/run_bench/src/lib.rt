@@ -1,4 +1,6 @@
 // A run of all parties in one machine (document 01: the bench).
+#![tactic(auto)]
+
 ghost use Rattle.std.specs.Prelude.{◌≡◌, [], ◌*◌, ◌^◌, ◌<◌, length};
 ghost use Rattle.numbers.specs.Bytes.{width, numbers, bytes_of};
 ghost use Rattle.plan.specs.Plans.{sent_count};
@@ -14,7 +16,7 @@ use plan::{Checked, Header, Reading, Refusal};
 pub mod checking;
 
 // What the bench answers: the elements sent, own included, or the first refusal.
-#[derive(Drop)]
+#[derive(Clone, Copy)]
 pub enum Benched {
     Sent(usize),
     Refused(Refusal),

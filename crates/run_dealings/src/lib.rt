@@ -1,4 +1,6 @@
 // Dealings of a run, for all receiving parties at once: the rows of inputs and of multiply gates.
+#![tactic(auto)]
+
 ghost use Rattle.std.specs.Prelude.{◌≡◌, true, ◌+◌, ◌-◌, ◌*◌, ◌/◌, ◌<◌, ◌≤◌, length, take, drop, get_or, replicate};
 ghost use mathlib.Core.List.{◌∷◌, map, flat_map};
 ghost use Rattle.numbers.specs.Bytes.{width, numbers, all_below};

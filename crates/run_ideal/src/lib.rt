@@ -1,4 +1,6 @@
 // The plan's own arithmetic, without shares: the value of every wire.
+#![tactic(auto)]
+
 ghost use Rattle.std.specs.Prelude.{◌≡◌, true, ◌<◌, ◌≤◌, length, get_or, take, drop};
 ghost use Rattle.numbers.specs.Bytes.{numbers, all_below};
 ghost use Rattle.field.specs.Field.{Is};

@@ -1,4 +1,6 @@
 // The table of shares of a run: a row for each wire, in it every party's share. Gates are worked one after the other, all parties at once.
+#![tactic(auto)]
+
 ghost use Rattle.std.specs.Prelude.{◌≡◌, true, [], ◌+◌, ◌-◌, ◌*◌, ◌/◌, ◌<◌, ◌≤◌, length, take, drop, get_or};
 ghost use Rattle.std.proofs.Math.Seq.{paste};
 ghost use Rattle.numbers.specs.Tables.{tab};

@@ -1,5 +1,7 @@
 // The view of a coalition's members, written to the lent buffer number by number: a member's inputs, its coins, its mail and
 // its results. Each function writes from number `at` on and answers the place after what it wrote.
+#![tactic(auto)]
+
 ghost use Rattle.std.specs.Prelude.{◌≡◌, true, cond, ◌+◌, ◌-◌, ◌*◌, ◌/◌, ◌^◌, ◌<◌, ◌≤◌, eqb, leb, length, take, drop};
 ghost use mathlib.Core.List.{[], ◌∷◌, map, flat_map};
 ghost use Rattle.numbers.specs.Tables.{tab};

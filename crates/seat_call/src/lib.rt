@@ -1,4 +1,6 @@
 // One party's call: what it learns from its mail, works on its shares, and sends.
+#![tactic(auto)]
+
 ghost use Rattle.std.specs.Prelude.{◌≡◌, true, [], ◌∷◌, length, drop};
 ghost use Rattle.numbers.specs.Bytes.{numbers, bytes_of, all_below};
 ghost use Rattle.plan.specs.Plans.{last_call};

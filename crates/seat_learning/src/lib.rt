@@ -1,4 +1,6 @@
 // What a call learns from its mail, and works on its shares.
+#![tactic(auto)]
+
 ghost use Rattle.std.specs.Prelude.{◌≡◌, true, cond, [], ◌<◌, ◌≤◌, ◌+◌, ◌*◌, length, drop, get_or, set};
 ghost use Rattle.numbers.specs.Bytes.{numbers, all_below};
 ghost use Rattle.numbers.specs.Tables.{tab};

@@ -1,4 +1,6 @@
 // The points of the parties.
+#![tactic(auto)]
+
 ghost use Rattle.std.specs.Prelude.{◌≡◌, take};
 ghost use Rattle.plan.specs.File.{plan_of};
 ghost use Rattle.plan.specs.Planned.{Planned};

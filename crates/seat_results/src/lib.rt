@@ -1,4 +1,6 @@
 // A party's results: its own outs, opened from the mail of the last round.
+#![tactic(auto)]
+
 ghost use Rattle.std.specs.Prelude.{◌≡◌, true, ◌+◌, ◌*◌, ◌/◌, ◌<◌, ◌≤◌, length, take};
 ghost use Rattle.numbers.specs.Bytes.{width, numbers, all_below};
 ghost use Rattle.field.specs.Field.{Is};

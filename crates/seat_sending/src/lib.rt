@@ -1,4 +1,6 @@
 // What a call writes: the outgoing mail of its step, or in the last call the results.
+#![tactic(auto)]
+
 ghost use Rattle.std.specs.Prelude.{◌≡◌, true, cond, ◌+◌, ◌*◌, ◌<◌, ◌≤◌, eqb, length, get_or, take};
 ghost use mathlib.Core.List.{[], ◌∷◌, flat_map};
 ghost use Rattle.numbers.specs.Bytes.{width, numbers, all_below};

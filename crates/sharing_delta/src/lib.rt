@@ -1,4 +1,6 @@
 // Document 01's delta: the polynomial that is 1 at 0 and vanishes at the members' points.
+#![tactic(auto)]
+
 ghost use Rattle.std.specs.Prelude.{◌≡◌, true, [], ◌∷◌, ◌+◌, ◌*◌, ◌<◌, ◌≤◌, length, replicate};
 ghost use Rattle.numbers.specs.Bytes.{all_below};
 ghost use Rattle.sharing_laws.specs.Poly.{carried, padded};
@@ -27,7 +29,7 @@ fn one(out: &mut [u64])
     out[0] = 1;
 }
 
-// Multiplies a polynomial by 1 + typeof.b.X, in place: the coefficients that there is room for.
+// Multiplies a polynomial by 1 + b·X, in place: the coefficients that there is room for.
 fn times(f: Field, b: u64, out: &mut [u64])
     requires ready { Ready f.p }
     requires b_lt_p { b < f.p }

@@ -64,6 +64,7 @@ module _ {p : ℕ} (prime : Prime p) where
 
   pub length-basis : (ys : List ℕ) (x : ℕ) → Memᴰ x ys → length (basis p ys x) ≤ length ys
   unfolding basis
+  length-basis [] x x3 = elim x3 [ ]
   length-basis (y ∷ ys) x (Memᴰ.head e) = rw (eq-eqb x y e) (length-basis-all ys x)
   length-basis (y ∷ ys) x (Memᴰ.tail m) = pick (eqb x y) (length-basis ys x m)
     where

@@ -26,6 +26,7 @@ module _ {p : ℕ} (prime : Prime p) where
 
   pub delta-at : (cs : List ℕ) (c : ℕ) → c % p ≢ 0 → Memᴰ c cs → eval p (delta p cs) c ≡ 0
   unfolding delta
+  delta-at [] c nz x'' = elim x'' [ ]
   delta-at (d ∷ cs) c nz (Memᴰ.head e) =
       let pos : 0 < p = pos prime in
       rw (eval-linear p 1 (sub p 0 (inv p d)) (delta p cs) c, ← e)

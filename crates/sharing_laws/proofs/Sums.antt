@@ -40,11 +40,13 @@ module _ (p : ℕ) (at : ℕ → ℕ) (l c : ℕ) (f f' : ℕ → ℕ) (moved : 
   sum_kept (i ∷ is) away = ap₂ (add p) (kept i (λ e. away.0 (ap (λ n. at n % p) e))) (sum_kept is away.1)
 
   all_mem : (P : ℕ → Type 0) (is : List ℕ) → All P (map at is) → Memᴰ l is → P (at l)
+  all_mem P [] a x'' = elim x'' [ ]
   all_mem P (i ∷ is) a (Memᴰ.head e) = rw e a.0
   all_mem P (i ∷ is) a (Memᴰ.tail m) = all_mem P is a.1 m
 
   pub sum_moved : (is : List ℕ) → Distinct p (map at is) → Memᴰ l is → sum_over p is f' ≡ add p (sum_over p is f) c
   unfolding sum_over
+  sum_moved [] d x'' = elim x'' [ ]
   sum_moved (i ∷ is) d (Memᴰ.head e) =
       rw (← e) (ap₂ (add p) moved (sum_kept is (rw e d.0)) ∙ solve p (search (quote, # (f l), # c, # (sum_over p is f))) (omega arith))
   sum_moved (i ∷ is) d (Memᴰ.tail m) =

@@ -1,4 +1,6 @@
 // Openings: a value from the shares of the first t + 1 parties, and the first share that is not on their polynomial.
+#![tactic(auto)]
+
 ghost use Rattle.std.specs.Prelude.{◌≡◌, true, ◌+◌, ◌*◌, ◌<◌, ◌≤◌, length};
 ghost use Rattle.numbers.specs.Bytes.{all_below};
 ghost use Rattle.field.specs.Field.{Is, Ready};

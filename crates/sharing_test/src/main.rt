@@ -1,6 +1,8 @@
 // Runs the code of sharing over primes, counts of parties and thresholds, and compares with sums made another way: polynomials are
 // evaluated by powers, an opening is to give the first coefficient, a damaged share is to be found, a vanishing polynomial is to be 1
 // at 0, 0 at its members and nowhere else of the points. Prints how many comparisons of each kind agreed, and how many were made.
+#![tactic(auto)]
+
 ghost use Rattle.std.specs.Prelude.{◌≡◌, ◌<◌, ◌≤◌, length};
 ghost use Rattle.numbers.specs.Bytes.{all_below};
 ghost use Rattle.field.specs.Field.{Ready};
@@ -11,7 +13,7 @@ use numbers::Found;
 const PRIMES: [u32; 10] = [17, 19, 31, 101, 257, 4099, 32749, 65521, 65537, 2147483647];
 
 // How many comparisons agreed, of how many.
-#[derive(Drop)]
+#[derive(Clone, Copy)]
 struct Count {
     right: u64,
     all: u64,
@@ -281,7 +283,7 @@ fn vanishings(f: Field, m: usize, points: &[u64], room: &mut [u64], c: Count) ->
     noted(c, false)
 }
 
-#[derive(Drop)]
+#[derive(Clone, Copy)]
 struct Counts {
     values: Count,
     openings: Count,

@@ -1,4 +1,6 @@
 // A formula sheet compiled to a plan (document 02, R-5).
+#![tactic(auto)]
+
 ghost use Rattle.std.specs.Prelude.{◌≡◌, [], length};
 ghost use Rattle.plan.specs.Refusals.{and_then, first_of, need};
 ghost use Rattle.plan.specs.File.{between, majority_check};
@@ -14,7 +16,7 @@ use plan::{Checked, Refusal};
 use sheet_write::Survey;
 
 // How many inputs and gates the plan has, or the refusal.
-#[derive(Drop)]
+#[derive(Clone, Copy)]
 pub enum Sheet {
     Counts(usize, usize),
     Refused(Refusal),

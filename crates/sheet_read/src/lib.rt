@@ -1,5 +1,7 @@
 // The readers of a formula sheet (document 02, R-5): sum, product and bracket call each other. They make the gates as they read; a gate past the
 // end of `out` is not written, so that one reading serves to check and count, and a second one to write.
+#![tactic(auto)]
+
 ghost use Rattle.std.specs.Prelude.{◌≡◌, suc, ◌+◌, ◌*◌, ◌<◌, ◌≤◌, ◌-◌, length, get_or, set};
 ghost use Rattle.text_decimals.specs.Reading.{blanks_end, decimal_at, Within};
 ghost use Rattle.sheet_text.specs.Sheets.{is_letter, atom_at, product_at, sum_at, sheet_at};
@@ -10,7 +12,7 @@ use plan::Gate;
 use text_decimals::Numeral;
 
 // The wire that holds a part's value, the gates so far, and the place past the part; or that the rules are broken.
-#[derive(Drop)]
+#[derive(Clone, Copy)]
 pub enum Part {
     Made(usize, usize, usize),
     Wrong,

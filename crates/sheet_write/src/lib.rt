@@ -1,4 +1,6 @@
 // The two passes over a formula sheet (document 02, R-5): the first checks and counts, and fills the table of names; the second writes the file.
+#![tactic(auto)]
+
 ghost use Rattle.std.specs.Prelude.{◌≡◌, [], suc, ◌+◌, ◌*◌, ◌-◌, ◌/◌, ◌<◌, ◌≤◌, length, get_or};
 ghost use Rattle.numbers.specs.Tables.{tab};
 ghost use Rattle.plan.specs.declared.Gate.TheVariants.{Input};
@@ -10,7 +12,7 @@ use plan::{Gate, Output};
 use sheet_read::Part;
 
 // How many inputs and how many gates a sheet makes, or that it breaks the rules. A count past 1,024 is not exact.
-#[derive(Drop)]
+#[derive(Clone, Copy)]
 pub enum Survey {
     Counts(usize, usize),
     Wrong,

@@ -1,9 +1,11 @@
 // Blanks and decimal numbers in a text, read from a place on. A place is an index of the text; past the end every byte is 0.
+#![tactic(auto)]
+
 ghost use Rattle.std.specs.Prelude.{◌≡◌, ◌<◌, ◌≤◌, length};
 ghost use Rattle.text_decimals.specs.Reading.{blanks_end, digits_at, is_digit, zero_at, decimal_at, Within, Placed, Digit};
 
 // A number with the place past it, or that there is none below the limit.
-#[derive(Drop)]
+#[derive(Clone, Copy)]
 pub enum Numeral {
     Value(u64, usize),
     Wrong,
