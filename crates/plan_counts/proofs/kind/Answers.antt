@@ -1,0 +1,52 @@
+use Rattle.plan.specs.Plans.{kind_of}
+use Rattle.plan_counts.proofs.Counts.{kinds}
+use Rattle.plan_counts.proofs.kind.Goals as goal
+
+pub enum_told-1 : goal.enum_told-1
+enum_told-1 c = search kinds
+
+pub enum_told-in-Add : goal.enum_told-in-Add
+enum_told-in-Add c = search kinds
+
+pub enum_told-in-Scale : goal.enum_told-in-Scale
+enum_told-in-Scale c = search kinds
+
+pub enum_told-in-Offset : goal.enum_told-in-Offset
+enum_told-in-Offset c = search kinds
+
+pub enum_told-in-Multiply : goal.enum_told-in-Multiply
+enum_told-in-Multiply c = search kinds
+
+pub enum_told-in-Random : goal.enum_told-in-Random
+enum_told-in-Random c = search kinds
+
+pub enum_told-in-Spend : goal.enum_told-in-Spend
+enum_told-in-Spend c = search kinds
+
+pub returns-in-Input : goal.returns-in-Input
+unfolding kind_of
+returns-in-Input c = search kinds
+
+pub returns-in-Add : goal.returns-in-Add
+unfolding kind_of
+returns-in-Add c = search kinds
+
+pub returns-in-Scale : goal.returns-in-Scale
+unfolding kind_of
+returns-in-Scale c = search kinds
+
+pub returns-in-Offset : goal.returns-in-Offset
+unfolding kind_of
+returns-in-Offset c = search kinds
+
+pub returns-in-Multiply : goal.returns-in-Multiply
+unfolding kind_of
+returns-in-Multiply c = search kinds
+
+pub returns-in-Random : goal.returns-in-Random
+unfolding kind_of
+returns-in-Random c = search kinds
+
+pub returns-in-Spend : goal.returns-in-Spend
+unfolding kind_of
+returns-in-Spend c = search kinds

@@ -1,0 +1,12 @@
+use Prim.Native.Nat.{◌-◌}
+use Rattle.numbers.proofs.Searches.{Seeking}
+use Rattle.plan.specs.File.{gate_kept}
+use Rattle.plan.proofs.Planned.{laid_within}
+use Rattle.plan.proofs.Ways.{seeking}
+use Rattle.plan_reading.proofs.first_bad_gate.Given as goal
+
+abbrev pub invariant-loop-g : goal.invariant-loop-g
+invariant-loop-g l = Seeking (gate_kept l.plan) l.gates l.g
+
+abbrev pub decreases-loop-g : goal.decreases-loop-g
+decreases-loop-g l = l.gates - l.g
