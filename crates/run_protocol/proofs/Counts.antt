@@ -348,9 +348,9 @@ module _ (plan : Plan) (valid : Valid plan) (xs cs ts : List ℕ) (tf : List (�
       ∙ length-map (λ w. opened plan.p plan.t plan.points (map (wire_at (share_table plan xs cs tf) w) plan.points)) (out_wires plan i))
 
   -- what a call writes has its count
-  pub written_count : (k i : ℕ) → k ≤ last_call plan → 1 ≤ i → i ≤ party_count plan → length (written plan k (call_of i (after plan xs cs ts (suc k)))) ≡ written_count plan i k
+  pub written_count_lem : (k i : ℕ) → k ≤ last_call plan → 1 ≤ i → i ≤ party_count plan → length (written plan k (call_of i (after plan xs cs ts (suc k)))) ≡ written_count plan i k
   unfolding written_count
-  written_count k i h from1 upto = written-by k i h from1 upto (ltb k (last_call plan)) refl
+  written_count_lem k i h from1 upto = written-by k i h from1 upto (ltb k (last_call plan)) refl
 
   -- ---- elements sent
   sent-in-tab : (f : ℕ → Called) (u : ℕ → ℕ) (n : ℕ) → sent_in (map f (tab u n)) ≡ sum (λ j. length (flat_map (λ l. l) (f (u j)).sent)) n

@@ -124,11 +124,12 @@ own_each_from (suc n) r (suc j) xs l =
     let e : tab (λ k. suc (r + suc k)) n ≡ tab (λ k. suc (suc r + k)) n = tab-ext (λ k. suc (r + suc k)) (λ k. suc (suc r + k)) n (λ k m. omega arith) in
     let q : suc (r + suc j) ≡ suc (suc r + j) = omega arith in
     let s : 1 + j ≡ suc j = omega arith in
-    rw (ne_eqb (suc (r + suc j)) (suc (r + 0)) (λ q. omega arith), e, q)
-    (own_each_from n (suc r) j (drop 1 xs) (omega arith) ∙ ap (λ (v : ℕ). v ∷ []) (get_or-drop 1 xs j 0 ∙ ap (λ (k : ℕ). get_or xs k 0) s))
+    rw (ne_eqb (suc (r + suc j)) (suc (r + 0)) (λ q. omega arith))
+    (ap₂ (λ (a : ℕ) (ys : List ℕ). own_of a ys (drop 1 xs)) q e
+    ∙ (own_each_from n (suc r) j (drop 1 xs) (omega arith) ∙ ap (λ (v : ℕ). v ∷ []) (get_or-drop 1 xs j 0 ∙ ap (λ (k : ℕ). get_or xs k 0) s)))
 
 pub own_each : (n j : ℕ) (xs : List ℕ) → j < n → own_of (suc j) (tab suc n) xs ≡ get_or xs j 0 ∷ []
 own_each n j xs l =
     let e : tab suc n ≡ tab (λ k. suc (0 + k)) n = tab-ext suc (λ k. suc (0 + k)) n (λ k m. omega arith) in
     let q : suc j ≡ suc (0 + j) = omega arith in
-    rw (e, q) (own_each_from n 0 j xs l)
+    ap₂ (λ (a : ℕ) (ys : List ℕ). own_of a ys xs) q e ∙ own_each_from n 0 j xs l

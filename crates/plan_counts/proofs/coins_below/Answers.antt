@@ -10,7 +10,7 @@ pub loop-below-init : goal.loop-below-init
 loop-below-init c = search counting
 
 pub kind_of-requires : goal.kind_of-requires
-kind_of-requires c = (search counting, (search counting, omega arith))
+kind_of-requires c = record { planned = search counting; within = search counting; g_lt_gates = omega arith }
 
 pub coins_by_kind-k-requires : goal.coins_by_kind-k-requires
 coins_by_kind-k-requires c = search counting

@@ -46,7 +46,7 @@ loop-g-smaller c = search counting
 
 pub loop-g-preserved : goal.loop-g-preserved
 loop-g-preserved c = tally-next _ _ _ _ _ _ _ _ c.requires c.loop-g.invariant
-    c.loop-g-test.true _ c.kind_of_lem.ensures _ _ _ _ _
+    c.loop-g-test.true _ c.kind_of-k.ensures _ _ _ _ _
     c.one_if-inputs.ensures.eq c.own_by_kind.ensures
     c.one_if-own.ensures.eq c.one_if-multiplies.ensures.eq c.coins_by_kind-coins.ensures.eq c.coins_by_kind-coins.ensures.le
 

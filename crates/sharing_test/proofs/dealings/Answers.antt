@@ -9,7 +9,7 @@ pub all_below-requires-then-all_below : goal.all_below-requires-then-all_below
 all_below-requires-then-all_below c = search testing
 
 pub deal-requires : goal.deal-requires
-deal-requires c = (search testing, (sym c.all_below.ensures ∙ c.if-all_below.true, (sym c.all_below-then-all_below.ensures ∙ c.if-all_below-2.true, search testing)))
+deal-requires c = record { ready = search testing; polynomial_value = sym c.all_below.ensures ∙ c.if-all_below.true; points_value = sym c.all_below-then-all_below.ensures ∙ c.if-all_below-2.true; shares_len = search testing }
 
 pub values-requires : goal.values-requires
 values-requires c = search testing

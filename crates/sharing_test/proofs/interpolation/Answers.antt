@@ -6,7 +6,7 @@ pub all_below-requires : goal.all_below-requires
 all_below-requires c = search testing
 
 pub weights-requires : goal.weights-requires
-weights-requires c = (search testing, (search testing, (sym c.all_below.ensures ∙ c.if-all_below.true, search testing)))
+weights-requires c = record { ready = search testing; z_lt_p = search testing; points_value = sym c.all_below.ensures ∙ c.if-all_below.true; out_len = search testing }
 
 pub weighted-requires : goal.weighted-requires
 weighted-requires c = search testing

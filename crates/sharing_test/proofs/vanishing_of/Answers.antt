@@ -6,7 +6,7 @@ pub all_below-requires : goal.all_below-requires
 all_below-requires c = search testing
 
 pub vanishing-requires : goal.vanishing-requires
-vanishing-requires c = (search testing, (sym c.all_below.ensures ∙ c.if-all_below.true, search testing))
+vanishing-requires c = record { ready = search testing; members_value = sym c.all_below.ensures ∙ c.if-all_below.true; members_in_bounds = search testing }
 
 pub vanishes-requires : goal.vanishes-requires
 vanishes-requires c = search testing

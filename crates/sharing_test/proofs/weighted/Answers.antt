@@ -9,7 +9,7 @@ pub all_below-requires-then-all_below : goal.all_below-requires-then-all_below
 all_below-requires-then-all_below c = search testing
 
 pub dot-v-requires : goal.dot-v-requires
-dot-v-requires c = (search testing, (sym c.all_below.ensures ∙ c.if-all_below.true, (sym c.all_below-then-all_below.ensures ∙ c.if-all_below-2.true, (search testing, search testing))))
+dot-v-requires c = record { ready = search testing; weights_value = sym c.all_below.ensures ∙ c.if-all_below.true; values_value = sym c.all_below-then-all_below.ensures ∙ c.if-all_below-2.true; weights_in_bounds = search testing; weights_len_bound = search testing }
 
 pub by_powers-requires : goal.by_powers-requires
 by_powers-requires c = search testing
