@@ -4,7 +4,8 @@
 ghost use Rattle.std.specs.Prelude.{◌≤◌, length};
 ghost use Rattle.bench_fitting.specs.Fitting.{longest};
 
-use libc::{STDIN_FILENO, STDOUT_FILENO};
+const STDIN_FILENO: i32 = 0;
+const STDOUT_FILENO: i32 = 1;
 
 fn print(input: &mut [u8], text: &mut [u8])
     requires { longest ≤ length text.old }

@@ -2,6 +2,7 @@ use mathlib.Core.Logic.{⊎_elim}
 use Prim.Native.Nat.{◌-◌}
 use Rattle.plan_counts.proofs.Steps.{Stepping, stepping}
 use Rattle.plan_counts.proofs.step_after.Goals as goal
+use Rattle.plan_counts.proofs.step_after.Goals.{then-rounds_at+else-left-eq0, else-rounds_at}
 
 pub layout_of-l-requires : goal.layout_of-l-requires
 layout_of-l-requires c = search stepping
@@ -31,7 +32,7 @@ pub loop-g-smaller : goal.loop-g-smaller
 loop-g-smaller c = search stepping
 
 pub loop-g-preserved : goal.loop-g-preserved
-loop-g-preserved c = ⊎_elim (λ w. search stepping) (λ w. search stepping) c.if-rounds_at.branch
+loop-g-preserved c = elim c.if-rounds_at.branch [ then-rounds_at+else-left-eq0 w ↦ search stepping | else-rounds_at w ↦ search stepping ]
 
 pub returns : goal.returns
 returns c = search stepping
