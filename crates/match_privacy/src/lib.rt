@@ -1,3 +1,2 @@
 // The matching of coins as a definition, and its laws. No code.
 #![tactic(auto)]
-
