@@ -22,7 +22,7 @@ pub bounds-points-j : goal.bounds-points-j
 bounds-points-j c = search receiving
 
 pub send_inputs_to-at-requires : goal.send_inputs_to-at-requires
-send_inputs_to-at-requires c = (search receiving, (search receiving, (search receiving, omega arith)))
+send_inputs_to-at-requires c = record { planned = search receiving; own = search receiving; x_lt_p = search receiving; at_bound = omega arith }
 
 pub overflow_add-j : goal.overflow_add-j
 overflow_add-j c = search receiving

@@ -15,7 +15,7 @@ pub overflow_add-j : goal.overflow_add-j
 overflow_add-j c = search gathering
 
 pub send_outs_to-at-requires : goal.send_outs_to-at-requires
-send_outs_to-at-requires c = (search gathering, omega arith)
+send_outs_to-at-requires c = record { planned = search gathering; at_bound = omega arith }
 
 pub overflow_add-j-in-loop-j : goal.overflow_add-j-in-loop-j
 overflow_add-j-in-loop-j c = search gathering
