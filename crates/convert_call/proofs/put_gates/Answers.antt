@@ -1,5 +1,5 @@
 use Prim.Native.Nat.{◌-◌}
-use Rattle.convert_call.proofs.Converting.{GatesPut, putting}
+use Rattle.convert_call.proofs.Converting.{putting}
 use Rattle.convert_call.proofs.put_gates.Goals as goal
 
 pub loop-g-init : goal.loop-g-init

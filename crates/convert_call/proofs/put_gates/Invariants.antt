@@ -1,5 +1,5 @@
 use Prim.Native.Nat.{◌-◌}
-use Rattle.convert_call.proofs.Converting.{GatesPut, putting}
+use Rattle.convert_call.proofs.Converting.{GatesPut}
 use Rattle.convert_call.proofs.put_gates.Given as goal
 
 abbrev pub invariant-loop-g : goal.invariant-loop-g

@@ -1,5 +1,5 @@
 use Prim.Native.Nat.{◌-◌}
-use Rattle.convert_call.proofs.Converting.{OutsPut, putting}
+use Rattle.convert_call.proofs.Converting.{putting}
 use Rattle.convert_call.proofs.put_outs.Goals as goal
 
 pub loop-o-init : goal.loop-o-init

@@ -1,5 +1,5 @@
 use Prim.Native.Nat.{◌-◌}
-use Rattle.convert_call.proofs.Converting.{OutsPut, putting}
+use Rattle.convert_call.proofs.Converting.{OutsPut}
 use Rattle.convert_call.proofs.put_outs.Given as goal
 
 abbrev pub invariant-loop-o : goal.invariant-loop-o

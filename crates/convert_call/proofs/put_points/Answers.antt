@@ -1,6 +1,4 @@
 use Prim.Native.Nat.{◌-◌}
-use Rattle.plan.specs.File.{plan_of}
-use Rattle.plan_file.proofs.Writing.{Pointed}
 use Rattle.convert_call.proofs.Converting.{putting}
 use Rattle.convert_call.proofs.put_points.Goals as goal
 

@@ -1,7 +1,6 @@
 use Prim.Native.Nat.{◌-◌}
 use Rattle.plan.specs.File.{plan_of}
 use Rattle.plan_file.proofs.Writing.{Pointed}
-use Rattle.convert_call.proofs.Converting.{putting}
 use Rattle.convert_call.proofs.put_points.Given as goal
 
 abbrev pub invariant-loop-i : goal.invariant-loop-i

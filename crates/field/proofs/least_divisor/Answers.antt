@@ -1,5 +1,5 @@
 use Prim.Native.Nat.{◌-◌}
-use Rattle.field.proofs.Divisors.{Trying, trying}
+use Rattle.field.proofs.Divisors.{trying}
 use Rattle.field.proofs.least_divisor.Goals as goal
 
 -- `least_divisor` meets its contract. The invariant: the search from d on gives the same as the whole search, and what no candidate is was passed over. The

@@ -1,5 +1,5 @@
 use Prim.Native.Nat.{◌-◌}
-use Rattle.field.proofs.Divisors.{Trying, trying}
+use Rattle.field.proofs.Divisors.{Trying}
 use Rattle.field.proofs.least_divisor.Given as goal
 
 abbrev pub invariant-loop-d : goal.invariant-loop-d

@@ -1,6 +1,4 @@
 use Prim.Native.Nat.{◌-◌}
-use lib.ListN.{length}
-use Rattle.import_lines.proofs.Reading.{Skipping}
 use Rattle.import_lines.proofs.Reading.{reading}
 use Rattle.import_lines.proofs.line_start.Goals as goal
 

@@ -1,7 +1,6 @@
 use Prim.Native.Nat.{◌-◌}
 use lib.ListN.{length}
 use Rattle.import_lines.proofs.Reading.{Skipping}
-use Rattle.import_lines.proofs.Reading.{reading}
 use Rattle.import_lines.proofs.line_start.Given as goal
 
 abbrev pub invariant-loop-i : goal.invariant-loop-i

@@ -1,5 +1,4 @@
 use Prim.Native.Nat.{◌-◌}
-use Rattle.import_lines.proofs.Reading.{Summing}
 use Rattle.import_lines.proofs.Reading.{summing}
 use Rattle.import_lines.proofs.sum.Goals as goal
 

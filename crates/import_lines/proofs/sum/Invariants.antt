@@ -1,6 +1,5 @@
 use Prim.Native.Nat.{◌-◌}
 use Rattle.import_lines.proofs.Reading.{Summing}
-use Rattle.import_lines.proofs.Reading.{summing}
 use Rattle.import_lines.proofs.sum.Given as goal
 
 abbrev pub invariant-loop-k : goal.invariant-loop-k

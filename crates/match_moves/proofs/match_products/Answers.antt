@@ -1,6 +1,5 @@
 use Prim.Native.Nat.{◌-◌}
-use Rattle.numbers.specs.Bytes.{numbers}
-use Rattle.match_moves.proofs.MoveLaws.{Blocking, moving_blocks}
+use Rattle.match_moves.proofs.MoveLaws.{moving_blocks}
 use Rattle.match_moves.proofs.match_products.Goals as goal
 
 pub loop-i-init : goal.loop-i-init

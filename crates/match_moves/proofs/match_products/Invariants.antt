@@ -1,6 +1,6 @@
 use Prim.Native.Nat.{◌-◌}
 use Rattle.numbers.specs.Bytes.{numbers}
-use Rattle.match_moves.proofs.MoveLaws.{Blocking, moving_blocks}
+use Rattle.match_moves.proofs.MoveLaws.{Blocking}
 use Rattle.match_moves.proofs.match_products.Given as goal
 
 abbrev pub invariant-loop-i : goal.invariant-loop-i

@@ -1,5 +1,5 @@
 use Prim.Native.Nat.{◌-◌}
-use Rattle.match_moves.proofs.MoveLaws.{Gathered, gathering}
+use Rattle.match_moves.proofs.MoveLaws.{gathering}
 use Rattle.match_moves.proofs.members.Goals as goal
 
 pub loop-i-init : goal.loop-i-init

@@ -1,5 +1,5 @@
 use Prim.Native.Nat.{◌-◌}
-use Rattle.match_moves.proofs.MoveLaws.{Gathered, gathering}
+use Rattle.match_moves.proofs.MoveLaws.{Gathered}
 use Rattle.match_moves.proofs.members.Given as goal
 
 abbrev pub invariant-loop-i : goal.invariant-loop-i

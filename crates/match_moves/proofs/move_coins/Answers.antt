@@ -1,7 +1,5 @@
 use Prim.Native.Nat.{◌-◌}
-use Rattle.numbers.specs.Bytes.{numbers}
-use lib.ListN.{length}
-use Rattle.match_moves.proofs.MoveLaws.{Moving, moving}
+use Rattle.match_moves.proofs.MoveLaws.{moving}
 use Rattle.match_moves.proofs.move_coins.Goals as goal
 
 pub loop-j-init : goal.loop-j-init

@@ -1,7 +1,7 @@
 use Prim.Native.Nat.{◌-◌}
 use Rattle.numbers.specs.Bytes.{numbers}
 use lib.ListN.{length}
-use Rattle.match_moves.proofs.MoveLaws.{Moving, moving}
+use Rattle.match_moves.proofs.MoveLaws.{Moving}
 use Rattle.match_moves.proofs.move_coins.Given as goal
 
 abbrev pub invariant-loop-j : goal.invariant-loop-j

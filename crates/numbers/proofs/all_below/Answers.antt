@@ -1,5 +1,5 @@
 use Prim.Native.Nat.{◌-◌}
-use Rattle.numbers.proofs.Ways.{Testing, coding}
+use Rattle.numbers.proofs.Ways.{coding}
 use Rattle.numbers.proofs.all_below.Goals as goal
 
 pub overflow_cast-p : goal.overflow_cast-p

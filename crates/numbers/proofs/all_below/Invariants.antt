@@ -1,5 +1,5 @@
 use Prim.Native.Nat.{◌-◌}
-use Rattle.numbers.proofs.Ways.{Testing, coding}
+use Rattle.numbers.proofs.Ways.{Testing}
 use Rattle.numbers.proofs.all_below.Given as goal
 
 abbrev pub invariant-loop-i : goal.invariant-loop-i

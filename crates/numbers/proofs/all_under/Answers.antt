@@ -1,5 +1,5 @@
 use Prim.Native.Nat.{◌-◌}
-use Rattle.numbers.proofs.Ways.{Comparing, coding}
+use Rattle.numbers.proofs.Ways.{coding}
 use Rattle.numbers.proofs.all_under.Goals as goal
 
 pub loop-i-init : goal.loop-i-init

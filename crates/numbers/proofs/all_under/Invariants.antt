@@ -1,5 +1,5 @@
 use Prim.Native.Nat.{◌-◌}
-use Rattle.numbers.proofs.Ways.{Comparing, coding}
+use Rattle.numbers.proofs.Ways.{Comparing}
 use Rattle.numbers.proofs.all_under.Given as goal
 
 abbrev pub invariant-loop-i : goal.invariant-loop-i

@@ -1,8 +1,5 @@
-use Prim.Native.Nat.{◌-◌, ◌/◌}
-use lib.ListN.{length}
-use Rattle.numbers.specs.Bytes.{width}
-use Rattle.numbers.proofs.Searches.{Seeking}
-use Rattle.numbers.proofs.Ways.{is_below, coding}
+use Prim.Native.Nat.{◌-◌}
+use Rattle.numbers.proofs.Ways.{coding}
 use Rattle.numbers.proofs.seek_over.Goals as goal
 
 pub loop-i-init : goal.loop-i-init

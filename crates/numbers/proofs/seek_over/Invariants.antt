@@ -2,7 +2,7 @@ use Prim.Native.Nat.{◌-◌, ◌/◌}
 use lib.ListN.{length}
 use Rattle.numbers.specs.Bytes.{width}
 use Rattle.numbers.proofs.Searches.{Seeking}
-use Rattle.numbers.proofs.Ways.{is_below, coding}
+use Rattle.numbers.proofs.Ways.{is_below}
 use Rattle.numbers.proofs.seek_over.Given as goal
 
 abbrev pub invariant-loop-i : goal.invariant-loop-i

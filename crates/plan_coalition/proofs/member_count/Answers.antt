@@ -1,5 +1,5 @@
 use Prim.Native.Nat.{◌-◌}
-use Rattle.plan_coalition.proofs.Coalitions.{Membering, bits}
+use Rattle.plan_coalition.proofs.Coalitions.{bits}
 use Rattle.plan_coalition.proofs.member_count.Goals as goal
 
 pub loop-i-init : goal.loop-i-init

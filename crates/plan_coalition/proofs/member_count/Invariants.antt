@@ -1,5 +1,5 @@
 use Prim.Native.Nat.{◌-◌}
-use Rattle.plan_coalition.proofs.Coalitions.{Membering, bits}
+use Rattle.plan_coalition.proofs.Coalitions.{Membering}
 use Rattle.plan_coalition.proofs.member_count.Given as goal
 
 abbrev pub invariant-loop-i : goal.invariant-loop-i

@@ -1,6 +1,6 @@
 use native.Mathlib.Omega.{arith}
 use Prim.Native.Nat.{◌-◌}
-use Rattle.plan_counts.proofs.Counts.{Coining, counting}
+use Rattle.plan_counts.proofs.Counts.{counting}
 use Rattle.plan_counts.proofs.coins_below.Goals as goal
 
 pub layout_of-l-requires : goal.layout_of-l-requires

@@ -1,6 +1,5 @@
-use native.Mathlib.Omega.{arith}
 use Prim.Native.Nat.{◌-◌}
-use Rattle.plan_counts.proofs.Counts.{Coining, counting}
+use Rattle.plan_counts.proofs.Counts.{Coining}
 use Rattle.plan_counts.proofs.coins_below.Given as goal
 
 abbrev pub invariant-loop-below : goal.invariant-loop-below

@@ -1,6 +1,5 @@
-use mathlib.Core.Logic.{⊎_elim}
 use Prim.Native.Nat.{◌-◌}
-use Rattle.plan_counts.proofs.Steps.{Stepping, stepping}
+use Rattle.plan_counts.proofs.Steps.{stepping}
 use Rattle.plan_counts.proofs.step_after.Goals as goal
 use Rattle.plan_counts.proofs.step_after.Goals.{then-rounds_at+else-left-eq0, else-rounds_at}
 

@@ -1,6 +1,5 @@
-use mathlib.Core.Logic.{⊎_elim}
 use Prim.Native.Nat.{◌-◌}
-use Rattle.plan_counts.proofs.Steps.{Stepping, stepping}
+use Rattle.plan_counts.proofs.Steps.{Stepping}
 use Rattle.plan_counts.proofs.step_after.Given as goal
 
 abbrev pub invariant-loop-g : goal.invariant-loop-g

@@ -1,5 +1,5 @@
 use Prim.Native.Nat.{◌-◌}
-use Rattle.plan_counts.proofs.Counts.{Tallying, tally-next, counting}
+use Rattle.plan_counts.proofs.Counts.{tally-next, counting}
 use Rattle.plan_counts.proofs.tally_of.Goals as goal
 
 pub layout_of-l-requires : goal.layout_of-l-requires

@@ -1,5 +1,5 @@
 use Prim.Native.Nat.{◌-◌}
-use Rattle.plan_counts.proofs.Counts.{Tallying, tally-next, counting}
+use Rattle.plan_counts.proofs.Counts.{Tallying}
 use Rattle.plan_counts.proofs.tally_of.Given as goal
 
 abbrev pub invariant-loop-g : goal.invariant-loop-g

@@ -1,6 +1,5 @@
-use Prim.Native.Nat.{suc, ◌-◌}
-use Rattle.numbers.specs.Tables.{tab}
-use Rattle.plan_file.proofs.Writing.{Pointed, pointing}
+use Prim.Native.Nat.{◌-◌}
+use Rattle.plan_file.proofs.Writing.{pointing}
 use Rattle.plan_file.proofs.put_first_points.Goals as goal
 
 pub loop-i-init : goal.loop-i-init

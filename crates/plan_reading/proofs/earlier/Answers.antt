@@ -1,6 +1,4 @@
 use Prim.Native.Nat.{◌-◌}
-use Rattle.numbers.proofs.Searches.{Seeking}
-use Rattle.plan.specs.File.{point_apart}
 use Rattle.plan.proofs.Ways.{pointing}
 use Rattle.plan_reading.proofs.earlier.Goals as goal
 

@@ -1,7 +1,6 @@
 use Prim.Native.Nat.{◌-◌}
 use Rattle.numbers.proofs.Searches.{Seeking}
 use Rattle.plan.specs.File.{point_apart}
-use Rattle.plan.proofs.Ways.{pointing}
 use Rattle.plan_reading.proofs.earlier.Given as goal
 
 abbrev pub invariant-loop-j : goal.invariant-loop-j

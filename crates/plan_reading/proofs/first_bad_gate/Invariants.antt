@@ -1,8 +1,6 @@
 use Prim.Native.Nat.{◌-◌}
 use Rattle.numbers.proofs.Searches.{Seeking}
 use Rattle.plan.specs.File.{gate_kept}
-use Rattle.plan.proofs.Planned.{laid_within}
-use Rattle.plan.proofs.Ways.{seeking}
 use Rattle.plan_reading.proofs.first_bad_gate.Given as goal
 
 abbrev pub invariant-loop-g : goal.invariant-loop-g

@@ -1,6 +1,4 @@
 use Prim.Native.Nat.{◌-◌}
-use Rattle.numbers.proofs.Searches.{Seeking}
-use Rattle.plan.specs.File.{out_kept}
 use Rattle.plan.proofs.Ways.{seeking}
 use Rattle.plan_reading.proofs.first_bad_out.Goals as goal
 

@@ -1,6 +1,4 @@
 use Prim.Native.Nat.{◌-◌}
-use Rattle.numbers.proofs.Searches.{Seeking}
-use Rattle.plan.specs.File.{majority_kept}
 use Rattle.plan.proofs.Ways.{majorities}
 use Rattle.plan_reading.proofs.first_lacking.Goals as goal
 

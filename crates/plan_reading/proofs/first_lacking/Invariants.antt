@@ -1,7 +1,6 @@
 use Prim.Native.Nat.{◌-◌}
 use Rattle.numbers.proofs.Searches.{Seeking}
 use Rattle.plan.specs.File.{majority_kept}
-use Rattle.plan.proofs.Ways.{majorities}
 use Rattle.plan_reading.proofs.first_lacking.Given as goal
 
 abbrev pub invariant-loop-g : goal.invariant-loop-g

@@ -2,7 +2,6 @@ use Prim.Native.Nat.{◌-◌}
 use Rattle.numbers.proofs.Counts.{Counted}
 use Rattle.plan.specs.File.{plan_of}
 use Rattle.plan_counts.specs.Counts.{is_out_of}
-use Rattle.plan_counts.proofs.Counts.{counting_outs}
 use Rattle.plan_sizes.proofs.own_out_count.Given as goal
 
 abbrev pub invariant-loop-o : goal.invariant-loop-o

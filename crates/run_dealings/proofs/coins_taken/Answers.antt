@@ -1,5 +1,4 @@
 use Rattle.run_dealings.proofs.CoinLaws.{taking_coins}
-use borrow.Author.Rules.{rules}
 use Rattle.run_dealings.proofs.coins_taken.Goals as goal
 
 pub overflow_mul-result : goal.overflow_mul-result

@@ -1,6 +1,5 @@
 use Prim.Native.Nat.{◌-◌}
-use lib.ListN.{length}
-use Rattle.run_dealings.proofs.ColumnLaws.{Columning, columning}
+use Rattle.run_dealings.proofs.ColumnLaws.{columning}
 use Rattle.run_dealings.proofs.column.Goals as goal
 
 pub loop-d-init : goal.loop-d-init

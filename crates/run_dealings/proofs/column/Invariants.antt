@@ -1,6 +1,6 @@
 use Prim.Native.Nat.{◌-◌}
 use lib.ListN.{length}
-use Rattle.run_dealings.proofs.ColumnLaws.{Columning, columning}
+use Rattle.run_dealings.proofs.ColumnLaws.{Columning}
 use Rattle.run_dealings.proofs.column.Given as goal
 
 abbrev pub invariant-loop-d : goal.invariant-loop-d

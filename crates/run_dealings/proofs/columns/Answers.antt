@@ -1,6 +1,5 @@
 use Prim.Native.Nat.{◌-◌}
-use lib.ListN.{length}
-use Rattle.run_dealings.proofs.ColumnLaws.{Gridding, gridding}
+use Rattle.run_dealings.proofs.ColumnLaws.{gridding}
 use Rattle.run_dealings.proofs.columns.Goals as goal
 
 pub loop-j-init : goal.loop-j-init

@@ -1,6 +1,6 @@
 use Prim.Native.Nat.{◌-◌}
 use lib.ListN.{length}
-use Rattle.run_dealings.proofs.ColumnLaws.{Gridding, gridding}
+use Rattle.run_dealings.proofs.ColumnLaws.{Gridding}
 use Rattle.run_dealings.proofs.columns.Given as goal
 
 abbrev pub invariant-loop-j : goal.invariant-loop-j

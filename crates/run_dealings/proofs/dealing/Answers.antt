@@ -1,6 +1,5 @@
 use Prim.Native.Nat.{◌-◌}
-use lib.ListN.{length}
-use Rattle.run_dealings.proofs.DealingLaws.{Piecing, dealing}
+use Rattle.run_dealings.proofs.DealingLaws.{dealing}
 use Rattle.run_dealings.proofs.dealing.Goals as goal
 
 pub is_wide-wide-requires : goal.is_wide-wide-requires

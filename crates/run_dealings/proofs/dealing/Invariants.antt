@@ -1,6 +1,6 @@
 use Prim.Native.Nat.{◌-◌}
 use lib.ListN.{length}
-use Rattle.run_dealings.proofs.DealingLaws.{Piecing, dealing}
+use Rattle.run_dealings.proofs.DealingLaws.{Piecing}
 use Rattle.run_dealings.proofs.dealing.Given as goal
 
 abbrev pub invariant-loop-j : goal.invariant-loop-j

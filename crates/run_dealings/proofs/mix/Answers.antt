@@ -1,7 +1,4 @@
 use Prim.Native.Nat.{◌-◌}
-use lib.ListN.{length}
-use Rattle.numbers.proofs.Fills.{Filled}
-use Rattle.run_dealings.specs.Columns.{mixed_coefficient}
 use Rattle.run_dealings.proofs.MixtureLaws.{filling-mixture}
 use Rattle.run_dealings.proofs.mix.Goals as goal
 

@@ -1,6 +1,5 @@
 use Prim.Native.Nat.{◌-◌}
-use lib.ListN.{length}
-use Rattle.run_dealings.proofs.MixtureLaws.{Mixing, mixing}
+use Rattle.run_dealings.proofs.MixtureLaws.{mixing}
 use Rattle.run_dealings.proofs.mixed_coefficient.Goals as goal
 
 pub loop-d-init : goal.loop-d-init

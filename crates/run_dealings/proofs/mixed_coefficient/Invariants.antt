@@ -1,6 +1,6 @@
 use Prim.Native.Nat.{◌-◌}
 use lib.ListN.{length}
-use Rattle.run_dealings.proofs.MixtureLaws.{Mixing, mixing}
+use Rattle.run_dealings.proofs.MixtureLaws.{Mixing}
 use Rattle.run_dealings.proofs.mixed_coefficient.Given as goal
 
 abbrev pub invariant-loop-d : goal.invariant-loop-d

@@ -1,8 +1,4 @@
 use Prim.Native.Nat.{◌-◌}
-use mathlib.Core.List.{◌∷◌}
-use lib.ListN.{length, take, drop, get_or}
-use Rattle.numbers.specs.Bytes.{numbers}
-use Rattle.numbers.proofs.Fills.{Filled}
 use Rattle.run_dealings.proofs.PolynomialLaws.{padding}
 use Rattle.run_dealings.proofs.polynomial.Goals as goal
 

@@ -3,7 +3,6 @@ use mathlib.Core.List.{◌∷◌}
 use lib.ListN.{length, take, drop, get_or}
 use Rattle.numbers.specs.Bytes.{numbers}
 use Rattle.numbers.proofs.Fills.{Filled}
-use Rattle.run_dealings.proofs.PolynomialLaws.{padding}
 use Rattle.run_dealings.proofs.polynomial.Given as goal
 
 abbrev pub invariant-loop-i : goal.invariant-loop-i

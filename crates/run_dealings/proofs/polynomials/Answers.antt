@@ -1,6 +1,5 @@
 use Prim.Native.Nat.{◌-◌}
-use lib.ListN.{length}
-use Rattle.run_dealings.proofs.PolynomialLaws.{Sharing, sharing}
+use Rattle.run_dealings.proofs.PolynomialLaws.{sharing}
 use Rattle.run_dealings.proofs.polynomials.Goals as goal
 
 pub loop-d-init : goal.loop-d-init

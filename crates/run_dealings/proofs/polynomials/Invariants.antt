@@ -1,6 +1,6 @@
 use Prim.Native.Nat.{◌-◌}
 use lib.ListN.{length}
-use Rattle.run_dealings.proofs.PolynomialLaws.{Sharing, sharing}
+use Rattle.run_dealings.proofs.PolynomialLaws.{Sharing}
 use Rattle.run_dealings.proofs.polynomials.Given as goal
 
 abbrev pub invariant-loop-d : goal.invariant-loop-d

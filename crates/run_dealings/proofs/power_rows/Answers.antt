@@ -1,7 +1,5 @@
 use Prim.Native.Nat.{◌-◌}
-use lib.ListN.{length}
-use Rattle.sharing_openings.proofs.Rows.{Written}
-use Rattle.run_dealings.proofs.PowerLaws.{powers_at, writing}
+use Rattle.run_dealings.proofs.PowerLaws.{writing}
 use Rattle.run_dealings.proofs.power_rows.Goals as goal
 
 pub loop-i-init : goal.loop-i-init

@@ -1,7 +1,7 @@
 use Prim.Native.Nat.{◌-◌}
 use lib.ListN.{length}
 use Rattle.sharing_openings.proofs.Rows.{Written}
-use Rattle.run_dealings.proofs.PowerLaws.{powers_at, writing}
+use Rattle.run_dealings.proofs.PowerLaws.{powers_at}
 use Rattle.run_dealings.proofs.power_rows.Given as goal
 
 abbrev pub invariant-loop-i : goal.invariant-loop-i

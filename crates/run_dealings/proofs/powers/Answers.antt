@@ -1,6 +1,5 @@
 use Prim.Native.Nat.{◌-◌}
-use lib.ListN.{length}
-use Rattle.run_dealings.proofs.PowerLaws.{Powering, powering}
+use Rattle.run_dealings.proofs.PowerLaws.{powering}
 use Rattle.run_dealings.proofs.powers.Goals as goal
 
 pub loop-i-init : goal.loop-i-init

@@ -1,6 +1,6 @@
 use Prim.Native.Nat.{◌-◌}
 use lib.ListN.{length}
-use Rattle.run_dealings.proofs.PowerLaws.{Powering, powering}
+use Rattle.run_dealings.proofs.PowerLaws.{Powering}
 use Rattle.run_dealings.proofs.powers.Given as goal
 
 abbrev pub invariant-loop-i : goal.invariant-loop-i

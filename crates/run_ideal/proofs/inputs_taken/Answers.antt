@@ -1,5 +1,4 @@
 use Rattle.run_ideal.proofs.IdealLaws.{taking}
-use borrow.Author.Rules.{rules}
 use Rattle.run_ideal.proofs.inputs_taken.Goals as goal
 
 pub returns-in-Input : goal.returns-in-Input

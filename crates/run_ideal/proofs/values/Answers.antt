@@ -1,6 +1,5 @@
 use Prim.Native.Nat.{◌-◌}
-use Rattle.numbers.specs.Bytes.{numbers}
-use Rattle.run_ideal.proofs.IdealLaws.{Worked, working}
+use Rattle.run_ideal.proofs.IdealLaws.{working}
 use Rattle.run_ideal.proofs.values.Goals as goal
 
 pub loop-g-init : goal.loop-g-init

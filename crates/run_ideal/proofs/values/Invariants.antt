@@ -1,6 +1,6 @@
 use Prim.Native.Nat.{◌-◌}
 use Rattle.numbers.specs.Bytes.{numbers}
-use Rattle.run_ideal.proofs.IdealLaws.{Worked, working}
+use Rattle.run_ideal.proofs.IdealLaws.{Worked}
 use Rattle.run_ideal.proofs.values.Given as goal
 
 abbrev pub invariant-loop-g : goal.invariant-loop-g

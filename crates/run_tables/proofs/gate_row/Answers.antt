@@ -1,5 +1,4 @@
 use Rattle.run_tables.proofs.GateLaws.{working}
-use borrow.Author.Rules.{rules}
 use Rattle.run_tables.proofs.gate_row.Goals as goal
 
 pub input_row-requires : goal.input_row-requires

@@ -1,5 +1,5 @@
 use Prim.Native.Nat.{◌-◌}
-use Rattle.run_tables.proofs.StepLaws.{Pasting, pasting}
+use Rattle.run_tables.proofs.StepLaws.{pasting}
 use Rattle.run_tables.proofs.put_row.Goals as goal
 
 pub loop-j-init : goal.loop-j-init

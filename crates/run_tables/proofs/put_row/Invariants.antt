@@ -1,5 +1,5 @@
 use Prim.Native.Nat.{◌-◌}
-use Rattle.run_tables.proofs.StepLaws.{Pasting, pasting}
+use Rattle.run_tables.proofs.StepLaws.{Pasting}
 use Rattle.run_tables.proofs.put_row.Given as goal
 
 abbrev pub invariant-loop-j : goal.invariant-loop-j

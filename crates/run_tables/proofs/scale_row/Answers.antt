@@ -1,7 +1,5 @@
-use Prim.Native.Nat.{◌+◌, ◌*◌, ◌-◌}
-use lib.ListN.{get_or}
-use Rattle.field.specs.Mod.{mul}
-use Rattle.run_dealings.proofs.RowLaws.{Making, row_reading}
+use Prim.Native.Nat.{◌-◌}
+use Rattle.run_dealings.proofs.RowLaws.{row_reading}
 use Rattle.run_tables.proofs.scale_row.Goals as goal
 
 pub overflow_mul-left : goal.overflow_mul-left

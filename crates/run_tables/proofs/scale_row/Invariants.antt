@@ -1,7 +1,7 @@
 use Prim.Native.Nat.{◌+◌, ◌*◌, ◌-◌}
 use lib.ListN.{get_or}
 use Rattle.field.specs.Mod.{mul}
-use Rattle.run_dealings.proofs.RowLaws.{Making, row_reading}
+use Rattle.run_dealings.proofs.RowLaws.{Making}
 use Rattle.run_tables.proofs.scale_row.Given as goal
 
 abbrev pub invariant-loop-j : goal.invariant-loop-j

@@ -1,5 +1,4 @@
 use Rattle.run_tables.proofs.FillLaws.{stepping}
-use borrow.Author.Rules.{rules}
 use Rattle.run_tables.proofs.step.Goals as goal
 
 pub gate_row-row-requires : goal.gate_row-row-requires

@@ -1,6 +1,5 @@
 use Prim.Native.Nat.{◌-◌}
-use Rattle.numbers.specs.Bytes.{numbers}
-use Rattle.run_tables.proofs.FillLaws.{Filling, filling-table}
+use Rattle.run_tables.proofs.FillLaws.{filling-table}
 use Rattle.run_tables.proofs.steps.Goals as goal
 
 pub loop-g-init : goal.loop-g-init

@@ -1,6 +1,6 @@
 use Prim.Native.Nat.{◌-◌}
 use Rattle.numbers.specs.Bytes.{numbers}
-use Rattle.run_tables.proofs.FillLaws.{Filling, filling-table}
+use Rattle.run_tables.proofs.FillLaws.{Filling}
 use Rattle.run_tables.proofs.steps.Given as goal
 
 abbrev pub invariant-loop-g : goal.invariant-loop-g

@@ -1,8 +1,4 @@
 use Prim.Native.Nat.{◌-◌}
-use Rattle.numbers.specs.Bytes.{numbers}
-use Rattle.plan.specs.File.{plan_of}
-use Rattle.plan.proofs.Refusals.{Tried}
-use Rattle.seat_admission.specs.Parts.{out_check}
 use Rattle.seat_admission.proofs.CheckLaws.{each}
 use Rattle.seat_admission.proofs.check_each.Goals as goal
 

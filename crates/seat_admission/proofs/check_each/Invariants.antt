@@ -3,7 +3,6 @@ use Rattle.numbers.specs.Bytes.{numbers}
 use Rattle.plan.specs.File.{plan_of}
 use Rattle.plan.proofs.Refusals.{Tried}
 use Rattle.seat_admission.specs.Parts.{out_check}
-use Rattle.seat_admission.proofs.CheckLaws.{each}
 use Rattle.seat_admission.proofs.check_each.Given as goal
 
 abbrev pub invariant-loop-j : goal.invariant-loop-j

@@ -2,7 +2,6 @@ use Prim.Native.Nat.{◌-◌}
 use lib.ListN.{get_or}
 use Rattle.numbers.specs.Bytes.{numbers}
 use Rattle.numbers.proofs.Fills.{Filled}
-use Rattle.seat_learning.proofs.LearnLaws.{reading}
 use Rattle.seat_learning.proofs.first_numbers.Given as goal
 
 abbrev pub invariant-loop-j : goal.invariant-loop-j

@@ -1,5 +1,5 @@
 use Prim.Native.Nat.{◌-◌}
-use Rattle.seat_learning.proofs.LearnLaws.{Gathered, gathering}
+use Rattle.seat_learning.proofs.LearnLaws.{gathering}
 use Rattle.seat_learning.proofs.learn_inputs.Goals as goal
 
 pub loop-i-init : goal.loop-i-init

@@ -1,5 +1,5 @@
 use Prim.Native.Nat.{◌-◌}
-use Rattle.seat_learning.proofs.LearnLaws.{Gathered, gathering}
+use Rattle.seat_learning.proofs.LearnLaws.{Gathered}
 use Rattle.seat_learning.proofs.learn_inputs.Given as goal
 
 abbrev pub invariant-loop-i : goal.invariant-loop-i

@@ -1,5 +1,5 @@
 use Prim.Native.Nat.{◌-◌}
-use Rattle.seat_learning.proofs.LearnLaws.{Learning, learning_own}
+use Rattle.seat_learning.proofs.LearnLaws.{learning_own}
 use Rattle.seat_learning.proofs.learn_inputs_of.Goals as goal
 
 pub loop-g-init : goal.loop-g-init

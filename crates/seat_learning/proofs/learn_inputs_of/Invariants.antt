@@ -1,5 +1,5 @@
 use Prim.Native.Nat.{◌-◌}
-use Rattle.seat_learning.proofs.LearnLaws.{Learning, learning_own}
+use Rattle.seat_learning.proofs.LearnLaws.{Learning}
 use Rattle.seat_learning.proofs.learn_inputs_of.Given as goal
 
 abbrev pub invariant-loop-g : goal.invariant-loop-g

@@ -1,5 +1,5 @@
 use Prim.Native.Nat.{◌-◌}
-use Rattle.seat_learning.proofs.LearnLaws.{Worked, Going_on}
+use Rattle.seat_learning.proofs.LearnLaws.{Going_on}
 use Rattle.seat_learning.proofs.work_from.Goals as goal
 
 pub loop-g-init : goal.loop-g-init

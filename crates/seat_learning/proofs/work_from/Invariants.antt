@@ -1,5 +1,5 @@
 use Prim.Native.Nat.{◌-◌}
-use Rattle.seat_learning.proofs.LearnLaws.{Worked, Going_on}
+use Rattle.seat_learning.proofs.LearnLaws.{Worked}
 use Rattle.seat_learning.proofs.work_from.Given as goal
 
 abbrev pub invariant-loop-g : goal.invariant-loop-g

@@ -1,5 +1,5 @@
 use Prim.Native.Nat.{◌-◌}
-use Rattle.seat_messages.proofs.PointLaws.{Pointing, pointing}
+use Rattle.seat_messages.proofs.PointLaws.{pointing}
 use Rattle.seat_messages.proofs.points_of.Goals as goal
 
 pub loop-i-init : goal.loop-i-init

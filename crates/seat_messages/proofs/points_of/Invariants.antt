@@ -1,5 +1,5 @@
 use Prim.Native.Nat.{◌-◌}
-use Rattle.seat_messages.proofs.PointLaws.{Pointing, pointing}
+use Rattle.seat_messages.proofs.PointLaws.{Pointing}
 use Rattle.seat_messages.proofs.points_of.Given as goal
 
 abbrev pub invariant-loop-i : goal.invariant-loop-i

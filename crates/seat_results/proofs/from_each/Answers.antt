@@ -1,6 +1,5 @@
 use Prim.Native.Nat.{◌-◌}
-use Rattle.numbers.specs.Bytes.{numbers}
-use Rattle.seat_results.proofs.ResultLaws.{Copied, copying}
+use Rattle.seat_results.proofs.ResultLaws.{copying}
 use Rattle.seat_results.proofs.from_each.Goals as goal
 
 pub loop-i-init : goal.loop-i-init

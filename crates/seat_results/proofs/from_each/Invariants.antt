@@ -1,6 +1,6 @@
 use Prim.Native.Nat.{◌-◌}
 use Rattle.numbers.specs.Bytes.{numbers}
-use Rattle.seat_results.proofs.ResultLaws.{Copied, copying}
+use Rattle.seat_results.proofs.ResultLaws.{Copied}
 use Rattle.seat_results.proofs.from_each.Given as goal
 
 abbrev pub invariant-loop-i : goal.invariant-loop-i

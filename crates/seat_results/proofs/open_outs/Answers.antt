@@ -1,6 +1,5 @@
 use Prim.Native.Nat.{◌-◌}
-use Rattle.numbers.specs.Bytes.{numbers}
-use Rattle.seat_results.proofs.ResultLaws.{Opened, opening_all}
+use Rattle.seat_results.proofs.ResultLaws.{opening_all}
 use Rattle.seat_results.proofs.open_outs.Goals as goal
 
 pub loop-j-init : goal.loop-j-init

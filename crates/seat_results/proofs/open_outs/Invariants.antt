@@ -1,6 +1,6 @@
 use Prim.Native.Nat.{◌-◌}
 use Rattle.numbers.specs.Bytes.{numbers}
-use Rattle.seat_results.proofs.ResultLaws.{Opened, opening_all}
+use Rattle.seat_results.proofs.ResultLaws.{Opened}
 use Rattle.seat_results.proofs.open_outs.Given as goal
 
 abbrev pub invariant-loop-j : goal.invariant-loop-j

@@ -1,8 +1,5 @@
 use Prim.Native.Nat.{◌-◌}
-use mathlib.Core.List.{◌∷◌}
-use Rattle.numbers.specs.Bytes.{numbers}
-use Rattle.seat_sending.specs.Sending.{coins_from}
-use Rattle.seat_sending.proofs.ProductLaws.{Dealt, dealing_out}
+use Rattle.seat_sending.proofs.ProductLaws.{dealing_out}
 use Rattle.seat_sending.proofs.deal.Goals as goal
 
 pub points_of-points-requires : goal.points_of-points-requires

@@ -2,7 +2,7 @@ use Prim.Native.Nat.{◌-◌}
 use mathlib.Core.List.{◌∷◌}
 use Rattle.numbers.specs.Bytes.{numbers}
 use Rattle.seat_sending.specs.Sending.{coins_from}
-use Rattle.seat_sending.proofs.ProductLaws.{Dealt, dealing_out}
+use Rattle.seat_sending.proofs.ProductLaws.{Dealt}
 use Rattle.seat_sending.proofs.deal.Given as goal
 
 abbrev pub invariant-loop-j : goal.invariant-loop-j

@@ -1,6 +1,5 @@
 use Prim.Native.Nat.{◌-◌}
-use Rattle.numbers.specs.Bytes.{numbers}
-use Rattle.seat_sending.proofs.DealLaws.{Begun, beginning}
+use Rattle.seat_sending.proofs.DealLaws.{beginning}
 use Rattle.seat_sending.proofs.polynomial.Goals as goal
 
 pub bounds-polynomial-0 : goal.bounds-polynomial-0

@@ -1,6 +1,6 @@
 use Prim.Native.Nat.{◌-◌}
 use Rattle.numbers.specs.Bytes.{numbers}
-use Rattle.seat_sending.proofs.DealLaws.{Begun, beginning}
+use Rattle.seat_sending.proofs.DealLaws.{Begun}
 use Rattle.seat_sending.proofs.polynomial.Given as goal
 
 abbrev pub invariant-loop-j : goal.invariant-loop-j

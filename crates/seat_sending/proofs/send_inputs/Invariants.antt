@@ -1,12 +1,10 @@
 use Prim.Native.Nat.{◌-◌}
-use native.Mathlib.Omega.{arith}
 use lib.ListN.{get_or}
 use Rattle.numbers.specs.Bytes.{numbers}
 use Rattle.plan.specs.Plans.{input_wires}
 use Rattle.plan.specs.File.{plan_of}
 use Rattle.seat_sending.specs.Sending.{input_shares}
 use Rattle.seat_sending.proofs.SendLaws.{Rows}
-use Rattle.seat_sending.proofs.InputLaws.{receiving}
 use Rattle.seat_sending.proofs.send_inputs.Given as goal
 
 abbrev pub invariant-loop-j : goal.invariant-loop-j

@@ -1,5 +1,5 @@
 use Prim.Native.Nat.{◌-◌}
-use Rattle.seat_sending.proofs.InputLaws.{Inputting, inputting}
+use Rattle.seat_sending.proofs.InputLaws.{inputting}
 use Rattle.seat_sending.proofs.send_inputs_to.Goals as goal
 
 pub loop-g-init : goal.loop-g-init

@@ -1,5 +1,5 @@
 use Prim.Native.Nat.{◌-◌}
-use Rattle.seat_sending.proofs.InputLaws.{Inputting, inputting}
+use Rattle.seat_sending.proofs.InputLaws.{Inputting}
 use Rattle.seat_sending.proofs.send_inputs_to.Given as goal
 
 abbrev pub invariant-loop-g : goal.invariant-loop-g

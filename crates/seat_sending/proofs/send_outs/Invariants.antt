@@ -1,11 +1,9 @@
 use Prim.Native.Nat.{◌-◌, ◌+◌}
-use native.Mathlib.Omega.{arith}
 use Rattle.numbers.specs.Bytes.{numbers}
 use Rattle.plan.specs.Plans.{out_wires}
 use Rattle.plan.specs.File.{plan_of}
 use Rattle.seat_sending.specs.Sending.{out_shares}
 use Rattle.seat_sending.proofs.SendLaws.{Rows}
-use Rattle.seat_sending.proofs.OutLaws.{gathering}
 use Rattle.seat_sending.proofs.send_outs.Given as goal
 
 abbrev pub invariant-loop-j : goal.invariant-loop-j

@@ -1,6 +1,5 @@
 use Prim.Native.Nat.{◌-◌}
-use Rattle.numbers.specs.Bytes.{numbers}
-use Rattle.seat_sending.proofs.OutLaws.{Outing, outing}
+use Rattle.seat_sending.proofs.OutLaws.{outing}
 use Rattle.seat_sending.proofs.send_outs_to.Goals as goal
 
 pub loop-o-init : goal.loop-o-init

@@ -1,6 +1,6 @@
 use Prim.Native.Nat.{◌-◌}
 use Rattle.numbers.specs.Bytes.{numbers}
-use Rattle.seat_sending.proofs.OutLaws.{Outing, outing}
+use Rattle.seat_sending.proofs.OutLaws.{Outing}
 use Rattle.seat_sending.proofs.send_outs_to.Given as goal
 
 abbrev pub invariant-loop-o : goal.invariant-loop-o

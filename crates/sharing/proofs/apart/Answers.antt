@@ -1,5 +1,4 @@
 use Rattle.sharing.proofs.Weighing.{weighing}
-use borrow.Author.Rules.{rules}
 use Rattle.sharing.proofs.apart.Goals as goal
 
 pub returns-then-x-y : goal.returns-then-x-y

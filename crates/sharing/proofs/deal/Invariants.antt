@@ -2,7 +2,6 @@ use Prim.Native.Nat.{◌-◌}
 use lib.ListN.{length, get_or}
 use Rattle.numbers.proofs.Fills.{Filled}
 use Rattle.sharing_laws.specs.Poly.{eval}
-use Rattle.sharing.proofs.Coding.{dealing}
 use Rattle.sharing.proofs.deal.Given as goal
 
 abbrev pub invariant-loop-k : goal.invariant-loop-k

@@ -1,6 +1,5 @@
 use Prim.Native.Nat.{◌-◌}
-use lib.ListN.{length}
-use Rattle.sharing.proofs.Coding.{Summed, summing}
+use Rattle.sharing.proofs.Coding.{summing}
 use Rattle.sharing.proofs.dot.Goals as goal
 
 pub is_wide-wide-requires : goal.is_wide-wide-requires

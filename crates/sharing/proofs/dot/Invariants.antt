@@ -1,6 +1,6 @@
 use Prim.Native.Nat.{◌-◌}
 use lib.ListN.{length}
-use Rattle.sharing.proofs.Coding.{Summed, summing}
+use Rattle.sharing.proofs.Coding.{Summed}
 use Rattle.sharing.proofs.dot.Given as goal
 
 abbrev pub invariant-loop-i : goal.invariant-loop-i

@@ -1,6 +1,5 @@
 use Prim.Native.Nat.{◌-◌}
-use lib.ListN.{length}
-use Rattle.sharing.proofs.Coding.{Summed, summing}
+use Rattle.sharing.proofs.Coding.{summing}
 use Rattle.sharing.proofs.dot_by.Goals as goal
 
 pub loop-i-init : goal.loop-i-init

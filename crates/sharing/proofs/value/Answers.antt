@@ -1,4 +1,4 @@
-use Rattle.sharing.proofs.Coding.{Valued, valuing}
+use Rattle.sharing.proofs.Coding.{valuing}
 use Rattle.sharing.proofs.value.Goals as goal
 
 pub loop-i-init : goal.loop-i-init

@@ -1,4 +1,4 @@
-use Rattle.sharing.proofs.Coding.{Valued, valuing}
+use Rattle.sharing.proofs.Coding.{Valued}
 use Rattle.sharing.proofs.value.Given as goal
 
 abbrev pub invariant-loop-i : goal.invariant-loop-i

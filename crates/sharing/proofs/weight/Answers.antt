@@ -1,7 +1,5 @@
-use mathlib.Core.Path.{◌≡◌}
 use Prim.Native.Nat.{◌-◌}
-use lib.ListN.{length, get_or}
-use Rattle.sharing.proofs.Weighing.{Weighed, weighing}
+use Rattle.sharing.proofs.Weighing.{weighing}
 use Rattle.sharing.proofs.weight.Goals as goal
 
 pub offset_bounds-points-i : goal.offset_bounds-points-i

@@ -1,7 +1,7 @@
 use mathlib.Core.Path.{◌≡◌}
 use Prim.Native.Nat.{◌-◌}
 use lib.ListN.{length, get_or}
-use Rattle.sharing.proofs.Weighing.{Weighed, weighing}
+use Rattle.sharing.proofs.Weighing.{Weighed}
 use Rattle.sharing.proofs.weight.Given as goal
 
 abbrev pub invariant-loop-j : goal.invariant-loop-j

@@ -1,7 +1,4 @@
 use Prim.Native.Nat.{◌-◌}
-use lib.ListN.{length, get_or}
-use Rattle.numbers.proofs.Fills.{Filled}
-use Rattle.sharing_laws.specs.Interp.{weight}
 use Rattle.sharing.proofs.Weighing.{weightings}
 use Rattle.sharing.proofs.weights.Goals as goal
 

@@ -1,6 +1,4 @@
-use Prim.Native.Nat.{ℕ, ◌-◌}
-use lib.ListN.{length}
-use Rattle.numbers.proofs.Fills.{Filled}
+use Prim.Native.Nat.{◌-◌}
 use Rattle.sharing_delta.proofs.Factors.{clearing}
 use Rattle.sharing_delta.proofs.clear.Goals as goal
 

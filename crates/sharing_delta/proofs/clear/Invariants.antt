@@ -1,7 +1,6 @@
 use Prim.Native.Nat.{ℕ, ◌-◌}
 use lib.ListN.{length}
 use Rattle.numbers.proofs.Fills.{Filled}
-use Rattle.sharing_delta.proofs.Factors.{clearing}
 use Rattle.sharing_delta.proofs.clear.Given as goal
 
 abbrev pub invariant-loop-i : goal.invariant-loop-i

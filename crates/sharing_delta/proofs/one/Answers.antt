@@ -1,5 +1,4 @@
 use Rattle.sharing_delta.proofs.Factors.{clearing}
-use borrow.Author.Rules.{rules}
 use Rattle.sharing_delta.proofs.one.Goals as goal
 
 pub clear-requires : goal.clear-requires

@@ -1,6 +1,5 @@
 use Prim.Native.Nat.{◌-◌}
-use lib.ListN.{length}
-use Rattle.sharing_delta.proofs.Factors.{Carried, carrying}
+use Rattle.sharing_delta.proofs.Factors.{carrying}
 use Rattle.sharing_delta.proofs.times.Goals as goal
 
 pub loop-i-init : goal.loop-i-init

@@ -1,6 +1,6 @@
 use Prim.Native.Nat.{◌-◌}
 use lib.ListN.{length}
-use Rattle.sharing_delta.proofs.Factors.{Carried, carrying}
+use Rattle.sharing_delta.proofs.Factors.{Carried}
 use Rattle.sharing_delta.proofs.times.Given as goal
 
 abbrev pub invariant-loop-i : goal.invariant-loop-i

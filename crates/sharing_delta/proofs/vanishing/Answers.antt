@@ -1,4 +1,4 @@
-use Rattle.sharing_delta.proofs.Factors.{Grown, growing}
+use Rattle.sharing_delta.proofs.Factors.{growing}
 use Rattle.sharing_delta.proofs.vanishing.Goals as goal
 
 pub one-requires : goal.one-requires

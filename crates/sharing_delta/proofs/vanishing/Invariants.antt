@@ -1,4 +1,4 @@
-use Rattle.sharing_delta.proofs.Factors.{Grown, growing}
+use Rattle.sharing_delta.proofs.Factors.{Grown}
 use Rattle.sharing_delta.proofs.vanishing.Given as goal
 
 abbrev pub invariant-loop-left : goal.invariant-loop-left

@@ -1,5 +1,4 @@
 use Rattle.sharing_openings.proofs.Openings.{offing}
-use borrow.Author.Rules.{rules}
 use Rattle.sharing_openings.proofs.first_off.Goals as goal
 
 pub slice_bounds-first_off_in-end : goal.slice_bounds-first_off_in-end

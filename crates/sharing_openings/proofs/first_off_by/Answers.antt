@@ -1,6 +1,5 @@
 use Prim.Native.Nat.{◌-◌}
-use lib.ListN.{length}
-use Rattle.sharing_openings.proofs.Rows.{Checked, checking}
+use Rattle.sharing_openings.proofs.Rows.{checking}
 use Rattle.sharing_openings.proofs.first_off_by.Goals as goal
 
 pub overflow_add-k : goal.overflow_add-k

@@ -1,6 +1,6 @@
 use Prim.Native.Nat.{◌-◌}
 use lib.ListN.{length}
-use Rattle.sharing_openings.proofs.Rows.{Checked, checking}
+use Rattle.sharing_openings.proofs.Rows.{Checked}
 use Rattle.sharing_openings.proofs.first_off_by.Given as goal
 
 abbrev pub invariant-loop-party : goal.invariant-loop-party

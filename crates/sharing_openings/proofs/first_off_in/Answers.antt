@@ -1,5 +1,4 @@
 use Rattle.sharing_openings.proofs.Openings.{offing}
-use borrow.Author.Rules.{rules}
 use Rattle.sharing_openings.proofs.first_off_in.Goals as goal
 
 pub overflow_add-used : goal.overflow_add-used

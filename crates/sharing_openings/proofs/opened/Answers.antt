@@ -1,5 +1,4 @@
 use Rattle.sharing_openings.proofs.Openings.{opening}
-use borrow.Author.Rules.{rules}
 use Rattle.sharing_openings.proofs.opened.Goals as goal
 
 pub slice_bounds-opened_in-end : goal.slice_bounds-opened_in-end

@@ -1,5 +1,4 @@
 use Rattle.sharing_openings.proofs.Openings.{opening}
-use borrow.Author.Rules.{rules}
 use Rattle.sharing_openings.proofs.opened_in.Goals as goal
 
 pub overflow_add-k : goal.overflow_add-k

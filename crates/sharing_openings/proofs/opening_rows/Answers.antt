@@ -1,7 +1,5 @@
-use Prim.Native.Nat.{◌+◌, ◌-◌}
-use lib.ListN.{length}
-use Rattle.sharing_laws.specs.Sharing.{opening_row}
-use Rattle.sharing_openings.proofs.Rows.{Written, writing}
+use Prim.Native.Nat.{◌-◌}
+use Rattle.sharing_openings.proofs.Rows.{writing}
 use Rattle.sharing_openings.proofs.opening_rows.Goals as goal
 
 pub overflow_add-k : goal.overflow_add-k

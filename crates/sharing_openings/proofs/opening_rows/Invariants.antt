@@ -1,7 +1,7 @@
 use Prim.Native.Nat.{◌+◌, ◌-◌}
 use lib.ListN.{length}
 use Rattle.sharing_laws.specs.Sharing.{opening_row}
-use Rattle.sharing_openings.proofs.Rows.{Written, writing}
+use Rattle.sharing_openings.proofs.Rows.{Written}
 use Rattle.sharing_openings.proofs.opening_rows.Given as goal
 
 abbrev pub invariant-loop-row : goal.invariant-loop-row

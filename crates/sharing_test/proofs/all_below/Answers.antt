@@ -1,5 +1,5 @@
-use Rattle.std.proofs.Common.{◌-◌, length}
-use Rattle.sharing_test.proofs.Laws.{Testing, testing}
+use Rattle.std.proofs.Common.{◌-◌}
+use Rattle.sharing_test.proofs.Laws.{testing}
 use Rattle.sharing_test.proofs.all_below.Goals as goal
 
 pub loop-i-init : goal.loop-i-init

@@ -1,5 +1,5 @@
 use Rattle.std.proofs.Common.{◌-◌, length}
-use Rattle.sharing_test.proofs.Laws.{Testing, testing}
+use Rattle.sharing_test.proofs.Laws.{Testing}
 use Rattle.sharing_test.proofs.all_below.Given as goal
 
 abbrev pub invariant-loop-i : goal.invariant-loop-i

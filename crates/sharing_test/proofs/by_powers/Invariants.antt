@@ -1,5 +1,4 @@
 use Rattle.std.proofs.Common.{◌-◌, ◌<◌, ◌≤◌, length}
-use Rattle.sharing_test.proofs.Laws.{testing}
 use Rattle.sharing_test.proofs.by_powers.Given as goal
 
 abbrev pub invariant-loop-i : goal.invariant-loop-i

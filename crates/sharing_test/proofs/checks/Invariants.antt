@@ -1,5 +1,4 @@
-use Rattle.std.proofs.Common.{◌≡◌, ◌-◌, ◌<◌, ◌≤◌, length}
-use Rattle.sharing_test.proofs.Laws.{testing}
+use Rattle.std.proofs.Common.{◌≡◌, ◌-◌, length}
 use Rattle.sharing_test.proofs.checks.Given as goal
 
 abbrev pub invariant-loop-k : goal.invariant-loop-k

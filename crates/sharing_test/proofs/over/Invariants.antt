@@ -1,5 +1,4 @@
-use Rattle.std.proofs.Common.{◌-◌, ◌<◌, ◌≤◌}
-use Rattle.sharing_test.proofs.Laws.{testing}
+use Rattle.std.proofs.Common.{◌-◌, ◌≤◌}
 use Rattle.sharing_test.proofs.over.Given as goal
 
 abbrev pub invariant-loop-n : goal.invariant-loop-n

@@ -1,4 +1,4 @@
-use Rattle.std.proofs.Common.{◌-◌, ◌<◌, ◌≤◌, length}
+use Rattle.std.proofs.Common.{◌-◌}
 use Rattle.sharing_test.proofs.Laws.{testing}
 use Rattle.sharing_test.proofs.zero_past.Goals as goal
 

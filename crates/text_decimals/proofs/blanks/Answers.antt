@@ -1,6 +1,4 @@
 use Prim.Native.Nat.{◌-◌}
-use lib.ListN.{length}
-use Rattle.text_decimals.proofs.Laws.{Skipping}
 use Rattle.text_decimals.proofs.Laws.{reading}
 use Rattle.text_decimals.proofs.blanks.Goals as goal
 

@@ -1,7 +1,6 @@
 use Prim.Native.Nat.{◌-◌}
 use lib.ListN.{length}
 use Rattle.text_decimals.proofs.Laws.{Skipping}
-use Rattle.text_decimals.proofs.Laws.{reading}
 use Rattle.text_decimals.proofs.blanks.Given as goal
 
 abbrev pub invariant-loop-i : goal.invariant-loop-i

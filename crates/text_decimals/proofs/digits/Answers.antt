@@ -1,6 +1,4 @@
 use Prim.Native.Nat.{◌-◌}
-use lib.ListN.{length}
-use Rattle.text_decimals.proofs.Laws.{Counting}
 use Rattle.text_decimals.proofs.Laws.{reading}
 use Rattle.text_decimals.proofs.digits.Goals as goal
 

@@ -1,7 +1,6 @@
 use Prim.Native.Nat.{◌-◌}
 use lib.ListN.{length}
 use Rattle.text_decimals.proofs.Laws.{Counting}
-use Rattle.text_decimals.proofs.Laws.{reading}
 use Rattle.text_decimals.proofs.digits.Given as goal
 
 abbrev pub invariant-loop-i : goal.invariant-loop-i

@@ -1,4 +1,4 @@
-use Rattle.field.proofs.Elements.{Inverting, inverting}
+use Rattle.field.proofs.Elements.{inverting}
 use Rattle.field.proofs.Field.inverse.Goals as goal
 
 -- `Field::inverse` meets its contract. The invariant: acc / r is the inverse of a. The measure: r, which falls to a remainder by r.

@@ -1,4 +1,4 @@
-use Rattle.field.proofs.Elements.{Inverting, inverting}
+use Rattle.field.proofs.Elements.{Inverting}
 use Rattle.field.proofs.Field.inverse.Given as goal
 
 abbrev pub invariant-loop-r : goal.invariant-loop-r
