@@ -64,9 +64,9 @@ module _ (n t p : ℕ) (text : List ℕ) (ok : text_ok n text ≡ true) where
   unfolding text_ok
   format = (both_true (format_ok (lines_of text)) (circuit_ok n (circuit_of text)) ok).0
 
-  rules : circuit_ok n (circuit_of text) ≡ true
+  rules_lem : circuit_ok n (circuit_of text) ≡ true
   unfolding text_ok
-  rules = (both_true (format_ok (lines_of text)) (circuit_ok n (circuit_of text)) ok).1
+  rules_lem = (both_true (format_ok (lines_of text)) (circuit_ok n (circuit_of text)) ok).1
 
   gates-count : length (import_bodies p text).gates ≡ input_wires (circuit_of text) + size_of (circuit_of text).gates
   unfolding import_bodies circuit_bodies
@@ -74,7 +74,7 @@ module _ (n t p : ℕ) (text : List ℕ) (ok : text_ok n text ≡ true) where
 
   outs-count : length (import_bodies p text).outs ≡ output_wires (circuit_of text)
   unfolding import_bodies circuit_bodies
-  outs-count = outs_long n p (circuit_of text) rules
+  outs-count = outs_long n p (circuit_of text) rules_lem
 
   prime_above : modulus_ok n p ≡ true → 2 ≤ p
   prime_above m = (prime_sound p (subst T (sym (modulus_prime n p m)) tt)).above
@@ -82,7 +82,7 @@ module _ (n t p : ℕ) (text : List ℕ) (ok : text_ok n text ≡ true) where
   -- 7 and 8 cannot fall
   sound : parties_ok n ≡ true → modulus_ok n p ≡ true → Sound n p (import_bodies p text)
   unfolding import_bodies
-  sound a m = made-sound n p (circuit_of text) rules (between-true 1 15 n a).0 (prime_above m)
+  sound a m = made-sound n p (circuit_of text) rules_lem (between-true 1 15 n a).0 (prime_above m)
 
   module _ (few-gates : length (import_bodies p text).gates ≤ 1024) (few_outs : length (import_bodies p text).outs ≤ 64) where
     file-checks : plan_check (import_file n t p text)
@@ -143,7 +143,7 @@ module _ (n t p gates outs : ℕ) (text : List ℕ) (w : Counted text n p gates 
       let parties : n ≤ 15 = (between-true 1 15 n parts.0).1 in
       record {
         format = format n t p text w.ok;
-        rules = rules n t p text w.ok;
+        rules = rules_lem n t p text w.ok;
         count = sym w.gates_are ∙ (unfold import_bodies in unfold circuit_bodies in refl);
         few = w.gates_few;
         outs = omega (arith, w.outs_are, w.outs_few);

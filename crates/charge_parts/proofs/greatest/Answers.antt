@@ -1,0 +1,21 @@
+use Prim.Native.Nat.{◌-◌}
+use Rattle.charge_parts.proofs.Loops.{seeking}
+use Rattle.charge_parts.proofs.greatest.Goals as goal
+
+pub loop-i-init : goal.loop-i-init
+loop-i-init c = search seeking
+
+pub greater-b-requires : goal.greater-b-requires
+greater-b-requires c = search seeking
+
+pub overflow_add-i : goal.overflow_add-i
+overflow_add-i c = search seeking
+
+pub loop-i-smaller : goal.loop-i-smaller
+loop-i-smaller c = search seeking
+
+pub loop-i-preserved : goal.loop-i-preserved
+loop-i-preserved c = search seeking
+
+pub returns : goal.returns
+returns c = search seeking
