@@ -1,8 +1,4 @@
-use mathlib.Core.List.{flat_map}
-use Prim.Native.Nat.{◌-◌}
-use lib.ListN.{length, drop}
-use Rattle.bench_text.specs.Decimals.{field}
-use Rattle.bench_text.proofs.Appending.{Left, eaching}
+use Rattle.bench_text.proofs.Appending.{eaching}
 use Rattle.bench_text.proofs.put_each.Goals as goal
 
 pub loop-k-init : goal.loop-k-init

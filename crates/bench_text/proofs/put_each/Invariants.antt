@@ -2,7 +2,7 @@ use mathlib.Core.List.{flat_map}
 use Prim.Native.Nat.{◌-◌}
 use lib.ListN.{length, drop}
 use Rattle.bench_text.specs.Decimals.{field}
-use Rattle.bench_text.proofs.Appending.{Left, eaching}
+use Rattle.bench_text.proofs.Appending.{Left}
 use Rattle.bench_text.proofs.put_each.Given as goal
 
 abbrev pub invariant-loop-k : goal.invariant-loop-k

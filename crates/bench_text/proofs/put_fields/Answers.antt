@@ -1,9 +1,4 @@
-use mathlib.Core.List.{flat_map}
-use Prim.Native.Nat.{◌-◌}
-use lib.ListN.{take, drop}
-use Rattle.numbers.specs.Bytes.{numbers}
-use Rattle.bench_text.specs.Decimals.{field}
-use Rattle.bench_text.proofs.Appending.{Left, fields_from, fielding}
+use Rattle.bench_text.proofs.Appending.{fielding}
 use Rattle.bench_text.proofs.put_fields.Goals as goal
 
 pub loop-k-init : goal.loop-k-init

@@ -3,7 +3,7 @@ use Prim.Native.Nat.{◌-◌}
 use lib.ListN.{take, drop}
 use Rattle.numbers.specs.Bytes.{numbers}
 use Rattle.bench_text.specs.Decimals.{field}
-use Rattle.bench_text.proofs.Appending.{Left, fields_from, fielding}
+use Rattle.bench_text.proofs.Appending.{Left, fields_from}
 use Rattle.bench_text.proofs.put_fields.Given as goal
 
 abbrev pub invariant-loop-k : goal.invariant-loop-k

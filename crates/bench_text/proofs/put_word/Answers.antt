@@ -1,6 +1,4 @@
-use Prim.Native.Nat.{◌-◌}
-use lib.ListN.{length, drop}
-use Rattle.bench_text.proofs.Appending.{Left, wording}
+use Rattle.bench_text.proofs.Appending.{wording}
 use Rattle.bench_text.proofs.put_word.Goals as goal
 
 pub loop-k-init : goal.loop-k-init

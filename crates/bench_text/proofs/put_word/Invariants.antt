@@ -1,6 +1,6 @@
 use Prim.Native.Nat.{◌-◌}
 use lib.ListN.{length, drop}
-use Rattle.bench_text.proofs.Appending.{Left, wording}
+use Rattle.bench_text.proofs.Appending.{Left}
 use Rattle.bench_text.proofs.put_word.Given as goal
 
 abbrev pub invariant-loop-k : goal.invariant-loop-k

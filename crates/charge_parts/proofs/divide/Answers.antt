@@ -1,4 +1,3 @@
-use Prim.Native.Nat.{◌-◌}
 use Rattle.charge_parts.proofs.Loops.{dividing}
 use Rattle.charge_parts.proofs.divide.Goals as goal
 

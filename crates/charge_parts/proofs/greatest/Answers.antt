@@ -1,4 +1,3 @@
-use Prim.Native.Nat.{◌-◌}
 use Rattle.charge_parts.proofs.Loops.{seeking}
 use Rattle.charge_parts.proofs.greatest.Goals as goal
 

@@ -1,4 +1,3 @@
-use Prim.Native.Nat.{◌-◌}
 use Rattle.charge_parts.proofs.Loops.{summing}
 use Rattle.charge_parts.proofs.sum.Goals as goal
 

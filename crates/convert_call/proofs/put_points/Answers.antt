@@ -1,4 +1,3 @@
-use Prim.Native.Nat.{◌-◌}
 use Rattle.convert_call.proofs.Converting.{putting}
 use Rattle.convert_call.proofs.put_points.Goals as goal
 

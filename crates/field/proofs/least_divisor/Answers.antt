@@ -1,4 +1,3 @@
-use Prim.Native.Nat.{◌-◌}
 use Rattle.field.proofs.Divisors.{trying}
 use Rattle.field.proofs.least_divisor.Goals as goal
 

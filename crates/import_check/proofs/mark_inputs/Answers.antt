@@ -1,4 +1,3 @@
-use Prim.Native.Nat.{◌-◌}
 use Rattle.import_check.proofs.Marks.{marking}
 use Rattle.import_check.proofs.mark_inputs.Goals as goal
 

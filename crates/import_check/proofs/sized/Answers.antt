@@ -1,4 +1,3 @@
-use Prim.Native.Nat.{◌-◌}
 use Rattle.import_check.proofs.Marks.{sizing}
 use Rattle.import_check.proofs.sized.Goals as goal
 

@@ -1,4 +1,3 @@
-use Prim.Native.Nat.{◌-◌}
 use Rattle.import_lines.proofs.Reading.{reading}
 use Rattle.import_lines.proofs.line_start.Goals as goal
 

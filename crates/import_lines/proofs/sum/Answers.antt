@@ -1,4 +1,3 @@
-use Prim.Native.Nat.{◌-◌}
 use Rattle.import_lines.proofs.Reading.{summing}
 use Rattle.import_lines.proofs.sum.Goals as goal
 

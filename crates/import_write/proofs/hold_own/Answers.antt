@@ -1,4 +1,3 @@
-use Prim.Native.Nat.{◌-◌}
 use Rattle.import_write.proofs.Bytes.{putting}
 use Rattle.import_write.proofs.hold_own.Goals as goal
 

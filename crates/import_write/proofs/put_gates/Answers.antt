@@ -1,4 +1,3 @@
-use Prim.Native.Nat.{◌-◌}
 use Rattle.import_write.proofs.Bytes.{gating}
 use Rattle.import_write.proofs.put_gates.Goals as goal
 

@@ -1,4 +1,3 @@
-use Prim.Native.Nat.{◌-◌}
 use Rattle.import_write.proofs.Bytes.{naming}
 use Rattle.import_write.proofs.put_inputs.Goals as goal
 

@@ -1,4 +1,3 @@
-use Prim.Native.Nat.{◌-◌}
 use Rattle.import_write.proofs.Bytes.{outing}
 use Rattle.import_write.proofs.put_outs.Goals as goal
 

@@ -1,4 +1,3 @@
-use Prim.Native.Nat.{◌-◌}
 use Rattle.match_moves.proofs.MoveLaws.{moving_blocks}
 use Rattle.match_moves.proofs.match_products.Goals as goal
 

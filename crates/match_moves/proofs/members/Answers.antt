@@ -1,4 +1,3 @@
-use Prim.Native.Nat.{◌-◌}
 use Rattle.match_moves.proofs.MoveLaws.{gathering}
 use Rattle.match_moves.proofs.members.Goals as goal
 

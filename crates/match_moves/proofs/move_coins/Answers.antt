@@ -1,4 +1,3 @@
-use Prim.Native.Nat.{◌-◌}
 use Rattle.match_moves.proofs.MoveLaws.{moving}
 use Rattle.match_moves.proofs.move_coins.Goals as goal
 

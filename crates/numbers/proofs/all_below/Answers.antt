@@ -1,4 +1,3 @@
-use Prim.Native.Nat.{◌-◌}
 use Rattle.numbers.proofs.Ways.{coding}
 use Rattle.numbers.proofs.all_below.Goals as goal
 

@@ -1,4 +1,3 @@
-use Prim.Native.Nat.{◌-◌}
 use Rattle.plan_coalition.proofs.Coalitions.{bits}
 use Rattle.plan_coalition.proofs.member_count.Goals as goal
 

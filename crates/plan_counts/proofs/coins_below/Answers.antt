@@ -1,5 +1,4 @@
 use native.Mathlib.Omega.{arith}
-use Prim.Native.Nat.{◌-◌}
 use Rattle.plan_counts.proofs.Counts.{counting}
 use Rattle.plan_counts.proofs.coins_below.Goals as goal
 

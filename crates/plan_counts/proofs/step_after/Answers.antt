@@ -1,4 +1,3 @@
-use Prim.Native.Nat.{◌-◌}
 use Rattle.plan_counts.proofs.Steps.{stepping}
 use Rattle.plan_counts.proofs.step_after.Goals as goal
 use Rattle.plan_counts.proofs.step_after.Goals.{then-rounds_at+else-left-eq0, else-rounds_at}

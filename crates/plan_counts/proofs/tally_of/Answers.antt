@@ -1,4 +1,3 @@
-use Prim.Native.Nat.{◌-◌}
 use Rattle.plan_counts.proofs.Counts.{tally-next, counting}
 use Rattle.plan_counts.proofs.tally_of.Goals as goal
 

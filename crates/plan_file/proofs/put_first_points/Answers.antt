@@ -1,4 +1,3 @@
-use Prim.Native.Nat.{◌-◌}
 use Rattle.plan_file.proofs.Writing.{pointing}
 use Rattle.plan_file.proofs.put_first_points.Goals as goal
 

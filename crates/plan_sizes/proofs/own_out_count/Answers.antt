@@ -1,4 +1,3 @@
-use Prim.Native.Nat.{◌-◌}
 use Rattle.plan_counts.proofs.Counts.{counting_outs}
 use Rattle.plan_sizes.proofs.own_out_count.Goals as goal
 

@@ -1,4 +1,3 @@
-use Prim.Native.Nat.{◌-◌}
 use Rattle.run_dealings.proofs.ColumnLaws.{columning}
 use Rattle.run_dealings.proofs.column.Goals as goal
 

@@ -1,4 +1,3 @@
-use Prim.Native.Nat.{◌-◌}
 use Rattle.run_dealings.proofs.ColumnLaws.{gridding}
 use Rattle.run_dealings.proofs.columns.Goals as goal
 

@@ -1,4 +1,3 @@
-use Prim.Native.Nat.{◌-◌}
 use Rattle.run_dealings.proofs.DealingLaws.{dealing}
 use Rattle.run_dealings.proofs.dealing.Goals as goal
 

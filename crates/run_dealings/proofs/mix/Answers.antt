@@ -1,4 +1,3 @@
-use Prim.Native.Nat.{◌-◌}
 use Rattle.run_dealings.proofs.MixtureLaws.{filling-mixture}
 use Rattle.run_dealings.proofs.mix.Goals as goal
 

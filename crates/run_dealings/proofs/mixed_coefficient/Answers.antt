@@ -1,4 +1,3 @@
-use Prim.Native.Nat.{◌-◌}
 use Rattle.run_dealings.proofs.MixtureLaws.{mixing}
 use Rattle.run_dealings.proofs.mixed_coefficient.Goals as goal
 

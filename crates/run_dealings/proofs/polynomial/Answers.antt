@@ -1,4 +1,3 @@
-use Prim.Native.Nat.{◌-◌}
 use Rattle.run_dealings.proofs.PolynomialLaws.{padding}
 use Rattle.run_dealings.proofs.polynomial.Goals as goal
 

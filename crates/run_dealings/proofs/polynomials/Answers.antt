@@ -1,4 +1,3 @@
-use Prim.Native.Nat.{◌-◌}
 use Rattle.run_dealings.proofs.PolynomialLaws.{sharing}
 use Rattle.run_dealings.proofs.polynomials.Goals as goal
 

@@ -1,4 +1,3 @@
-use Prim.Native.Nat.{◌-◌}
 use Rattle.run_dealings.proofs.PowerLaws.{writing}
 use Rattle.run_dealings.proofs.power_rows.Goals as goal
 

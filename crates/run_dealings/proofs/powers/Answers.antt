@@ -1,4 +1,3 @@
-use Prim.Native.Nat.{◌-◌}
 use Rattle.run_dealings.proofs.PowerLaws.{powering}
 use Rattle.run_dealings.proofs.powers.Goals as goal
 

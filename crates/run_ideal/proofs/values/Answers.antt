@@ -1,4 +1,3 @@
-use Prim.Native.Nat.{◌-◌}
 use Rattle.run_ideal.proofs.IdealLaws.{working}
 use Rattle.run_ideal.proofs.values.Goals as goal
 

@@ -1,4 +1,3 @@
-use Prim.Native.Nat.{◌-◌}
 use Rattle.run_tables.proofs.StepLaws.{pasting}
 use Rattle.run_tables.proofs.put_row.Goals as goal
 

@@ -1,4 +1,3 @@
-use Prim.Native.Nat.{◌-◌}
 use Rattle.run_dealings.proofs.RowLaws.{row_reading}
 use Rattle.run_tables.proofs.scale_row.Goals as goal
 

@@ -1,4 +1,3 @@
-use Prim.Native.Nat.{◌-◌}
 use Rattle.run_tables.proofs.FillLaws.{filling-table}
 use Rattle.run_tables.proofs.steps.Goals as goal
 

@@ -1,8 +1,3 @@
-use mathlib.Core.List.{◌∷◌}
-use Prim.Native.Nat.{◌+◌, ◌-◌}
-use Rattle.numbers.specs.Bytes.{numbers}
-use Rattle.sharing.proofs.Coding.{Summed}
-use lib.ListN.{take, drop}
 use Rattle.run_views.proofs.ViewLaws.{dealing}
 use Rattle.run_views.proofs.dealt.Goals as goal
 

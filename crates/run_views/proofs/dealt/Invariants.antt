@@ -3,7 +3,6 @@ use Prim.Native.Nat.{◌+◌, ◌-◌}
 use Rattle.numbers.specs.Bytes.{numbers}
 use Rattle.sharing.proofs.Coding.{Summed}
 use lib.ListN.{take, drop}
-use Rattle.run_views.proofs.ViewLaws.{dealing}
 use Rattle.run_views.proofs.dealt.Given as goal
 
 abbrev pub invariant-loop-j : goal.invariant-loop-j

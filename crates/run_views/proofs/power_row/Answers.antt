@@ -1,5 +1,4 @@
 use Rattle.run_views.proofs.ViewLaws.{powering}
-use borrow.Author.Rules.{rules}
 use Rattle.run_views.proofs.power_row.Goals as goal
 
 pub slice_bounds-powers-end : goal.slice_bounds-powers-end

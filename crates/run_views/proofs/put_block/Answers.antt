@@ -1,5 +1,4 @@
 use Rattle.run_views.proofs.ViewLaws.{blocking}
-use borrow.Author.Rules.{rules}
 use Rattle.run_views.proofs.put_block.Goals as goal
 
 pub overflow_mul-t : goal.overflow_mul-t

@@ -1,7 +1,4 @@
-use Prim.Native.Nat.{◌+◌, ◌-◌}
-use lib.ListN.{get_or}
-use Rattle.numbers.specs.Bytes.{numbers}
-use Rattle.run_views.proofs.ViewLaws.{Tabbing, copying}
+use Rattle.run_views.proofs.ViewLaws.{copying}
 use Rattle.run_views.proofs.put_coins.Goals as goal
 
 pub loop-j-init : goal.loop-j-init

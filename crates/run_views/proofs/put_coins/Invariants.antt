@@ -1,7 +1,7 @@
 use Prim.Native.Nat.{◌+◌, ◌-◌}
 use lib.ListN.{get_or}
 use Rattle.numbers.specs.Bytes.{numbers}
-use Rattle.run_views.proofs.ViewLaws.{Tabbing, copying}
+use Rattle.run_views.proofs.ViewLaws.{Tabbing}
 use Rattle.run_views.proofs.put_coins.Given as goal
 
 abbrev pub invariant-loop-j : goal.invariant-loop-j

@@ -1,5 +1,4 @@
 use Rattle.run_views.proofs.ViewLaws.{blocking}
-use borrow.Author.Rules.{rules}
 use Rattle.run_views.proofs.put_dealing.Goals as goal
 
 pub returns-then-i-s : goal.returns-then-i-s

@@ -1,5 +1,4 @@
 use Rattle.run_views.proofs.ViewLaws.{putting_input}
-use borrow.Author.Rules.{rules}
 use Rattle.run_views.proofs.put_input.Goals as goal
 
 pub returns : goal.returns

@@ -1,5 +1,4 @@
 use Rattle.run_views.proofs.ViewLaws.{drawing}
-use borrow.Author.Rules.{rules}
 use Rattle.run_views.proofs.put_own.Goals as goal
 
 pub put_dealing-requires : goal.put_dealing-requires

@@ -1,6 +1,4 @@
-use Prim.Native.Nat.{◌-◌}
-use Rattle.numbers.specs.Bytes.{numbers}
-use Rattle.run_views.proofs.ViewLaws.{Piecing, pieces}
+use Rattle.run_views.proofs.ViewLaws.{pieces}
 use Rattle.run_views.proofs.put_pieces_by.Goals as goal
 
 pub overflow_add-dealers : goal.overflow_add-dealers

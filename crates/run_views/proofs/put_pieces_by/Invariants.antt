@@ -1,6 +1,6 @@
 use Prim.Native.Nat.{◌-◌}
 use Rattle.numbers.specs.Bytes.{numbers}
-use Rattle.run_views.proofs.ViewLaws.{Piecing, pieces}
+use Rattle.run_views.proofs.ViewLaws.{Piecing}
 use Rattle.run_views.proofs.put_pieces_by.Given as goal
 
 abbrev pub invariant-loop-d : goal.invariant-loop-d

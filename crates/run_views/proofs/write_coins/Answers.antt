@@ -1,6 +1,4 @@
-use Prim.Native.Nat.{◌-◌}
-use Rattle.numbers.specs.Bytes.{numbers}
-use Rattle.run_views.proofs.ViewLaws.{Owning, owning}
+use Rattle.run_views.proofs.ViewLaws.{owning}
 use Rattle.run_views.proofs.write_coins.Goals as goal
 
 pub loop-g-init : goal.loop-g-init

@@ -1,9 +1,4 @@
-use mathlib.Core.List.{map}
-use Prim.Native.Nat.{◌-◌}
-use Rattle.plan.specs.Plans.{input_wires}
-use Rattle.plan.specs.File.{plan_of}
-use Rattle.run_views.specs.Flat.{share_in}
-use Rattle.run_views.proofs.ViewLaws.{Rounding, rounding}
+use Rattle.run_views.proofs.ViewLaws.{rounding}
 use Rattle.run_views.proofs.write_first.Goals as goal
 
 pub loop-j-init : goal.loop-j-init

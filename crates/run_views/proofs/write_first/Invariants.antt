@@ -3,7 +3,7 @@ use Prim.Native.Nat.{◌-◌}
 use Rattle.plan.specs.Plans.{input_wires}
 use Rattle.plan.specs.File.{plan_of}
 use Rattle.run_views.specs.Flat.{share_in}
-use Rattle.run_views.proofs.ViewLaws.{Rounding, rounding}
+use Rattle.run_views.proofs.ViewLaws.{Rounding}
 use Rattle.run_views.proofs.write_first.Given as goal
 
 abbrev pub invariant-loop-j : goal.invariant-loop-j

@@ -1,6 +1,4 @@
-use Prim.Native.Nat.{◌-◌}
-use Rattle.numbers.specs.Bytes.{numbers}
-use Rattle.run_views.proofs.ViewLaws.{Inputting, inputting}
+use Rattle.run_views.proofs.ViewLaws.{inputting}
 use Rattle.run_views.proofs.write_inputs.Goals as goal
 
 pub loop-g-init : goal.loop-g-init

@@ -1,6 +1,6 @@
 use Prim.Native.Nat.{◌-◌}
 use Rattle.numbers.specs.Bytes.{numbers}
-use Rattle.run_views.proofs.ViewLaws.{Inputting, inputting}
+use Rattle.run_views.proofs.ViewLaws.{Inputting}
 use Rattle.run_views.proofs.write_inputs.Given as goal
 
 abbrev pub invariant-loop-g : goal.invariant-loop-g

@@ -1,7 +1,4 @@
-use Prim.Native.Nat.{◌-◌}
-use Rattle.plan.specs.Plans.{is_input_of}
-use Rattle.run_views.specs.Flat.{share_in}
-use Rattle.run_views.proofs.ViewLaws.{Sifting, sifting}
+use Rattle.run_views.proofs.ViewLaws.{sifting}
 use Rattle.run_views.proofs.write_inputs_from.Goals as goal
 
 pub gate_size-size-requires : goal.gate_size-size-requires

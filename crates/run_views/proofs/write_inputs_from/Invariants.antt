@@ -1,7 +1,7 @@
 use Prim.Native.Nat.{◌-◌}
 use Rattle.plan.specs.Plans.{is_input_of}
 use Rattle.run_views.specs.Flat.{share_in}
-use Rattle.run_views.proofs.ViewLaws.{Sifting, sifting}
+use Rattle.run_views.proofs.ViewLaws.{Sifting}
 use Rattle.run_views.proofs.write_inputs_from.Given as goal
 
 abbrev pub invariant-loop-g : goal.invariant-loop-g

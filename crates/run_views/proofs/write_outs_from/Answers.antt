@@ -1,6 +1,4 @@
-use Prim.Native.Nat.{◌-◌}
-use Rattle.run_views.specs.Flat.{share_in}
-use Rattle.run_views.proofs.ViewLaws.{Outing, outing}
+use Rattle.run_views.proofs.ViewLaws.{outing}
 use Rattle.run_views.proofs.write_outs_from.Goals as goal
 
 pub loop-k-init : goal.loop-k-init

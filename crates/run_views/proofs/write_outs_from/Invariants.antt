@@ -1,6 +1,6 @@
 use Prim.Native.Nat.{◌-◌}
 use Rattle.run_views.specs.Flat.{share_in}
-use Rattle.run_views.proofs.ViewLaws.{Outing, outing}
+use Rattle.run_views.proofs.ViewLaws.{Outing}
 use Rattle.run_views.proofs.write_outs_from.Given as goal
 
 abbrev pub invariant-loop-k : goal.invariant-loop-k

@@ -1,7 +1,4 @@
-use Prim.Native.Nat.{◌-◌}
-use Rattle.plan.specs.File.{plan_of}
-use Rattle.run_views.specs.Flat.{opened_in}
-use Rattle.run_views.proofs.ViewLaws.{Outing, outing}
+use Rattle.run_views.proofs.ViewLaws.{outing}
 use Rattle.run_views.proofs.write_results.Goals as goal
 
 pub loop-k-init : goal.loop-k-init

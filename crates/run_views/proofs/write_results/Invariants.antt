@@ -1,7 +1,7 @@
 use Prim.Native.Nat.{◌-◌}
 use Rattle.plan.specs.File.{plan_of}
 use Rattle.run_views.specs.Flat.{opened_in}
-use Rattle.run_views.proofs.ViewLaws.{Outing, outing}
+use Rattle.run_views.proofs.ViewLaws.{Outing}
 use Rattle.run_views.proofs.write_results.Given as goal
 
 abbrev pub invariant-loop-k : goal.invariant-loop-k

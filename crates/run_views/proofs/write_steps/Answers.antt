@@ -1,6 +1,4 @@
-use Prim.Native.Nat.{◌-◌}
-use Rattle.numbers.specs.Bytes.{numbers}
-use Rattle.run_views.proofs.ViewLaws.{Stepping, stepping}
+use Rattle.run_views.proofs.ViewLaws.{stepping}
 use Rattle.run_views.proofs.write_steps.Goals as goal
 
 pub loop-g-init : goal.loop-g-init

@@ -1,6 +1,6 @@
 use Prim.Native.Nat.{◌-◌}
 use Rattle.numbers.specs.Bytes.{numbers}
-use Rattle.run_views.proofs.ViewLaws.{Stepping, stepping}
+use Rattle.run_views.proofs.ViewLaws.{Stepping}
 use Rattle.run_views.proofs.write_steps.Given as goal
 
 abbrev pub invariant-loop-g : goal.invariant-loop-g

@@ -1,8 +1,4 @@
-use Prim.Native.Nat.{◌-◌}
-use Rattle.numbers.specs.Bytes.{numbers}
-use Rattle.plan.specs.File.{plan_of}
-use Rattle.run_views.specs.Flat.{view_in}
-use Rattle.run_views.proofs.JoinLaws.{Viewed, viewing}
+use Rattle.run_views.proofs.JoinLaws.{viewing}
 use Rattle.run_views.proofs.write_views.Goals as goal
 
 pub loop-i-init : goal.loop-i-init

@@ -2,7 +2,7 @@ use Prim.Native.Nat.{◌-◌}
 use Rattle.numbers.specs.Bytes.{numbers}
 use Rattle.plan.specs.File.{plan_of}
 use Rattle.run_views.specs.Flat.{view_in}
-use Rattle.run_views.proofs.JoinLaws.{Viewed, viewing}
+use Rattle.run_views.proofs.JoinLaws.{Viewed}
 use Rattle.run_views.proofs.write_views.Given as goal
 
 abbrev pub invariant-loop-i : goal.invariant-loop-i

@@ -1,4 +1,3 @@
-use Prim.Native.Nat.{◌-◌}
 use Rattle.seat_admission.proofs.CheckLaws.{each}
 use Rattle.seat_admission.proofs.check_each.Goals as goal
 

@@ -1,4 +1,3 @@
-use Prim.Native.Nat.{◌-◌}
 use Rattle.seat_learning.proofs.LearnLaws.{reading}
 use Rattle.seat_learning.proofs.first_numbers.Goals as goal
 

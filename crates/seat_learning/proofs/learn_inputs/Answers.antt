@@ -1,4 +1,3 @@
-use Prim.Native.Nat.{◌-◌}
 use Rattle.seat_learning.proofs.LearnLaws.{gathering}
 use Rattle.seat_learning.proofs.learn_inputs.Goals as goal
 

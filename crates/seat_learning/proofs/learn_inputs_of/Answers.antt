@@ -1,4 +1,3 @@
-use Prim.Native.Nat.{◌-◌}
 use Rattle.seat_learning.proofs.LearnLaws.{learning_own}
 use Rattle.seat_learning.proofs.learn_inputs_of.Goals as goal
 

@@ -1,4 +1,3 @@
-use Prim.Native.Nat.{◌-◌}
 use Rattle.seat_learning.proofs.LearnLaws.{Going_on}
 use Rattle.seat_learning.proofs.work_from.Goals as goal
 

@@ -1,4 +1,3 @@
-use Prim.Native.Nat.{◌-◌}
 use Rattle.seat_messages.proofs.PointLaws.{pointing}
 use Rattle.seat_messages.proofs.points_of.Goals as goal
 

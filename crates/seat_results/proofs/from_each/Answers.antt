@@ -1,4 +1,3 @@
-use Prim.Native.Nat.{◌-◌}
 use Rattle.seat_results.proofs.ResultLaws.{copying}
 use Rattle.seat_results.proofs.from_each.Goals as goal
 

@@ -1,4 +1,3 @@
-use Prim.Native.Nat.{◌-◌}
 use Rattle.seat_results.proofs.ResultLaws.{opening_all}
 use Rattle.seat_results.proofs.open_outs.Goals as goal
 

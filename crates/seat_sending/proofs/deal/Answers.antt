@@ -1,4 +1,3 @@
-use Prim.Native.Nat.{◌-◌}
 use Rattle.seat_sending.proofs.ProductLaws.{dealing_out}
 use Rattle.seat_sending.proofs.deal.Goals as goal
 

@@ -1,4 +1,3 @@
-use Prim.Native.Nat.{◌-◌}
 use Rattle.seat_sending.proofs.DealLaws.{beginning}
 use Rattle.seat_sending.proofs.polynomial.Goals as goal
 

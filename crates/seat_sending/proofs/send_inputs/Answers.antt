@@ -1,4 +1,3 @@
-use Prim.Native.Nat.{◌-◌}
 use native.Mathlib.Omega.{arith}
 use Rattle.seat_sending.proofs.InputLaws.{receiving}
 use Rattle.seat_sending.proofs.send_inputs.Goals as goal

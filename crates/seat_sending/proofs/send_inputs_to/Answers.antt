@@ -1,4 +1,3 @@
-use Prim.Native.Nat.{◌-◌}
 use Rattle.seat_sending.proofs.InputLaws.{inputting}
 use Rattle.seat_sending.proofs.send_inputs_to.Goals as goal
 

@@ -1,4 +1,3 @@
-use Prim.Native.Nat.{◌-◌}
 use native.Mathlib.Omega.{arith}
 use Rattle.seat_sending.proofs.OutLaws.{gathering}
 use Rattle.seat_sending.proofs.send_outs.Goals as goal

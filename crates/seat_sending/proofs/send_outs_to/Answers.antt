@@ -1,4 +1,3 @@
-use Prim.Native.Nat.{◌-◌}
 use Rattle.seat_sending.proofs.OutLaws.{outing}
 use Rattle.seat_sending.proofs.send_outs_to.Goals as goal
 

@@ -1,4 +1,3 @@
-use Prim.Native.Nat.{◌-◌}
 use Rattle.sharing.proofs.Coding.{dealing}
 use Rattle.sharing.proofs.deal.Goals as goal
 

@@ -1,4 +1,3 @@
-use Prim.Native.Nat.{◌-◌}
 use Rattle.sharing.proofs.Coding.{summing}
 use Rattle.sharing.proofs.dot_by.Goals as goal
 

@@ -1,4 +1,3 @@
-use Prim.Native.Nat.{◌-◌}
 use Rattle.sharing.proofs.Weighing.{weighing}
 use Rattle.sharing.proofs.weight.Goals as goal
 

@@ -1,4 +1,3 @@
-use Prim.Native.Nat.{◌-◌}
 use Rattle.sharing.proofs.Weighing.{weightings}
 use Rattle.sharing.proofs.weights.Goals as goal
 

@@ -1,4 +1,3 @@
-use Prim.Native.Nat.{◌-◌}
 use Rattle.sharing_delta.proofs.Factors.{clearing}
 use Rattle.sharing_delta.proofs.clear.Goals as goal
 

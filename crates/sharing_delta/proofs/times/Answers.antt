@@ -1,4 +1,3 @@
-use Prim.Native.Nat.{◌-◌}
 use Rattle.sharing_delta.proofs.Factors.{carrying}
 use Rattle.sharing_delta.proofs.times.Goals as goal
 

@@ -1,4 +1,3 @@
-use Prim.Native.Nat.{◌-◌}
 use Rattle.sharing_openings.proofs.Rows.{checking}
 use Rattle.sharing_openings.proofs.first_off_by.Goals as goal
 

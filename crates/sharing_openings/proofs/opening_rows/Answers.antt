@@ -1,4 +1,3 @@
-use Prim.Native.Nat.{◌-◌}
 use Rattle.sharing_openings.proofs.Rows.{writing}
 use Rattle.sharing_openings.proofs.opening_rows.Goals as goal
 

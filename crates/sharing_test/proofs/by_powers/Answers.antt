@@ -1,4 +1,3 @@
-use Rattle.std.proofs.Common.{◌-◌}
 use Rattle.sharing_test.proofs.Laws.{testing}
 use Rattle.sharing_test.proofs.by_powers.Goals as goal
 

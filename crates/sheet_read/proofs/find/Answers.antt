@@ -1,4 +1,3 @@
-use Prim.Native.Nat.{◌-◌}
 use Rattle.sheet_read.proofs.Names.{holding}
 use Rattle.sheet_read.proofs.find.Goals as goal
 

@@ -1,4 +1,3 @@
-use Prim.Native.Nat.{◌-◌}
 use Rattle.sheet_write.proofs.Passing.{listing}
 use Rattle.sheet_write.proofs.put_inputs.Goals as goal
 

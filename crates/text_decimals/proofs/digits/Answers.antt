@@ -1,4 +1,3 @@
-use Prim.Native.Nat.{◌-◌}
 use Rattle.text_decimals.proofs.Laws.{reading}
 use Rattle.text_decimals.proofs.digits.Goals as goal
 
