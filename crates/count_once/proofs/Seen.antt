@@ -45,6 +45,7 @@ split (x ∷ a) (y ∷ b) c d l e =
 
 rows_split : (f g : ℕ → List ℕ) (ws : List ℕ) → ((w : ℕ) → Memᴰ w ws → length (f w) ≡ length (g w)) → flat_map f ws ≡ flat_map g ws → (w : ℕ) → Memᴰ w ws → f w ≡ g w
 unfolding flat_map
+rows_split f g [] len e w x3 = elim x3 [ ]
 rows_split f g (v ∷ ws) len e w (Memᴰ.head s) = rw s (split (f v) (g v) (flat_map f ws) (flat_map g ws) (len v (Memᴰ.head refl)) e).0
 rows_split f g (v ∷ ws) len e w (Memᴰ.tail m) =
     rows_split f g ws (λ w m. len w (Memᴰ.tail m)) (split (f v) (g v) (flat_map f ws) (flat_map g ws) (len v (Memᴰ.head refl)) e).1 w m
@@ -56,10 +57,12 @@ rows_long f g (v ∷ ws) len =
     length-append (f v) (flat_map f ws) ∙ ap₂ ◌+◌ (len v (Memᴰ.head refl)) (rows_long f g ws (λ w m. len w (Memᴰ.tail m))) ∙ sym (length-append (g v) (flat_map g ws))
 
 map_at : (f g : ℕ → ℕ) (ws : List ℕ) → map f ws ≡ map g ws → (w : ℕ) → Memᴰ w ws → f w ≡ g w
+map_at f g [] e w x'' = elim x'' [ ]
 map_at f g (v ∷ ws) e w (Memᴰ.head s) = rw s (head-eq_of_cons-eq e)
 map_at f g (v ∷ ws) e w (Memᴰ.tail m) = map_at f g ws (tail-eq_of_cons-eq e) w m
 
 all_mem : (P : ℕ → Type 0) (ms : List ℕ) → All P ms → (i : ℕ) → Memᴰ i ms → P i
+all_mem P [] a i x'' = elim x'' [ ]
 all_mem P (j ∷ ms) a i (Memᴰ.head e) = rw e a.0
 all_mem P (j ∷ ms) a i (Memᴰ.tail m) = all_mem P ms a.1 i m
 
@@ -71,6 +74,7 @@ in-tab f (suc n) (suc k) l = Memᴰ.tail (in-tab (λ j. f (suc j)) n k (omega ar
 
 tab_below : (f : ℕ → ℕ) (n w : ℕ) → Memᴰ w (tab f n) → (k : ℕ) × (k < n) × (w ≡ f k)
 unfolding tab
+tab_below f zero w x' = elim x' [ ]
 tab_below f (suc n) w (Memᴰ.head e) = (0, omega arith, e)
 tab_below f (suc n) w (Memᴰ.tail m) = let r = tab_below (λ k. f (suc k)) n w m in (suc r.0, omega (arith, r.1), r.2)
 
