@@ -1,10 +1,10 @@
-# make run      prove, build and run the bench program on plan K of document 01
+# make run      prove, build and run the bench program on plan K
 # make pool     prove the library and build the pool command, target/pool
 # make test     everything: proofs, must-fail edits, programs, C and Rust tests; the last line counts
 # make seats    run plan K with a process for each seat, and print each seat's results
 # make install  the library, its header, pool, seat and their manual pages below PREFIX (and DESTDIR before it)
 # make speed    time the library against the Rust reference and against hand-written C in one process, as ratios (WORKS="bench count": these alone)
-.PHONY: run test seats speed library host pool install
+.PHONY: run bench test seats speed library host pool install
 
 VERSION = 1.0.0
 PREFIX = /usr/local
@@ -13,8 +13,7 @@ DESTDIR =
 LIBRARY = target/staticlib/libpool.a
 COMPILE = gcc -std=gnu11 -O2 -Wall -Wextra -Werror -Wvla -Iinclude -Icommand
 
-run:
-	@tools/in-memory tools/progress --log target/run.log rt check bench
+run: bench
 	@target/bin/bench <examples/K.bench
 
 test:
@@ -28,12 +27,18 @@ speed: library
 	@flint=$$(tests/speed/build) && cd tests/reference && POOL_LIB_DIR="$(CURDIR)/target/staticlib" POOL_LIMIT_DIR="$(CURDIR)/target/speed" \
 		POOL_FLINT="$$flint" CARGO_TARGET_DIR="$(CURDIR)/target/reference" cargo run --offline --release --quiet --bin speed -- $(WORKS)
 
+# the bench program; what builds it runs it too, here on no input
+bench:
+	@tools/in-memory tools/progress --log target/run.log --crate bench rt run </dev/null
+	@install -CD crates/bench/out/bench target/bin/bench
+
 # the static library
 library: $(LIBRARY)
 	@:
 
-$(LIBRARY): crates.txt $(shell find crates -name '*.rt' -o -name '*.antt')
-	@tools/in-memory tools/progress --log target/library.log rt staticlib pool
+$(LIBRARY): crates.txt $(shell find crates -name out -prune -o \( -name '*.rt' -o -name '*.antt' \) -print)
+	@tools/in-memory tools/progress --log target/library.log --crate pool rt lib
+	@install -D -m 644 crates/pool/out/libpool.a $@
 
 # the host program of one seat
 host: target/host/seat
