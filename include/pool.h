@@ -1,11 +1,11 @@
 /*
  * pool.h - the pooling seat, for a C host program.
  *
- * Several parties (document 01 calls them seats, and the plants behind them
- * plants) compute a plan together: each puts in figures of its own, and each
- * learns only the results that the plan grants it. This library is one
- * party's part in that. Every function here was proved to answer exactly what
- * documents 01 and 02 say, for every input, and to end.
+ * Several parties (seats, to the plants behind them) compute a plan together:
+ * each puts in figures of its own, and each learns only the results that the
+ * plan grants it. This library is one party's part in that. Every function here
+ * was proved to answer exactly what its contract (crates/pool) says, for every
+ * input, and to end.
  *
  * Link target/staticlib/libpool.a. The library keeps no state of its own, takes
  * no memory from the heap, calls no function of the C library but memcpy and

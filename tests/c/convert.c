@@ -52,7 +52,7 @@ static size_t codes(uint8_t *plan, unsigned a, unsigned b, unsigned c)
     return in_version(2, plan, first, (const unsigned[]){a, b, c});
 }
 
-/* K and the plan with site codes, byte by byte as document 02 has the layout. */
+/* K and the plan with site codes, byte by byte as the layout is. */
 static void worked(void)
 {
     static const uint8_t want_k[87] = {

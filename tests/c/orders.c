@@ -1,4 +1,4 @@
-/* Seats that don't wait for each other (document 02, R-12): random plans, their seats called in random orders, each as soon as all its mail for
+/* Seats that don't wait for each other: random plans, their seats called in random orders, each as soon as all its mail for
  * that call is there. Every order ends, and the seats then hold and have received what the bench run says, number for number. */
 #include <stdlib.h>
 

@@ -1,4 +1,4 @@
-/* Checks plans over the static library: plan K of document 01, its bounds, and what is refused. */
+/* Checks plans over the static library: plan K, its bounds, and what is refused. */
 #include "plans.h"
 
 /* A plan of so many input gates of party 1, with one out. */

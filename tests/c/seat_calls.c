@@ -6,7 +6,7 @@ enum { SEATS = 3, GATES = 4, CALLS = 4, LONGEST = BYTES(32) };
 static uint8_t plan[64];
 static size_t plan_len;
 
-/* P1's figures and coins, seat by seat: the coins of seat 1 are 2 (its input) and 1, of seat 2 are 3 and 5, of seat 3 is 7. */
+/* Plan K's figures and coins, seat by seat: the coins of seat 1 are 2 (its input) and 1, of seat 2 are 3 and 5, of seat 3 is 7. */
 static const unsigned figure_numbers[SEATS][1] = {{4}, {5}};
 static const unsigned coin_numbers[SEATS][2] = {{2, 1}, {3, 5}, {7}};
 static uint8_t figures[SEATS][BYTES(1)], coins[SEATS][BYTES(2)];
@@ -63,7 +63,7 @@ static void expect_mail(const char *what, unsigned seat, const unsigned *want, u
     expect_bytes(what, mail[seat - 1], bytes, BYTES(count));
 }
 
-/* The whole run: document 01's rounds for seat 3, and its result. */
+/* The whole run: the rounds for seat 3, and its result. */
 static void run(void)
 {
     uint8_t written[SEATS][LONGEST];

@@ -1,4 +1,4 @@
-/* Plans that only add, with t up to n - 1: source document 001's example, the largest sums, and that a multiply gate is refused there. */
+/* Plans that only add, with t up to n - 1: an example, the largest sums, and that a multiply gate is refused there. */
 #include <stdlib.h>
 
 #include "plans.h"

@@ -1,4 +1,4 @@
-//! The line charge to the cent (document 02, R-14).
+//! The line charge to the cent.
 
 use crate::plan::{require, Plan, Refusal};
 

@@ -1,4 +1,4 @@
-//! The converter to version 3 (document 02, R-6).
+//! The converter to version 3.
 
 use crate::plan::{require, Plan, Refusal};
 

@@ -1,4 +1,4 @@
-//! Counting the views (document 02, R-13).
+//! Counting the views.
 
 use crate::plan::{require, write, List, Plan, Refusal};
 use crate::run::seen;

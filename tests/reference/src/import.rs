@@ -1,4 +1,4 @@
-//! Circuits in Bristol Fashion, imported into plans (document 02, R-1).
+//! Circuits in Bristol Fashion, imported into plans.
 
 use crate::field::Field;
 use crate::plan::{file, plan_check, refuse, require, Gate, Out, Refusal};

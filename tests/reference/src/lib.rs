@@ -1,4 +1,4 @@
-//! The pooling seat, written a second time from documents 01 and 02 alone.
+//! The pooling seat, written a second time from the rules alone.
 //!
 //! A plan names `n` seats, a threshold `t` and a prime `p`, and a circuit of gates. Each seat works the gates on
 //! Shamir shares; a product is dealt anew by seats 1 to 2t+1 to bring its degree back to `t`, which needs 2t < n. A

@@ -2,7 +2,7 @@
 
 use crate::field::Field;
 
-/// A refusal of document 01, by its number, with its place.
+/// A refusal, by its number, with its place.
 #[derive(Clone, Copy, Debug, PartialEq, Eq)]
 pub struct Refusal {
     pub number: u8,

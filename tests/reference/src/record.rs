@@ -1,4 +1,4 @@
-//! The run record and its two readers (document 02, R-8).
+//! The run record and its two readers.
 
 use crate::plan::{bytes, long, require, List, Plan, Refusal};
 use crate::run::seen;

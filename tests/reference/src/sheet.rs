@@ -1,4 +1,4 @@
-//! Formula sheets compiled into plans (document 02, R-5) by two stacks: operators that wait, and wires.
+//! Formula sheets compiled into plans by two stacks: operators that wait, and wires.
 
 use crate::import::{made_file, plan_sizes};
 use crate::plan::{refuse, require, Gate, Out, Refusal};

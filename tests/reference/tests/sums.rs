@@ -1,4 +1,4 @@
-//! The sums that document 01 works by hand.
+//! Sums worked by hand.
 
 use reference::field::Field;
 use reference::matching::matching;

@@ -1,4 +1,4 @@
-//! Plans that only add, with a threshold of half the seats or more: the example of source document 001, and its ends.
+//! Plans that only add, with a threshold of half the seats or more: an example, and its ends.
 
 mod common;
 

@@ -1,6 +1,6 @@
 //! Writes a random case for the host program: `case SEED FOLDER` fills FOLDER with `plan`, `figures-I` and `coins-I` for each seat I,
 //! `results-I` with what the plan's own arithmetic grants it, and `bench-I` with the bench program's input for the set of seat I alone.
-//! `case K FOLDER` writes plan K of document 01 with the numbers of P1, `case long FOLDER` a plan of 15 seats, all of them dealers, with 120
+//! `case K FOLDER` writes plan K with its figures and coins, `case long FOLDER` a plan of 15 seats, all of them dealers, with 120
 //! multiplies in turn, `case wide FOLDER` one in which a seat's mail has many shares from one sender, `case late FOLDER` one with a seat that
 //! deals nothing, and `case large FOLDER` one of version 3 over the largest prime.
 
