@@ -58,7 +58,7 @@ module _ (bs : List ℕ) (h : Header) (pl : Planned bs h) (set : ℕ) (inputs gi
   coins_few : coin_count (plan_of bs) ≤ 14368
   unfolding setting_count
   coins_few =
-      few_coins (plan_of bs) (valid bs pl.passes) (plain bs pl.passes) (omega (arith, plan_n pl, pl.n-high)) (omega (arith, plan_gates pl, pl.gates-high)) set c.ranges
+      few_coins (plan_of bs) (valid bs pl.passes) (plain bs pl.passes) (omega (arith, plan_n pl, pl.n-high)) (omega (arith, plan_gates pl, pl.gates-high)) set c.fits
       (few_others (plan_of bs).p (other_coins (plan_of bs) set) (omega (arith, plan_p pl, pl.p_low, pl.n_low)) c.few)
 
   pub owners-room : (d : List ℕ) → length d ≡ 14368 → coin_count (plan_of bs) ≤ length d
@@ -76,7 +76,7 @@ module _ (bs : List ℕ) (h : Header) (pl : Planned bs h) (set : ℕ) (inputs gi
 
     pub all-lent : (v : ℕ) → (v ≡ view_count (plan_of bs) (members set)) × (v ≤ 524288) → take (coin_count (plan_of bs)) owners ≡ coin_owners (plan_of bs) → Lent (plan_of bs) set inputs given (take n owners) v
     all-lent v w e = record {
-      fits = c.ranges;
+      fits = c.fits;
       inputs_count = c.inputs_count;
       inputs_below = c.inputs_below;
       given_below = c.given_below;
@@ -112,7 +112,7 @@ module _ (bs : List ℕ) (h : Header) (pl : Planned bs h) (set : ℕ) (inputs gi
 
   seen-long : (s : ℕ) → length (seen s) ≡ v
   unfolding seen
-  seen-long s = view_long (plan_of bs) (valid bs pl.passes) (plain_no_7 (plan_of bs) (plain bs pl.passes)) set c.ranges xs cs s
+  seen-long s = view_long (plan_of bs) (valid bs pl.passes) (plain_no_7 (plan_of bs) (plain bs pl.passes)) set c.fits xs cs s
 
   unit-long : (s : ℕ) → length (unit (seen s)) ≡ v + 1
   unit-long s = length-append (seen s) (1 ∷ []) ∙ ap (λ (n : ℕ). n + 1) (seen-long s)
@@ -122,7 +122,7 @@ module _ (bs : List ℕ) (h : Header) (pl : Planned bs h) (set : ℕ) (inputs gi
   unit-below s =
       append_below (plan_of bs).p (seen s) (1 ∷ [])
       (view_below (plan_of bs) (valid bs pl.passes) (plain_no_7 (plan_of bs) (plain bs pl.passes)) xs (setting_coins (plan_of bs) set cs s) c.inputs_below
-      (setting_long (plan_of bs) set cs s) (setting_small (plan_of bs) set cs s some c.given_below) (members set) (members_within (plan_of bs) set c.ranges))
+      (setting_long (plan_of bs) set cs s) (setting_small (plan_of bs) set cs s some c.given_below) (members set) (members_within (plan_of bs) set c.fits))
       (rw (lt-ltb 1 (plan_of bs).p (omega (arith, plan_p pl, pl.p_low, pl.n_low))) refl)
 
   row_back : (s : ℕ) → numbers (row_bytes (plan_of bs) set xs cs s) ≡ unit (seen s)
@@ -167,7 +167,7 @@ module _ (bs : List ℕ) (h : Header) (pl : Planned bs h) (set : ℕ) (inputs gi
   counts-units (s ∷ ss) f = omega (arith, get_or_at s 1 [] 0 v f.0, counts-units ss f.1)
 
   all_long : AllLong v (views_of (plan_of bs) set xs cs)
-  all_long = views-long (plan_of bs) (valid bs pl.passes) (plain_no_7 (plan_of bs) (plain bs pl.passes)) set c.ranges xs cs
+  all_long = views-long (plan_of bs) (valid bs pl.passes) (plain_no_7 (plan_of bs) (plain bs pl.passes)) set c.fits xs cs
 
   views-count : length (views_of (plan_of bs) set xs cs) ≡ k
   unfolding views_of
@@ -180,7 +180,7 @@ module _ (bs : List ℕ) (h : Header) (pl : Planned bs h) (set : ℕ) (inputs gi
   unfolding row_width
   sorted-list new e =
       e ∙ ap (λ (t : List (List ℕ)). merges.listed (v + 1) k (merged v (sorted t))) table_filled
-      ∙ view-list (plan_of bs) (valid bs pl.passes) (plain_no_7 (plan_of bs) (plain bs pl.passes)) set c.ranges xs cs
+      ∙ view-list (plan_of bs) (valid bs pl.passes) (plain_no_7 (plan_of bs) (plain bs pl.passes)) set c.fits xs cs
 
   size-rows : count_size (plan_of bs) set ≡ width * (v + 1) * k
   unfolding count_size row_width

@@ -1,0 +1,41 @@
+use Rattle.pool_sizes.proofs.Sized.{sizing}
+use Rattle.pool_sizes.proofs.run_size.Goals as goal
+
+pub read-r-requires : goal.read-r-requires
+read-r-requires c = search sizing
+
+pub enum_known-r : goal.enum_known-r
+enum_known-r c = search sizing
+
+pub enum_told-1 : goal.enum_told-1
+enum_told-1 c = search sizing
+
+pub outcome-requires : goal.outcome-requires
+outcome-requires c = search sizing
+
+pub code-requires : goal.code-requires
+code-requires c = search sizing
+
+pub returns-in_default : goal.returns-in_default
+returns-in_default c = search sizing
+
+pub set_ok-requires : goal.set_ok-requires
+set_ok-requires c = search sizing
+
+pub code-requires-then-not-set_ok : goal.code-requires-then-not-set_ok
+code-requires-then-not-set_ok c = search sizing
+
+pub returns-then-not-set_ok : goal.returns-then-not-set_ok
+returns-then-not-set_ok c = search sizing
+
+pub run_count-requires : goal.run_count-requires
+run_count-requires c = search sizing
+
+pub overflow_mul-run_count : goal.overflow_mul-run_count
+overflow_mul-run_count c = search sizing
+
+pub value-requires : goal.value-requires
+value-requires c = search sizing
+
+pub returns : goal.returns
+returns c = search sizing
