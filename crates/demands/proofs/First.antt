@@ -1,5 +1,5 @@
 -- Demand 1: the answer is the first refusal in checking order, C reads it whole, and a refused call leaves every buffer as it was lent.
---     Numbers, first-of                         a list of checks by their numbers, in checking order
+--     Numbers, first_of                         a list of checks by their numbers, in checking order
 --     Bounded, told                             places below 2^32
 --     demand1                                   the claim
 -- Assumes nothing.

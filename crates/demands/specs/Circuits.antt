@@ -91,7 +91,7 @@ pub record CircuitSums : Type 0 where
   pub left_unset : answer_for 3 1 11 "1 3\n1 1\n1 1\n1 1 0 2 INV\n" 0 ≡ 23
   pub not_yet-set : answer_for 3 1 11 "2 3\n1 1\n1 1\n1 1 1 2 INV\n1 1 0 1 INV\n" 0 ≡ 23
   pub leading-zero : answer_for 3 1 11 "1 02\n1 1\n1 1\n1 1 0 1 INV\n" 0 ≡ 23
-  pub tab_no-blank : answer_for 3 1 11 "1 2\n1 1\n1 1\n1 1 0 1\t_inv\n" 0 ≡ 23
+  pub tab_no-blank : answer_for 3 1 11 "1 2\n1 1\n1 1\n1 1 0 1\tINV\n" 0 ≡ 23
   pub too_large : answer_for 3 1 11 "0 65536\n1 1\n1 1\n" 0 ≡ 23
   pub too_many_outs : answer_for 3 1 11 "0 65\n1 65\n1 65\n" 0 ≡ 24
   pub parties_of_257 : code_of (import_answer 257 0 11 example 99) ≡ 3

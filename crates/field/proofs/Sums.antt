@@ -98,7 +98,7 @@ module _ (p : ℕ) (small : p < field_limit) where
 pub ruleset summing = (rules, not-true, not-false, is_wide_lem, top-fits, kept-narrow, kept_under, kept-over, added-fits)
 
 -- ---- a quotient by the reciprocal
--- A-as-B = m·p + s, x = y·A + l and y·m = q·B + u: then q·p, times B, is less than x, times B, by u·p + y·s + l·B
+-- A·B = m·p + s, x = y·A + l and y·m = q·B + u: then q·p, times B, is less than x, times B, by u·p + y·s + l·B
 quotient_parts : (p m s A B x y l q u : ℕ) → m * p + s ≡ A * B → x ≡ y * A + l → y * m ≡ q * B + u → x * B ≡ q * p * B + u * p + y * s + l * B
 quotient_parts p m s A B x y l q u whole sum scaled =
     omega (arith, ap (λ (n : ℕ). n * B) sum, ap (λ (n : ℕ). y * n) whole, ap (λ (n : ℕ). n * p) scaled)
