@@ -50,6 +50,8 @@ not_first n m false rest e h = (λ q. true≢false (sym (eq-eqb m n q) ∙ e), h
 split_at : (k : ℕ) (ns : List ℕ) (cs : List Checked) → Numbers ns cs → (r : Refusal) → is_in (number_of r) (take k ns) ≡ false → first_of cs ≡ Refused r
     → (first_of (take k cs) ≡ Passed) × (first_of (drop k cs) ≡ Refused r)
 unfolding first_of and_then is_in
+split_at (suc k) [] (_ ∷ cs) h r none e = elim h [ ]
+split_at (suc k) (n ∷ ns) [] h r none e = elim h [ ]
 split_at zero ns cs h r none e = (refl, e)
 split_at (suc k) [] [] h r none e = clash r e
 split_at (suc k) (n ∷ ns) (Passed ∷ cs) (◌▹◌ c h) r none e =
