@@ -262,6 +262,7 @@ fn shares_by(
 }
 
 // The same, by the prime's range: `wide` is a constant in each call, as the count of coefficients is.
+#[inline(never)]
 fn shares(
     f: Field,
     t: usize,
