@@ -166,6 +166,7 @@ pub fn products(f: Field, n: usize, m: usize, a: usize, b: usize, table: &[u64])
 
 // Column j of a grid, row the dealer and column the receiver: the receiver's pieces of these polynomials, by the powers of its point, each
 // weighed and summed where it is dealt. `wide` says whether the prime is, and m is its reciprocal.
+#[inline(always)]
 fn column(
     f: Field,
     wide: bool,
@@ -202,6 +203,7 @@ fn column(
 }
 
 // The columns of all receivers, by their power rows of k powers each, and every column's sum.
+#[inline(always)]
 fn columns(
     f: Field,
     wide: bool,
@@ -236,6 +238,7 @@ fn columns(
 }
 
 // Every receiver's share: these polynomials are dealt into the grid, and each receiver's column is weighed and summed there.
+#[inline(always)]
 fn shares_by(
     f: Field,
     wide: bool,
