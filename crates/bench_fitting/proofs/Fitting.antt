@@ -4,8 +4,9 @@
 --     fitting                                   the claim
 --     whole                                     what the code writes
 -- Assumes nothing.
+use Rattle.std.proofs.Common.{Ok, Err}
 use Prim.Native.Nat.{ℕ, zero, suc, ◌+◌, ◌*◌, ◌/◌, ◌%◌, ◌<◌, ◌≤◌}
-use mathlib.Core.Path.{◌≡◌, refl, sym, ap, ◌∙◌}
+use mathlib.Core.Path.{◌≡◌, refl, sym, ap, subst, ◌∙◌}
 use mathlib.Core.Logic.{⊎_elim}
 use mathlib.Core.Bool.{Bool, true, false, cond}
 use mathlib.Core.List.{List, [], ◌∷◌, ◌++◌, map, flat_map}
@@ -13,7 +14,7 @@ use native.Mathlib.Nat.{mul-le-mul, mul-suc, mul-zero}
 use native.Mathlib.Omega.{arith}
 use borrow.Author.Rules.{rules}
 use borrow.Author.Tests.{lt-ltb}
-use lib.Dec.{eqb, ltb}
+use lib.Dec.{T, eqb, ltb}
 use lib.ListN.{length, get_or, take, length-append}
 use lib.Seq.{take_all}
 use Rattle.numbers.specs.Tables.{tab, count_where, total}
@@ -30,17 +31,18 @@ use Rattle.plan.specs.declared.Gate.{Gate}
 use Rattle.plan.specs.declared.Gate.TheVariants.{Input, Add, Scale, Offset, Multiply, Random, Spend}
 use Rattle.plan.specs.declared.Header.{Header}
 use Rattle.plan.specs.declared.Output.{Output}
-use Rattle.plan.specs.declared.Checked.{Checked}
-use Rattle.plan.specs.declared.Checked.TheVariants.{Passed, Refused}
+use Rattle.plan.specs.Refusals.{Checked}
 use Rattle.plan.specs.Refusals.{first_of, number_of, place_of}
-use Rattle.plan.specs.Plans.{Plan, party_count, dealer_count, kind_count, is_kind, is_input_of, input_owners, coin_owners_at, coin_owners, steps, step_at, last_call, received, input_count, own_input_count, coin_count, own_coin_count, own_out_count, own_inputs, own_coins, out_wires, out_wires_of, mail_count, sent_count}
-use Rattle.plan.specs.File.{between, plan_checks, plan_check, plan_of, header_of}
+use Rattle.plan.specs.Plans.{Plan, party_count, dealer_count, kind_count, is_kind, is_input_of, input_owners, dealings_at, coin_owners_at, coin_owners, steps, step_at, last_call, received, input_count, own_input_count, coin_count, own_coin_count, own_out_count, own_inputs, own_coins, out_wires, out_wires_of, mail_count, sent_count}
+use Rattle.plan.specs.File.{between, plan_checks, plan_check, plan_of, n_at, t_at, p_at, gate_count_at, out_count_at}
 use Rattle.plan.specs.Planned.{Planned}
 use Rattle.plan.proofs.Refusals.{first_of-append, passed_both}
-use Rattle.plan.proofs.Planned.{planned, plan_t, plan_n, plan_dealers, plan_gates, plan_outs}
+use Rattle.field.specs.Field.{Ready}
+use Rattle.field.proofs.Primes.{prime_sound}
+use Rattle.plan.proofs.Planned.{passing, modulus_prime, modulus_small, planned, plan_t, plan_n, plan_dealers, plan_gates, plan_outs}
 use Rattle.plan.proofs.Wires.{out_wires_few}
 use Rattle.plan.proofs.Valid.{Valid, valid, sized, plain, plain_no_7, planned_or}
-use Rattle.plan_counts.proofs.Counts.{coins_input, coins_multiply, coins_random, coins-add, coins-scale, coins_offset, coins-spend}
+use Rattle.plan_counts.proofs.Counts.{coins_input, coins_multiply, coins_random, coins_none}
 use Rattle.plan.proofs.Counts.{plain-steps, plain-own-inputs}
 use Rattle.plan_coalition.specs.Coalitions.{in_set, members, set_fits}
 use Rattle.plan_coalition.proofs.Coalitions.{set_ok_lem, member_in, all-members, member_party}
@@ -153,13 +155,14 @@ module _ (bs : List ℕ) (h : Header) (k : Planned bs h) (i : ℕ) where
   coins-by false r e = omega arith
 
   gate-coins : (x : Gate) → count_where (eqb i) (coin_owners_at (plan_of bs) x) ≤ h.t
+  unfolding dealings_at
   gate-coins (Input s) = coins-by (eqb i s) _ (coins_input bs h k i (Input s) s _ refl refl)
-  gate-coins (Add a b) = omega (arith, coins-add bs h k i (Add a b) a b refl)
-  gate-coins (Scale a c) = omega (arith, coins-scale bs h k i (Scale a c) a c refl)
-  gate-coins (Offset a c) = omega (arith, coins_offset bs h k i (Offset a c) a c refl)
+  gate-coins (Add a b) = omega (arith, coins_none (plan_of bs) i (Add a b) refl)
+  gate-coins (Scale a c) = omega (arith, coins_none (plan_of bs) i (Scale a c) refl)
+  gate-coins (Offset a c) = omega (arith, coins_none (plan_of bs) i (Offset a c) refl)
   gate-coins (Multiply a b) = coins-by (between 1 (h.t + h.t + 1) i) _ (coins_multiply bs h k i (Multiply a b) a b _ _ refl refl refl)
   gate-coins Random = coins-by (between 1 h.n i) _ (coins_random bs h k i Random _ _ refl refl refl)
-  gate-coins (Spend a b) = omega (arith, coins-spend bs h k i (Spend a b) a b refl)
+  gate-coins (Spend a b) = omega (arith, coins_none (plan_of bs) i (Spend a b) refl)
 
   gates-coins : (gs : List Gate) → count_where (eqb i) (flat_map (coin_owners_at (plan_of bs)) gs) ≤ h.t * length gs
   unfolding flat_map count_where
@@ -167,16 +170,31 @@ module _ (bs : List ℕ) (h : Header) (k : Planned bs h) (i : ℕ) where
   gates-coins (x ∷ gs) =
       omega (arith, gate-coins x, gates-coins gs, count_where-append (eqb i) (coin_owners_at (plan_of bs) x) (flat_map (coin_owners_at (plan_of bs)) gs), mul-suc h.t (length gs))
 
+-- ---- the contents of a plan that passes
+prime : (bytes : List ℕ) → plan_check bytes ≡ (Ok tt) → Ready (p_at bytes)
+prime bytes passes =
+    let m = (passing bytes passes).modulus in
+    record {
+      prime = prime_sound (p_at bytes) (subst T (sym (modulus_prime (n_at bytes) (p_at bytes) m)) tt);
+      small = omega (arith, modulus_small (n_at bytes) (p_at bytes) m);
+    }
+
+abbrev header : (bytes : List ℕ) → plan_check bytes ≡ (Ok tt) → Header
+header bytes passes = record { n = n_at bytes; t = t_at bytes; field = record { p = p_at bytes; ready = prime bytes passes }; gates = gate_count_at bytes; outs = out_count_at bytes }
+
+header_planned : (bytes : List ℕ) (passes : plan_check bytes ≡ (Ok tt)) → Planned bytes (header bytes passes)
+header_planned bytes passes = planned bytes (header bytes passes) passes (record { n = refl; t = refl; p = refl; gates = refl; outs = refl })
+
 -- ---- the lines of a run that passes
-module _ (bytes xs cs : List ℕ) (passes : plan_check bytes ≡ Passed) (inputs : Inputs (plan_of bytes) xs) (settings : Coins (plan_of bytes) cs) where
+module _ (bytes xs cs : List ℕ) (passes : plan_check bytes ≡ (Ok tt)) (inputs : Inputs (plan_of bytes) xs) (settings : Coins (plan_of bytes) cs) where
   abbrev plan : Plan
   plan = plan_of bytes
 
   abbrev h : Header
-  h = header_of bytes
+  h = header bytes passes
 
-  k : Planned bytes (header_of bytes)
-  k = planned bytes passes
+  k : Planned bytes h
+  k = header_planned bytes passes
 
   ok : Valid (plan_of bytes)
   ok = valid bytes passes
@@ -308,12 +326,12 @@ module _ (bytes xs cs : List ℕ) (passes : plan_check bytes ≡ Passed) (inputs
       (planned_or bytes h k)
 
 -- ---- the text
-module _ (bytes : List ℕ) (set : ℕ) (figures coins : List ℕ) (room : ℕ) (passed : bench_answer bytes set figures coins room ≡ Passed) where
-  both : (first_of (plan_checks bytes) ≡ Passed) × (first_of (run_checks (plan_of bytes) set figures coins room) ≡ Passed)
+module _ (bytes : List ℕ) (set : ℕ) (figures coins : List ℕ) (room : ℕ) (passed : bench_answer bytes set figures coins room ≡ (Ok tt)) where
+  both : (first_of (plan_checks bytes) ≡ (Ok tt)) × (first_of (run_checks (plan_of bytes) set figures coins room) ≡ (Ok tt))
   unfolding bench_answer
   both = passed_both _ _ (sym (first_of-append (plan_checks bytes) (run_checks (plan_of bytes) set figures coins room)) ∙ passed)
 
-  plan-passes : plan_check bytes ≡ Passed
+  plan-passes : plan_check bytes ≡ (Ok tt)
   unfolding plan_check
   plan-passes = both.0
 
@@ -325,12 +343,12 @@ module _ (bytes : List ℕ) (set : ℕ) (figures coins : List ℕ) (room : ℕ) 
       run_lines_lem bytes (numbers figures) (numbers coins) plan-passes
       (record { count = omega (arith, numbers-length figures, given.inputs_count); small = given.inputs_below })
       (record { count = omega (arith, numbers-length coins, given.coins_count); small = given.coins_below }) set
-      (passed-set bytes set figures coins room _ refl both.1 (header_of bytes) (planned bytes plan-passes))
+      (passed-set bytes set figures coins room _ refl both.1 (header bytes plan-passes) (header_planned bytes plan-passes))
 
-answer_lines_lem : (c : Checked) (plan : Plan) (set : ℕ) (xs cs : List ℕ) → (c ≡ Passed → length (run_lines plan set xs cs) ≤ 3000000) → length (answer_lines c plan set xs cs) ≤ 3000000
+answer_lines_lem : (c : Checked) (plan : Plan) (set : ℕ) (xs cs : List ℕ) → (c ≡ (Ok tt) → length (run_lines plan set xs cs) ≤ 3000000) → length (answer_lines c plan set xs cs) ≤ 3000000
 unfolding answer_lines refused_word
-answer_lines_lem Passed plan set xs cs h = h refl
-answer_lines_lem (Refused r) plan set xs cs h = omega (arith, line_most refused_word (number_of r ∷ place_of r ∷ []))
+answer_lines_lem (Ok tt) plan set xs cs h = h refl
+answer_lines_lem (Err r) plan set xs cs h = omega (arith, line_most refused_word (number_of r ∷ place_of r ∷ []))
 
 pub fitting : Fitting
 unfolding report bench_of refused_word

@@ -6,6 +6,7 @@ ghost use Rattle.bench_lines.specs.Report.{report};
 ghost use Rattle.bench_fitting.specs.Fitting.{longest, Whole};
 
 // Writes the bench program's text for an input and answers how many bytes it has.
+#[tactic(auto, using(crate::proofs::Fitting::fitted))]
 pub fn text(input: &[u8], out: &mut [u8]) -> usize
     requires { longest ≤ length out.old }
     ensures { Whole (report input.now) out.new result }

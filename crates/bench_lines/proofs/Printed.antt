@@ -18,7 +18,7 @@ use native.Mathlib.Omega.{arith}
 use borrow.Author.Rules.{rules}
 use borrow.Author.Tests.{not-true, not-false, leb-true, leb-false}
 use mir.Syntax.{w16}
-use mir.Val.{Fits}
+use mir.Val.{Fits, bool_byte}
 use lib.Dec.{eqb, leb}
 use lib.ListN.{length, take, drop, get_or, length-append, drop_of_length-le}
 use lib.Seq.{drop-drop, take-suc, drop-cons}
@@ -224,13 +224,17 @@ module _ (f : ℕ → List ℕ) (set : ℕ) where
 pub ruleset calling = (rules, calling_all, calling-next, calling-end)
 
 -- ---- outs
-one_out : (i : ℕ) (x : Output) → length (out_wires_of i (x ∷ [])) ≡ cond (eqb i x.party) 1 0
+one_out : (i : ℕ) (x : Output) → length (out_wires_of i (x ∷ [])) ≡ bool_byte (eqb i x.party)
 unfolding out_wires_of
 one_out i x = pick (eqb i x.party)
   where
-    pick : (t : Bool) → length (cond t (x.wire ∷ []) []) ≡ cond t 1 0
+    pick : (t : Bool) → length (cond t (x.wire ∷ []) []) ≡ bool_byte t
     pick true = refl
     pick false = refl
+
+at_most_one : (t : Bool) → bool_byte t ≤ 1
+at_most_one true = omega arith
+at_most_one false = omega arith
 
 -- the loop over the outs before out o: of the first k, `count` are party i's
 pub record Before (bs : List ℕ) (i o count k : ℕ) : Type 0 where
@@ -249,11 +253,11 @@ module _ {bs : List ℕ} {h : Header} (p : Planned bs h) where
   outs-drop : (k : ℕ) → k < h.outs → drop k (plan_of bs).outs ≡ out_at bs k ∷ drop (suc k) (plan_of bs).outs
   outs-drop k l = drop-cons (plan_of bs).outs k (record { party = 0; wire = 0 }) (rw (plan_outs p) l) ∙ ap (λ (x : Output). x ∷ drop (suc k) (plan_of bs).outs) (plan_out p k l)
 
-  pub before_next : (i o count k : ℕ) → Before bs i o count k → o ≤ h.outs → k < o → (out : Output) (one : ℕ) → out ≡ out_at bs k → one ≡ cond (eqb i out.party) 1 0 → one ≤ 1 → Before bs i o (count + one) (k + 1)
-  before_next i o count k s m l out one eo e1 small =
+  pub before_next : (i o count k : ℕ) → Before bs i o count k → o ≤ h.outs → k < o → (out : Output) (one : ℕ) → out ≡ out_at bs k → one ≡ bool_byte (eqb i out.party) → Before bs i o (count + one) (k + 1)
+  before_next i o count k s m l out one eo e1 =
       record {
         within = omega arith;
-        le = omega (arith, s.le);
+        le = omega (arith, s.le, e1, at_most_one (eqb i out.party));
         is =
             sym
             (ap (λ (n : ℕ). length (out_wires_of i (take n (plan_of bs).outs))) (add-one k)
@@ -344,11 +348,11 @@ pub ruleset outing_all_outs = (rules, outing_all, outing-next, outing-end)
 
 -- ---- the lines of a run
 pub run_lines_lem :
-    (plan : Plan) (set : ℕ) (vs : List ℕ) (a b c r : ℕ) (old s t u new : List ℕ)
-    → Put (plan_line plan) 0 old s a → Put (flat_map (member_part plan set vs) (members set)) a s t b → Put (out_lines_in plan set vs 0 [] plan.outs) b t u c
-    → Put (line sent_word (sent_count plan ∷ [])) c u new r → Put (run_lines_in plan set vs) 0 old new r
+    (plan : Plan) (set : ℕ) (vs : List ℕ) (at a b c r : ℕ) (old s t u new : List ℕ)
+    → Put (plan_line plan) at old s a → Put (flat_map (member_part plan set vs) (members set)) a s t b → Put (out_lines_in plan set vs 0 [] plan.outs) b t u c
+    → Put (line sent_word (sent_count plan ∷ [])) c u new r → Put (run_lines_in plan set vs) at old new r
 unfolding run_lines_in
-run_lines_lem plan set vs a b c r old s t u new k l m n =
-    put_then (plan_line plan) _ 0 a r old s new k (put_then (flat_map (member_part plan set vs) (members set)) _ a b r s t new l (put_then (out_lines_in plan set vs 0 [] plan.outs) _ b c r t u new m n))
+run_lines_lem plan set vs at a b c r old s t u new k l m n =
+    put_then (plan_line plan) _ at a r old s new k (put_then (flat_map (member_part plan set vs) (members set)) _ a b r s t new l (put_then (out_lines_in plan set vs 0 [] plan.outs) _ b c r t u new m n))
 
 pub ruleset all_lines = (rules, run_lines_lem)

@@ -1,11 +1,10 @@
--- The bench program's text (document 01, "The bench program reads standard input").
-use Rattle.std.specs.Prelude.{ℕ, suc, ◌+◌, ◌*◌, ◌%◌, Bool, cond, ◌||◌, not, eqb, ltb, length, take, drop, get_or}
+-- The bench program's text.
+use Rattle.std.specs.Prelude.{Ok, Err, ℕ, suc, ◌+◌, ◌*◌, ◌%◌, Bool, cond, ◌||◌, not, eqb, ltb, length, take, drop, get_or}
 use mathlib.Core.List.{List, [], ◌∷◌, ◌++◌, flat_map}
 use Rattle.numbers.specs.Tables.{tab}
 use Rattle.numbers.specs.Bytes.{word_at, width, numbers_of, numbers, bytes_of}
 use Rattle.plan.specs.declared.Output.{Output}
-use Rattle.plan.specs.declared.Checked.{Checked}
-use Rattle.plan.specs.declared.Checked.TheVariants.{Passed, Refused}
+use Rattle.plan.specs.Refusals.{Checked}
 use Rattle.plan.specs.Refusals.{number_of, place_of}
 use Rattle.plan.specs.Plans.{Plan, party_count, last_call, input_count, own_inputs, own_coins, out_wires_of, sent_count}
 use Rattle.plan.specs.File.{plan_of}
@@ -67,8 +66,8 @@ run_lines plan set xs coins =
 
 -- the text of a bench run, or of its refusal
 unfoldable pub answer_lines : Checked → Plan → ℕ → List ℕ → List ℕ → List ℕ
-answer_lines Passed plan set xs coins = run_lines plan set xs coins
-answer_lines (Refused r) plan set xs coins = line refused_word (number_of r ∷ place_of r ∷ [])
+answer_lines (Ok tt) plan set xs coins = run_lines plan set xs coins
+answer_lines (Err r) plan set xs coins = line refused_word (number_of r ∷ place_of r ∷ [])
 
 -- the plan's length, the plan, the set, and the bytes after it
 unfoldable pub plan_part : List ℕ → List ℕ
@@ -80,7 +79,7 @@ set_part bs = word_at bs (2 + word_at bs 0)
 unfoldable pub list_part : List ℕ → List ℕ
 list_part bs = drop (4 + word_at bs 0) bs
 
--- the bytes of a number after the set: four where the plan's byte 4 is 3, else two (document 02, R-6)
+-- the bytes of a number after the set: four where the plan's byte 4 is 3, else two
 unfoldable pub input_width : List ℕ → ℕ
 input_width plan = cond (eqb (get_or plan 4 0) 3) 4 2
 

@@ -5,6 +5,7 @@
 --     widening, lending        the numbers after the set, as a list that is lent
 --     unreading, reporting     an input's parts
 -- Assumes nothing.
+use Rattle.std.proofs.Common.{Result, Ok, Err}
 use mathlib.Core.Path.{◌≡◌, refl, sym, ap, ◌∙◌}
 use mathlib.Core.Bool.{Bool, true, false, cond, ◌||◌, not}
 use mathlib.Core.List.{List, [], ◌∷◌, Memᴰ}
@@ -24,24 +25,19 @@ use Rattle.numbers.proofs.Tables.{length-tab}
 use Rattle.numbers.proofs.Bytes.{word_number, numbers-length, get_or-numbers, length-bytes_of}
 use Rattle.numbers.proofs.Fills.{Stored, store-none, store-next, stored-part}
 use Rattle.plan.specs.declared.Header.{Header}
-use Rattle.plan.specs.declared.Reading.{Reading}
-use Rattle.plan.specs.declared.Reading.TheVariants as reading
-use Rattle.plan.specs.declared.Checked.{Checked}
-use Rattle.plan.specs.declared.Checked.TheVariants.{Passed, Refused}
+use Rattle.plan.specs.Refusals.{Checked}
 use Rattle.plan.specs.declared.Refusal.{Refusal}
 use Rattle.plan.specs.declared.Refusal.TheVariants as refusal
 use Rattle.plan.specs.Refusals.{first_of, number_of, place_of}
 use Rattle.plan.specs.Plans.{Plan, party_count, kind_count, input_count, coin_count, sent_count}
 use Rattle.plan.specs.File.{plan_of, plan_check, plan_checks}
-use Rattle.plan.specs.Planned.{Planned, ReadAs}
+use Rattle.plan.specs.Planned.{Planned}
 use Rattle.plan_coalition.specs.Coalitions.{members, set_fits}
 use Rattle.plan.proofs.Refusals.{and_then_passed, and_then_refused, first_of-append}
-use Rattle.plan.proofs.Planned.{planned_read, refused_read, plan_p, plan_n}
+use Rattle.plan.proofs.Planned.{plan_p, plan_n}
 use Rattle.plan.proofs.Valid.{valid, plain, plain_no_7}
 use Rattle.plan_coalition.proofs.Coalitions.{member_party}
 use Rattle.seat_messages.specs.Calls.{unless_refused}
-use Rattle.run_bench.specs.declared.Benched.{Benched}
-use Rattle.run_bench.specs.declared.Benched.TheVariants as benched
 use Rattle.run_protocol.specs.Rounds.{view, view_count}
 use Rattle.run_dealings.specs.Rows.{Given}
 use Rattle.run_bench.specs.BenchCalls.{run_checks, bench_answer, benched_of, view_after}
@@ -55,21 +51,21 @@ use Rattle.bench_text.proofs.Appending.{put_as}
 use Rattle.bench_lines.proofs.Viewed.{run-flat, view-back}
 
 -- ---- what the bench answers
-answer_sent : (c : Checked) (sent k : ℕ) → benched.Sent k ≡ benched_of c sent → c ≡ Passed
+answer_sent : (c : Checked) (sent k : ℕ) → Ok k ≡ benched_of c sent → c ≡ (Ok tt)
 unfolding benched_of
-answer_sent Passed sent k e = refl
-answer_sent (Refused r) sent k e = let z : ◌≡◌ {A = ℕ} 0 1 = cc in absurd (omega arith)
+answer_sent (Ok tt) sent k e = refl
+answer_sent (Err r) sent k e = let z : ◌≡◌ {A = ℕ} 0 1 = cc in absurd (omega arith)
 
-answer_refused : (c : Checked) (sent : ℕ) (r : Refusal) → benched.Refused r ≡ benched_of c sent → c ≡ Refused r
+answer_refused : (c : Checked) (sent : ℕ) (r : Refusal) → Err r ≡ benched_of c sent → c ≡ Err r
 unfolding benched_of
-answer_refused Passed sent r e = let z : ◌≡◌ {A = ℕ} 0 1 = cc in absurd (omega arith)
-answer_refused (Refused q) sent r e = cc
+answer_refused (Ok tt) sent r e = let z : ◌≡◌ {A = ℕ} 0 1 = cc in absurd (omega arith)
+answer_refused (Err q) sent r e = cc
 
-refused_lines : (c : Checked) (r : Refusal) (plan : Plan) (set : ℕ) (xs cs : List ℕ) → c ≡ Refused r → line refused_word (number_of r ∷ place_of r ∷ []) ≡ answer_lines c plan set xs cs
+refused_lines : (c : Checked) (r : Refusal) (plan : Plan) (set : ℕ) (xs cs : List ℕ) → c ≡ Err r → line refused_word (number_of r ∷ place_of r ∷ []) ≡ answer_lines c plan set xs cs
 unfolding answer_lines
 refused_lines c r plan set xs cs e = rw e
 
-passed_lines : (c : Checked) (plan : Plan) (set : ℕ) (xs cs : List ℕ) → c ≡ Passed → run_lines plan set xs cs ≡ answer_lines c plan set xs cs
+passed_lines : (c : Checked) (plan : Plan) (set : ℕ) (xs cs : List ℕ) → c ≡ (Ok tt) → run_lines plan set xs cs ≡ answer_lines c plan set xs cs
 unfolding answer_lines
 passed_lines c plan set xs cs e = rw e
 
@@ -99,26 +95,26 @@ module _ (bs : List ℕ) (h : Header) (set : ℕ) (figures coins : List ℕ) (p 
         (view-back plan (valid bs p.passes) none (numbers figures) (numbers coins) full set upto (rw (plan_p p) (omega (arith, p.p-high))) given.inputs_below given.coins_below)
         ∙ run-flat plan (valid bs p.passes) none (numbers figures) (numbers coins) full set upto (rw (plan_n p) (omega (arith, p.n-high)))
 
-  lines_passed : (room : ℕ) → bench_answer bs set figures coins room ≡ Passed → run_lines_in plan set (numbers (bytes_of seen)) ≡ run_lines plan set (numbers figures) (numbers coins)
+  lines_passed : (room : ℕ) → bench_answer bs set figures coins room ≡ (Ok tt) → run_lines_in plan set (numbers (bytes_of seen)) ≡ run_lines plan set (numbers figures) (numbers coins)
   lines_passed room e =
-      let c : first_of (run_checks plan set figures coins room) ≡ Passed = sym (past_plan bs h set figures coins room p) ∙ e in
+      let c : first_of (run_checks plan set figures coins room) ≡ (Ok tt) = sym (past_plan bs h set figures coins room p) ∙ e in
       given-lines (passed-given bs set figures coins room _ refl c) (passed-set bs set figures coins room _ refl c h p)
 
-  module _ (old : List ℕ) (room : length old ≡ width * view_count plan (members set)) (b : Benched)
+  module _ (old : List ℕ) (room : length old ≡ width * view_count plan (members set)) (b : Result ℕ Refusal)
       (eb : b ≡ benched_of (bench_answer bs set figures coins (length old)) (sent_count plan)) where
-    pub bench-refused-lines : (r : Refusal) (at e : ℕ) (t u : List ℕ) → b ≡ benched.Refused r → Put (line refused_word (number_of r ∷ place_of r ∷ [])) at t u e → Put (answered bs set figures coins) at t u e
+    pub bench-refused-lines : (r : Refusal) (at e : ℕ) (t u : List ℕ) → b ≡ Err r → Put (line refused_word (number_of r ∷ place_of r ∷ [])) at t u e → Put (answered bs set figures coins) at t u e
     unfolding answered
     bench-refused-lines r at e t u f w =
-        let c : bench_answer bs set figures coins (width * view_count plan (members set)) ≡ Refused r =
+        let c : bench_answer bs set figures coins (width * view_count plan (members set)) ≡ Err r =
         ap (bench_answer bs set figures coins) (sym room) ∙ answer_refused _ (sent_count plan) r (sym f ∙ eb) in
         put_as _ _ at e t u (refused_lines _ r plan set (numbers figures) (numbers coins) c) w
 
-    pub bench-run-lines : (k at e : ℕ) (t u new : List ℕ) → b ≡ benched.Sent k → new ≡ view_after bs set figures coins old → Put (run_lines_in plan set (numbers new)) at t u e → Put (answered bs set figures coins) at t u e
+    pub bench-run-lines : (k at e : ℕ) (t u new : List ℕ) → b ≡ Ok k → new ≡ view_after bs set figures coins old → Put (run_lines_in plan set (numbers new)) at t u e → Put (answered bs set figures coins) at t u e
     unfolding answered view_after unless_refused
     bench-run-lines k at e t u new f en w =
-        let c : bench_answer bs set figures coins (length old) ≡ Passed = answer_sent _ (sent_count plan) k (sym f ∙ eb) in
+        let c : bench_answer bs set figures coins (length old) ≡ (Ok tt) = answer_sent _ (sent_count plan) k (sym f ∙ eb) in
         let q : new ≡ bytes_of seen = en ∙ rw c in
-        let d : bench_answer bs set figures coins (width * view_count plan (members set)) ≡ Passed = ap (bench_answer bs set figures coins) (sym room) ∙ c in
+        let d : bench_answer bs set figures coins (width * view_count plan (members set)) ≡ (Ok tt) = ap (bench_answer bs set figures coins) (sym room) ∙ c in
         put_as _ _ at e t u (ap (λ (l : List ℕ). run_lines_in plan set (numbers l)) q ∙ lines_passed (length old) c ∙ passed_lines _ plan set (numbers figures) (numbers coins) d) w
 
 pub ruleset benching_lines = (rules, bench-refused-lines, bench-run-lines)
@@ -158,18 +154,18 @@ pub ruleset splitting = (rules, front_long, view_long, view_sized, split_lines)
 
 -- ---- the plan's refusal
 pub plan_refused_lines :
-    (bs : List ℕ) (set : ℕ) (list : List ℕ) (x : Reading) (r : Refusal) (at e : ℕ) (t u : List ℕ) → ReadAs bs x → x ≡ reading.Refused r
+    (bs : List ℕ) (set : ℕ) (list : List ℕ) (r : Refusal) (at e : ℕ) (t u : List ℕ) → plan_check bs ≡ Err r
     → Put (line refused_word (number_of r ∷ place_of r ∷ [])) at t u e → Put (listed bs set list) at t u e
 unfolding listed answered bench_answer plan_check
-plan_refused_lines bs set list x r at e t u a f w =
+plan_refused_lines bs set list r at e t u f w =
     let figures : List ℕ = take (width * input_count (plan_of bs)) list in
     let coins : List ℕ = drop (width * input_count (plan_of bs)) list in
     let checks : List Checked = run_checks (plan_of bs) set figures coins (width * view_count (plan_of bs) (members set)) in
-    let c : bench_answer bs set figures coins (width * view_count (plan_of bs) (members set)) ≡ Refused r =
-    first_of-append (plan_checks bs) checks ∙ and_then_refused (plan_check bs) _ r (refused_read bs x r a f) in
+    let c : bench_answer bs set figures coins (width * view_count (plan_of bs) (members set)) ≡ Err r =
+    first_of-append (plan_checks bs) checks ∙ and_then_refused (plan_check bs) _ r f in
     put_as _ _ at e t u (refused_lines _ r (plan_of bs) set (numbers figures) (numbers coins) c) w
 
-pub ruleset reading_plan = (rules, planned_read, plan_refused_lines)
+pub ruleset reading_plan = (rules, plan_refused_lines)
 
 -- ---- the numbers after the set
 pub width_four : (plan : List ℕ) (b : ℕ) → b ≡ get_or plan 4 0 → b ≡ 3 → 4 ≡ input_width plan
@@ -309,19 +305,19 @@ magic-report : (bs : List ℕ) (b : Bool) → b ≡ unreadable bs → b ≡ true
 unfolding report number_of place_of
 magic-report bs b e f = rw (← e, f)
 
-reported : (xs ys : List ℕ) (r : ℕ) (old new : List ℕ) → Put xs 0 old new r → xs ≡ ys → Reported ys old new r
-reported xs ys r old new h e =
-    let t : take r new ≡ take (length old) ys = h.text ∙ ap (take (length old)) e in
+pub reported : (xs : List ℕ) (r : ℕ) (old new : List ℕ) → Put xs 0 old new r → Reported xs old new r
+reported xs r old new h =
+    let t : take r new ≡ take (length old) xs = h.text in
     let room : r ≤ length new = omega (arith, h.room, h.long) in
     record { room = room; text = t; count = sym (length-take-le r new room) ∙ ap length t }
 
-module _ (bs : List ℕ) (b : Bool) (eb : b ≡ unreadable bs) (r : ℕ) (old new : List ℕ) where
-  pub unread : b ≡ true → Put (line refused_word (number_of refusal.Magic ∷ place_of refusal.Magic ∷ [])) 0 old new r → Reported (report bs) old new r
-  unread f h = reported _ (report bs) r old new h (magic-report bs b eb f)
+module _ (bs : List ℕ) (b : Bool) (eb : b ≡ unreadable bs) (at r : ℕ) (old new : List ℕ) where
+  pub unread : b ≡ true → Put (line refused_word (number_of refusal.Magic ∷ place_of refusal.Magic ∷ [])) at old new r → Put (report bs) at old new r
+  unread f h = put_as _ (report bs) at r old new (magic-report bs b eb f) h
 
   pub parsed : b ≡ false → (w : ℕ) → w ≡ word_at bs 0 → (set : ℕ) → set ≡ word_at bs (2 + w)
-      → Put (listed (take (2 + w - 2) (drop 2 bs)) set (lent (take (2 + w - 2) (drop 2 bs)) (take (length bs - (2 + w + 2)) (drop (2 + w + 2) bs)))) 0 old new r
-      → Reported (report bs) old new r
-  parsed f w ew set es h = reported _ (report bs) r old new h (parts-report bs b eb f w ew set es)
+      → Put (listed (take (2 + w - 2) (drop 2 bs)) set (lent (take (2 + w - 2) (drop 2 bs)) (take (length bs - (2 + w + 2)) (drop (2 + w + 2) bs)))) at old new r
+      → Put (report bs) at old new r
+  parsed f w ew set es h = put_as _ (report bs) at r old new (parts-report bs b eb f w ew set es) h
 
-pub ruleset reporting = (rules, parts_long, parts_few, plan_end, unread, parsed)
+pub ruleset reporting = (rules, parts_long, parts_few, plan_end, unread, parsed, reported)

@@ -1,4 +1,4 @@
--- The program's text for document 01's plan K, P1's numbers and set 4, by computation; and for the same bytes with version 3, of which two are left over
+-- The program's text for plan K, P1's numbers and set 4, by computation; and for the same bytes with version 3, of which two are left over
 -- after three numbers of four bytes.
 use mathlib.Core.Path.{◌≡◌, refl}
 use mathlib.Core.List.{List, [], ◌∷◌, flat_map}

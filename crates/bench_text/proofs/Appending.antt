@@ -6,17 +6,21 @@
 use mathlib.Core.Path.{◌≡◌, refl, sym, ap, ◌∙◌}
 use mathlib.Core.Bool.{Bool, true, false}
 use mathlib.Core.List.{List, [], ◌∷◌, ◌++◌, append_assoc, append-nil, flat_map}
-use Prim.Native.Nat.{ℕ, zero, suc, ◌+◌, ◌-◌, ◌/◌, ◌%◌, ◌^◌, ◌<◌, ◌≤◌}
+use mathlib.Core.Logic.{⊎_elim}
+use Rattle.std.proofs.lemmas.Bool.{cases_lt}
+use Prim.Native.Nat.{min, ℕ, zero, suc, ◌+◌, ◌-◌, ◌/◌, ◌%◌, ◌^◌, ◌<◌, ◌≤◌}
 use native.Mathlib.Numerals.{add-one}
-use native.Mathlib.Nat.{pow-suc, add-zero, sub-zero}
+use native.Mathlib.Nat.{pow-suc, min-le_left, min-le_right, min-eq_left, min-eq_right}
 use native.Mathlib.Omega.{arith}
 use borrow.Author.Rules.{rules}
 use borrow.Author.Tests.{lt-ltb, le-ltb, ltb-false}
+use borrow.Rule.Slice.PartMut.{put_mid, same_len_mid}
+use Rattle.std.proofs.lemmas.Slice.{take-put_mid}
 use mir.Syntax.{w8, w64}
 use mir.Val.{Fits}
 use lib.Dec.{ltb}
-use lib.ListN.{length, take, drop, set, get_or, length-append, length-set, drop_of_length-le}
-use lib.Seq.{take_all, take-append-le, take-suc-set, length-take-le, drop-cons, take-nil}
+use lib.ListN.{length, take, drop, set, get_or, length-append, length-set, length-drop, drop_of_length-le}
+use lib.Seq.{take_all, take-append-le, take-append-add, take-suc-set, length-take-le, drop-cons, take-nil}
 use Rattle.numbers.specs.Bytes.{width, numbers}
 use Rattle.numbers.proofs.Bytes.{numbers-length}
 use Rattle.bench_text.specs.Decimals.{digits, decimal, field, line}
@@ -90,17 +94,29 @@ module _ (whole : List ℕ) (at : ℕ) (old new : List ℕ) (next : ℕ) (left :
         text = sym (take_all (length old) (take next new) (omega (arith, h.room))) ∙ rw (e, append-nil) at h.text;
       }
 
--- ---- a word
-pub word_all : (word : List ℕ) (at : ℕ) (old : List ℕ) → at ≤ length old → Left word at old old at (drop 0 word)
-word_all word at old h = left_all word at old word refl h
+-- ---- a word, of which as much is copied as there is room for
+copied-part : (word : List ℕ) (n m : ℕ) → n ≡ min (length word) m → take n word ≡ take m word
+copied-part word n m e =
+    ⊎_elim
+    (λ l. let f : n ≡ length word = e ∙ min-eq_left (omega arith) in rw f (take_all (length word) word (omega arith) ∙ sym (take_all m word (omega arith))))
+    (λ l. let f : n ≡ m = e ∙ min-eq_right l in rw f)
+    (cases_lt (length word) m)
 
-module _ (word : List ℕ) (at : ℕ) (old new : List ℕ) (next k : ℕ) (h : Left word at old new next (drop k word)) where
-  pub word_next : (b : ℕ) (new' : List ℕ) (next' : ℕ) → k < length word → Put (get_or word k 0 ∷ []) next new new' next' → Left word at old new' next' (drop (k + 1) word)
-  word_next b new' next' l w =
-      left_then word at old new next (drop k word) h (get_or word k 0 ∷ []) (drop (k + 1) word) new' next' (rw (add-one k, drop-cons word k 0 l)) w
-
-  pub word_end : length word ≤ k → Put word at old new next
-  word_end l = left_end word at old new next (drop k word) h (drop_of_length-le word l)
+pub put_copied : (word : List ℕ) (at n : ℕ) (old ys : List ℕ) → at ≤ length old → n ≡ min (length word) (length old - at) → ys ≡ take n word
+    → Put word at old (put_mid at (at + n - at) old ys) (at + n)
+put_copied word at n old ys h e f =
+    let few : n ≤ length word = omega (arith, e, min-le_left (length word) (length old - at)) in
+    let fits : n ≤ length old - at = omega (arith, e, min-le_right (length word) (length old - at)) in
+    let long : length ys ≡ n = ap length f ∙ length-take-le n word few in
+    let front : length (take at old) ≡ at = length-take-le at old h in
+    let rest : length (take at old) + (length old - at) ≡ length old = omega arith in
+    record {
+      long = same_len_mid at (at + n - at) old ys (omega (arith, length-take-le (at + n - at) (drop at old) (omega (arith, length-drop at old))));
+      room = omega arith;
+      text =
+          take-put_mid at (at + n - at) old ys (at + n) (omega arith) h ∙ ap (λ (l : List ℕ). take at old ++ l) (f ∙ copied-part word n (length old - at) e)
+          ∙ sym (take-append-add (take at old) word (length old - at)) ∙ ap (λ (k : ℕ). take k (take at old ++ word)) rest;
+    }
 
 -- ---- a number
 digits_step : (k x : ℕ) (b : Bool) → ltb x 10 ≡ b → (b ≡ false → digits k (x / 10) ≡ digits (suc k) (x / 10)) → digits (suc k) x ≡ digits (suc (suc k)) x
@@ -149,54 +165,60 @@ unfolding field
 put-blank x at m r old mid new a b = put_then (32 ∷ []) (decimal x) at m r old mid new a b
 
 -- ---- numbers of a list
--- the fields of so many numbers from one place on, but for the first k of them
+-- the fields of so many numbers from one place on, but for those before place i
 unfoldable pub fields_from : List ℕ → ℕ → ℕ → ℕ → List ℕ
-fields_from xs from count k = flat_map field (take (count - k) (drop (from + k) xs))
+fields_from xs from count i = flat_map field (take (from + count - i) (drop i xs))
 
 module _ (xs : List ℕ) (from count at : ℕ) (old : List ℕ) where
   abbrev Fields : List ℕ → ℕ → ℕ → Type 0
-  Fields new next k = Left (flat_map field (take count (drop from xs))) at old new next (fields_from xs from count k)
+  Fields new next i = Left (flat_map field (take count (drop from xs))) at old new next (fields_from xs from count i)
 
-  pub fields_all : at ≤ length old → Fields old at 0
+  pub fields_all : at ≤ length old → Fields old at from
   unfolding fields_from
-  fields_all h = left_all (flat_map field (take count (drop from xs))) at old (fields_from xs from count 0) (rw (sub-zero count, add-zero from)) h
+  fields_all h = let e : from + count - from ≡ count = omega arith in left_all (flat_map field (take count (drop from xs))) at old (fields_from xs from count from) (rw e) h
 
-  fields-cons : (k : ℕ) → k < count → from + k < length xs → fields_from xs from count k ≡ field (get_or xs (from + k) 0) ++ fields_from xs from count (k + 1)
+  fields-cons : (i : ℕ) → i < from + count → i < length xs → fields_from xs from count i ≡ field (get_or xs i 0) ++ fields_from xs from count (i + 1)
   unfolding fields_from flat_map
-  fields-cons k l m =
-      let e : count - k ≡ suc (count - (k + 1)) = omega arith in
-      let f : from + (k + 1) ≡ suc (from + k) = omega arith in
-      rw (e, f, drop-cons xs (from + k) 0 m)
+  fields-cons i l m =
+      let e : from + count - i ≡ suc (from + count - (i + 1)) = omega arith in
+      rw (e, drop-cons xs i 0 m, add-one i)
 
-  module _ (new : List ℕ) (next k : ℕ) (h : Fields new next k) where
-    fields-next : (v : ℕ) (new' : List ℕ) (next' : ℕ) → k < count → from + k < length xs → v ≡ get_or xs (from + k) 0 → Put (field v) next new new' next' → Fields new' next' (k + 1)
+  module _ (new : List ℕ) (next i : ℕ) (h : Fields new next i) where
+    fields-next : (v : ℕ) (new' : List ℕ) (next' : ℕ) → i < from + count → i < length xs → v ≡ get_or xs i 0 → Put (field v) next new new' next' → Fields new' next' (i + 1)
     fields-next v new' next' l m e w =
-        left_then (flat_map field (take count (drop from xs))) at old new next (fields_from xs from count k) h (field v) (fields_from xs from count (k + 1)) new' next'
-        (rw e (fields-cons k l m)) w
+        left_then (flat_map field (take count (drop from xs))) at old new next (fields_from xs from count i) h (field v) (fields_from xs from count (i + 1)) new' next'
+        (rw e (fields-cons i l m)) w
 
-    pub fields-end : count ≤ k → Put (flat_map field (take count (drop from xs))) at old new next
+    fields-end : from + count ≤ i → Put (flat_map field (take count (drop from xs))) at old new next
     unfolding fields_from flat_map
     fields-end l =
-        let e : count - k ≡ 0 = omega arith in
-        left_end (flat_map field (take count (drop from xs))) at old new next (fields_from xs from count k) h (rw e)
+        let e : from + count - i ≡ 0 = omega arith in
+        left_end (flat_map field (take count (drop from xs))) at old new next (fields_from xs from count i) h (rw e)
 
-    pub fields-past : length xs ≤ from + k → Put (flat_map field (take count (drop from xs))) at old new next
+    fields-past : length xs ≤ i → Put (flat_map field (take count (drop from xs))) at old new next
     unfolding fields_from flat_map
     fields-past l =
-        left_end (flat_map field (take count (drop from xs))) at old new next (fields_from xs from count k) h
-        (rw (drop_of_length-le xs {i = from + k} l, take-nil (count - k)))
+        left_end (flat_map field (take count (drop from xs))) at old new next (fields_from xs from count i) h
+        (rw (drop_of_length-le xs {i = i} l, take-nil (from + count - i)))
 
--- the numbers of a list that is lent as bytes
-pub fields_on :
-    (bs : List ℕ) (from count at : ℕ) (old new : List ℕ) (next k v : ℕ) (new' : List ℕ) (next' : ℕ)
-    → Left (flat_map field (take count (drop from (numbers bs)))) at old new next (fields_from (numbers bs) from count k)
-    → Put (field v) next new new' next' → v ≡ get_or (numbers bs) (from + k) 0 → k < count → from + k < length bs / width
-    → Left (flat_map field (take count (drop from (numbers bs)))) at old new' next' (fields_from (numbers bs) from count (k + 1))
-fields_on bs from count at old new next k v new' next' h w e l m =
-    fields-next (numbers bs) from count at old new next k h v new' next' l (omega (arith, numbers-length bs)) e w
+-- the numbers of a list that is lent as bytes: all of those that stand there
+module _ (bs : List ℕ) (from count at : ℕ) (old new : List ℕ) (next i end : ℕ) (h : Left (flat_map field (take count (drop from (numbers bs)))) at old new next (fields_from (numbers bs) from count i))
+    (e : end ≡ min (length bs / width) (from + count)) where
+  pub fields_on : (v : ℕ) (new' : List ℕ) (next' : ℕ) → Put (field v) next new new' next' → v ≡ get_or (numbers bs) i 0 → i < end
+      → Left (flat_map field (take count (drop from (numbers bs)))) at old new' next' (fields_from (numbers bs) from count (i + 1))
+  fields_on v new' next' w f l =
+      fields-next (numbers bs) from count at old new next i h v new' next' (omega (arith, min-le_right (length bs / width) (from + count)))
+      (omega (arith, numbers-length bs, min-le_left (length bs / width) (from + count))) f w
 
-pub numbers_end : (bs : List ℕ) (i : ℕ) → length bs / width ≤ i → length (numbers bs) ≤ i
-numbers_end bs i l = omega (arith, numbers-length bs)
+  pub fields_end : end ≤ i → Put (flat_map field (take count (drop from (numbers bs)))) at old new next
+  fields_end l =
+      ⊎_elim
+      (λ m. fields-past (numbers bs) from count at old new next i h (omega (arith, numbers-length bs, e ∙ min-eq_left (omega arith))))
+      (λ m. fields-end (numbers bs) from count at old new next i h (omega (arith, e ∙ min-eq_right m)))
+      (cases_lt (length bs / width) (from + count))
+
+pub field_room : (bs : List ℕ) (n i end : ℕ) → end ≡ min (length bs / width) n → i < end → i < length bs / width
+field_room bs n i end e l = omega (arith, e, min-le_left (length bs / width) n)
 
 -- ---- numbers that are lent as they are
 module _ (xs : List ℕ) (at : ℕ) (old : List ℕ) where
@@ -236,13 +258,13 @@ list-line word xs x at a b c r old s t u new k l m n =
 
 pub ruleset appending = (rules, put_full, put_one, put_then)
 
-pub ruleset wording = (rules, word_all, word_next, word_end)
+pub ruleset wording = (rules, put_copied)
 
 pub ruleset digiting = (rules, digit_fits, last_digit_fits, last_digit_fits_wide, shorter, put_digit, put-digits)
 
 pub ruleset blanking = (rules, put-blank)
 
-pub ruleset fielding = (rules, fields_all, fields_on, fields-end, fields-past, numbers_end)
+pub ruleset fielding = (rules, fields_all, fields_on, fields_end, field_room)
 
 pub ruleset eaching = (rules, each_all, each_next, each-end)
 

@@ -1,119 +1,120 @@
-// Text is appended to what stands in a lent buffer, as far as there is room. Each function answers how many bytes stand afterwards.
+// Text is appended to what stands in a lent buffer, as far as there is room.
 #![tactic(auto)]
 
 ghost use mathlib.Core.List.{[], ◌∷◌, flat_map};
-ghost use Rattle.std.specs.Prelude.{◌≤◌, length, take, drop};
+ghost use Rattle.std.specs.Prelude.{◌≡◌, ◌≤◌, length, take, drop};
 ghost use Rattle.numbers.specs.Bytes.{numbers};
 ghost use Rattle.bench_text.specs.Decimals.{decimal, field, line};
 ghost use Rattle.bench_text.specs.Texts.{Put};
 
-// One byte.
-fn put(text: &mut [u8], at: usize, b: u8) -> usize
-    requires { at ≤ length text.old }
-    ensures { Put (b ∷ []) at text.old text.new result }
-{
-    if text.len() <= at {
-        return at;
-    }
-    text[at] = b;
-    at + 1
+// A lent buffer, of which the first `written` bytes stand.
+#[derive(Drop)]
+pub struct Text<'a> {
+    pub room: &'a mut [u8],
+    pub written: usize,
+    pub ghost inside: { written ≤ length room.now },
 }
 
-// The bytes of a word.
-fn put_word(text: &mut [u8], at: usize, word: &[u8]) -> usize
-    requires { at ≤ length text.old }
-    ensures { Put word.now at text.old text.new result }
-{
-    let mut next = at;
-    let mut k: usize = 0;
-    while k < word.len() {
-        next = put(text, next, word[k]);
-        k += 1;
-    }
-    next
-}
-
-// A number in decimal.
-fn put_decimal(text: &mut [u8], at: usize, x: u64) -> usize
-    requires { at ≤ length text.old }
-    ensures { Put (decimal x) at text.old text.new result }
-{
-    if x < 10 {
-        return put(text, at, (48 + x) as u8);
-    }
-    let next = put_decimal(text, at, x / 10);
-    put(text, next, (48 + x % 10) as u8)
-}
-
-// A blank, then a number.
-fn put_field(text: &mut [u8], at: usize, x: u64) -> usize
-    requires { at ≤ length text.old }
-    ensures { Put (field x) at text.old text.new result }
-{
-    let next = put(text, at, b' ');
-    put_decimal(text, next, x)
-}
-
-// So many numbers of a list, from one place on.
-fn put_fields(text: &mut [u8], at: usize, list: &[u8], from: usize, count: usize) -> usize
-    requires at_in_bounds { at ≤ length text.old }
-    requires from_bound { from ≤ 2000000 }
-    requires count_bound { count ≤ 1000000 }
-    ensures { Put (flat_map field (take count (drop from (numbers list.now)))) at text.old text.new result }
-{
-    let mut next = at;
-    let mut k: usize = 0;
-    while k < count {
-        if list.len() / numbers::WIDTH <= from + k {
-            return next;
+impl Text<'_> {
+    // One byte.
+    #[tactic(auto, using(crate::proofs::Appending::appending))]
+    fn put(&mut self, b: u8)
+        ensures same { self.new.room.ghost_name ≡ self.old.room.ghost_name }
+        ensures put { Put (b ∷ []) self.old.written self.old.room.now self.new.room.now self.new.written }
+    {
+        if self.written < self.room.len() {
+            self.room[self.written] = b;
+            self.written += 1;
         }
-        next = put_field(text, next, numbers::read(list, from + k));
-        k += 1;
     }
-    next
-}
 
-// Numbers, each after a blank.
-fn put_each(text: &mut [u8], at: usize, xs: &[u64]) -> usize
-    requires { at ≤ length text.old }
-    ensures { Put (flat_map field xs.now) at text.old text.new result }
-{
-    let mut next = at;
-    let mut k: usize = 0;
-    while k < xs.len() {
-        next = put_field(text, next, xs[k]);
-        k += 1;
+    // The bytes of a word.
+    #[tactic(auto, using(crate::proofs::Appending::wording))]
+    fn put_word(&mut self, word: &[u8])
+        ensures same { self.new.room.ghost_name ≡ self.old.room.ghost_name }
+        ensures put { Put word.now self.old.written self.old.room.now self.new.room.now self.new.written }
+    {
+        let n = word.len().min(self.room.len() - self.written);
+        self.room[self.written..self.written + n].copy_from_slice(&word[..n]);
+        self.written += n;
     }
-    next
-}
 
-// A line of a word and numbers.
-pub fn put_line(text: &mut [u8], at: usize, word: &[u8], xs: &[u64]) -> usize
-    requires { at ≤ length text.old }
-    ensures { Put (line word.now xs.now) at text.old text.new result }
-{
-    let a = put_word(text, at, word);
-    let b = put_each(text, a, xs);
-    put(text, b, b'\n')
-}
+    // A number in decimal.
+    #[tactic(auto, using(crate::proofs::Appending::digiting))]
+    fn put_decimal(&mut self, x: u64)
+        ensures same { self.new.room.ghost_name ≡ self.old.room.ghost_name }
+        ensures put { Put (decimal x) self.old.written self.old.room.now self.new.room.now self.new.written }
+    {
+        if 10 <= x {
+            self.put_decimal(x / 10);
+        }
+        self.put(b'0' + (x % 10) as u8);
+    }
 
-// A line of a word, a number and so many numbers of a list, from one place on.
-pub fn put_list_line(
-    text: &mut [u8],
-    at: usize,
-    word: &[u8],
-    first: u64,
-    list: &[u8],
-    from: usize,
-    count: usize,
-) -> usize
-    requires at_in_bounds { at ≤ length text.old }
-    requires from_bound { from ≤ 2000000 }
-    requires count_bound { count ≤ 1000000 }
-    ensures { Put (line word.now (first ∷ take count (drop from (numbers list.now)))) at text.old text.new result }
-{
-    let a = put_word(text, at, word);
-    let b = put_field(text, a, first);
-    let c = put_fields(text, b, list, from, count);
-    put(text, c, b'\n')
+    // A blank, then a number.
+    #[tactic(auto, using(crate::proofs::Appending::blanking))]
+    fn put_field(&mut self, x: u64)
+        ensures same { self.new.room.ghost_name ≡ self.old.room.ghost_name }
+        ensures put { Put (field x) self.old.written self.old.room.now self.new.room.now self.new.written }
+    {
+        self.put(b' ');
+        self.put_decimal(x);
+    }
+
+    // So many numbers of a list, from one place on.
+    #[tactic(auto, using(crate::proofs::Appending::fielding))]
+    fn put_fields(&mut self, list: &[u8], from: usize, count: usize)
+        requires from_bound { from ≤ 2000000 }
+        requires count_bound { count ≤ 1000000 }
+        ensures same { self.new.room.ghost_name ≡ self.old.room.ghost_name }
+        ensures put { Put (flat_map field (take count (drop from (numbers list.now)))) self.old.written self.old.room.now self.new.room.now self.new.written }
+    {
+        for i in from..(list.len() / numbers::WIDTH).min(from + count) {
+            self.put_field(numbers::number(list, i));
+        }
+    }
+
+    // Numbers, each after a blank.
+    #[tactic(auto, using(crate::proofs::Appending::eaching))]
+    fn put_each(&mut self, xs: &[u64])
+        ensures same { self.new.room.ghost_name ≡ self.old.room.ghost_name }
+        ensures put { Put (flat_map field xs.now) self.old.written self.old.room.now self.new.room.now self.new.written }
+    {
+        for x in xs {
+            self.put_field(*x);
+        }
+    }
+
+    // A line feed.
+    fn end_line(&mut self)
+        ensures same { self.new.room.ghost_name ≡ self.old.room.ghost_name }
+        ensures put { Put (10 ∷ []) self.old.written self.old.room.now self.new.room.now self.new.written }
+    {
+        self.put(b'\n');
+    }
+
+    // A line of a word and numbers.
+    #[tactic(auto, using(crate::proofs::Appending::lining))]
+    pub fn put_line(&mut self, word: &[u8], xs: &[u64])
+        ensures same { self.new.room.ghost_name ≡ self.old.room.ghost_name }
+        ensures put { Put (line word.now xs.now) self.old.written self.old.room.now self.new.room.now self.new.written }
+    {
+        self.put_word(word);
+        self.put_each(xs);
+        self.end_line();
+    }
+
+    // A line of a word, a number and so many numbers of a list, from one place on.
+    #[tactic(auto, using(crate::proofs::Appending::lining))]
+    pub fn put_list_line(&mut self, word: &[u8], first: u64, list: &[u8], from: usize, count: usize)
+        requires from_bound { from ≤ 2000000 }
+        requires count_bound { count ≤ 1000000 }
+        ensures same { self.new.room.ghost_name ≡ self.old.room.ghost_name }
+        ensures put { Put (line word.now (first ∷ take count (drop from (numbers list.now)))) self.old.written self.old.room.now self.new.room.now self.new.written }
+    {
+        self.put_word(word);
+        self.put_field(first);
+        self.put_fields(list, from, count);
+        self.end_line();
+    }
 }

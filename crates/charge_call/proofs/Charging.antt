@@ -2,9 +2,10 @@
 --     listing                what closes the needs of the functions that count and write
 --     charging               what closes those of the call
 -- Assumes nothing.
+use Rattle.std.proofs.Common.{Result, Ok, Err}
 use mathlib.Core.Path.{◌≡◌, refl, sym, ap, ap₂, ◌∙◌}
 use mathlib.Core.Bool.{Bool, true, false, cond}
-use mathlib.Core.List.{List, [], ◌∷◌}
+use mathlib.Core.List.{List}
 use Prim.Native.Nat.{ℕ, suc, ◌+◌, ◌*◌, ◌/◌, ◌<◌, ◌≤◌}
 use native.Mathlib.Nat.{mul-le-mul, mul-add, mul-zero, mul_comm}
 use native.Mathlib.Numerals.{add-one}
@@ -20,18 +21,15 @@ use Rattle.numbers.specs.Tables.{tab, total}
 use Rattle.numbers.specs.Bytes.{width, bytes_of}
 use Rattle.numbers.proofs.Fills.{fill_none, fill_next}
 use Rattle.plan.specs.declared.Header.{Header}
-use Rattle.plan.specs.declared.Reading.{Reading}
-use Rattle.plan.specs.declared.Reading.TheVariants as reading
 use Rattle.plan.specs.declared.Refusal.{Refusal}
 use Rattle.plan.specs.declared.Refusal.TheVariants as refusal
-use Rattle.plan.specs.declared.Checked.{Checked}
-use Rattle.plan.specs.declared.Checked.TheVariants.{Passed, Refused}
+use Rattle.plan.specs.Refusals.{Checked}
 use Rattle.plan.specs.Refusals.{and_then, first_of, need}
-use Rattle.plan.specs.Plans.{Plan, party_count, kind_count, per_multiply, sent_count}
-use Rattle.plan.specs.File.{plan_checks, plan_check, plan_of, outcome_of}
-use Rattle.plan.specs.Planned.{Planned, ReadAs}
+use Rattle.plan.specs.Plans.{party_count, kind_count, per_multiply, sent_count}
+use Rattle.plan.specs.File.{plan_checks, plan_check, plan_of}
+use Rattle.plan.specs.Planned.{Planned}
 use Rattle.plan.proofs.Refusals.{first_of-append, and_then_passed, and_then_refused}
-use Rattle.plan.proofs.Planned.{planned_read, refused_read, plan_n, plan_dealers, plan_outs}
+use Rattle.plan.proofs.Planned.{plan_n, plan_dealers, plan_outs}
 use Rattle.plan.proofs.Valid.{valid, plain}
 use Rattle.plan_counts.specs.declared.Tally.{Tally}
 use Rattle.plan_counts.specs.Counts.{Tallied}
@@ -39,8 +37,6 @@ use Rattle.seat_messages.specs.Calls.{unless_refused}
 use Rattle.charge_laws.specs.Charges.{elements_by, elements, bill_for, bill_of, charge_of, parts_of}
 use Rattle.charge_laws.proofs.Elements.{elements-tab, elements-long, plain-elements, elements-sent}
 use Rattle.charge_laws.proofs.Parts.{bill_fits, parts_long}
-use Rattle.charge_call.specs.declared.Charged.{Charged}
-use Rattle.charge_call.specs.declared.Charged.TheVariants as charged
 use Rattle.charge_call.specs.ChargeCalls.{price_checks, charge_answer, charged_of, charge_after}
 
 -- ---- what a party sends
@@ -100,10 +96,10 @@ module _ (bs : List ℕ) (h : Header) (p : Planned bs h) where
     pub listed-long : length d ≡ h.n
     listed-long = f.long
 
-    pub listed : length d ≤ i → d ≡ elements (plan_of bs)
+    pub listed : h.n ≤ i → d ≡ elements (plan_of bs)
     listed l =
-        let e : i ≡ party_count (plan_of bs) = omega (arith, f.long, f.within, plan_n p) in
-        sym (take_all i d l) ∙ f.front ∙ ap (tab (λ k. elements_by (plan_of bs) (suc k))) e ∙ sym (elements-tab (plan_of bs))
+        let e : i ≡ party_count (plan_of bs) = omega (arith, f.within, plan_n p) in
+        sym (take_all i d (omega (arith, f.long))) ∙ f.front ∙ ap (tab (λ k. elements_by (plan_of bs) (suc k))) e ∙ sym (elements-tab (plan_of bs))
 
   -- ---- the whole
   module _ (es : List ℕ) (ee : es ≡ elements (plan_of bs)) (sent : ℕ) (is : sent ≡ sent_count (plan_of bs)) where
@@ -167,60 +163,44 @@ module _ (sent price : ℕ) (s : sent ≤ 231360) (q : price ≤ 1000000) where
 pub ruleset listing = (rules, dealt-some, dealt-none, dealings-fit, dealt-fits, element-fits, element-is, listed-none, listed_next, listed-long, listed, sent-sum, parts-room, sent-some, bill-is, bytes-room, bytes_are, room_part, cents_fit, cents_up_fit, cents_are, cents_below)
 
 -- ---- the call
-pub charged_passed : (c : Checked) (bill : ℕ) → c ≡ Passed → charged.Bill bill ≡ charged_of c bill
-unfolding charged_of
-charged_passed c bill e = rw e
-
-pub charged_refused : (c : Checked) (bill : ℕ) (r : Refusal) → c ≡ Refused r → charged.Refused r ≡ charged_of c bill
-unfolding charged_of
-charged_refused c bill r e = rw e
-
--- a refusal is the same for any bill
-same_refusal : (c d : Checked) (r : Refusal) (m n : ℕ) → c ≡ Refused r → d ≡ Refused r → charged_of c m ≡ charged_of d n
-unfolding charged_of
-same_refusal c d r m n e f = rw (e, f)
-
-kept : (c : Checked) (r : Refusal) (new old : List ℕ) → c ≡ Refused r → old ≡ unless_refused c new old
+kept : (c : Checked) (r : Refusal) (new old : List ℕ) → c ≡ Err r → old ≡ unless_refused c new old
 unfolding unless_refused
 kept c r new old e = rw e
 
-outcome_refused : (r : Reading) (q : Refusal) (c : Checked) → c ≡ outcome_of r → r ≡ reading.Refused q → c ≡ Refused q
-unfolding outcome_of
-outcome_refused r q c e f = rw f at e
+refused-is : (c : Checked) (r : Refusal) (bill : ℕ) → c ≡ Err r → Err r ≡ charged_of c bill
+unfolding charged_of
+refused-is c r bill e = rw e
 
 module _ (bs : List ℕ) (price : ℕ) (out : List ℕ) where
   answer_parts : charge_answer bs price (length out) ≡ and_then (plan_check bs) (first_of (price_checks bs price (length out)))
   unfolding charge_answer plan_check
   answer_parts = first_of-append (plan_checks bs) (price_checks bs price (length out))
 
-  module _ (r : Reading) (q : Refusal) (a : ReadAs bs r) (e : r ≡ reading.Refused q) where
-    turned : charge_answer bs price (length out) ≡ Refused q
-    turned = answer_parts ∙ and_then_refused (plan_check bs) _ q (refused_read bs r q a e)
+  module _ (q : Refusal) (e : plan_check bs ≡ Err q) where
+    turned : charge_answer bs price (length out) ≡ Err q
+    turned = answer_parts ∙ and_then_refused (plan_check bs) _ q e
 
-    pub charge-no-plan : (c : Checked) (b : Charged) → c ≡ outcome_of r → b ≡ charged_of c 0 → b ≡ charged_of (charge_answer bs price (length out)) (bill_of (plan_of bs) price)
-    charge-no-plan c b ec eb = eb ∙ same_refusal c (charge_answer bs price (length out)) q 0 (bill_of (plan_of bs) price) (outcome_refused r q c ec e) turned
+    pub charge-no-plan : (b : Result ℕ Refusal) → b ≡ Err q → b ≡ charged_of (charge_answer bs price (length out)) (bill_of (plan_of bs) price)
+    charge-no-plan b eb = eb ∙ refused-is (charge_answer bs price (length out)) q (bill_of (plan_of bs) price) turned
 
     pub kept-no-plan : out ≡ charge_after bs price out
     unfolding charge_after
     kept-no-plan = kept (charge_answer bs price (length out)) q _ out turned
 
-  module _ (r : Reading) (h : Header) (a : ReadAs bs r) (e : r ≡ reading.Passed h) where
-    pub charge-planned : Planned bs h
-    charge-planned = planned_read bs r h a e
-
+  module _ (h : Header) (planned : Planned bs h) where
     pub room_fits : Fits w64 (width * h.n)
-    room_fits = record { fits = omega (arith, charge-planned.n-high) }
+    room_fits = record { fits = omega (arith, planned.n-high) }
 
     past_plan : charge_answer bs price (length out) ≡ first_of (price_checks bs price (length out))
-    past_plan = answer_parts ∙ and_then_passed (plan_check bs) _ charge-planned.passes
+    past_plan = answer_parts ∙ and_then_passed (plan_check bs) _ planned.passes
 
     module _ (l : 1000000 < price) where
-      dear : charge_answer bs price (length out) ≡ Refused refusal.Price
+      dear : charge_answer bs price (length out) ≡ Err refusal.Price
       unfolding price_checks first_of and_then need
       dear = past_plan ∙ rw (lt-leb price 1000000 l)
 
-      pub charge-dear : charged.Refused refusal.Price ≡ charged_of (charge_answer bs price (length out)) (bill_of (plan_of bs) price)
-      charge-dear = charged_refused (charge_answer bs price (length out)) (bill_of (plan_of bs) price) refusal.Price dear
+      pub charge-dear : Err refusal.Price ≡ charged_of (charge_answer bs price (length out)) (bill_of (plan_of bs) price)
+      charge-dear = refused-is (charge_answer bs price (length out)) refusal.Price (bill_of (plan_of bs) price) dear
 
       pub kept-dear : out ≡ charge_after bs price out
       unfolding charge_after
@@ -229,30 +209,30 @@ module _ (bs : List ℕ) (price : ℕ) (out : List ℕ) where
     module _ (l : price ≤ 1000000) where
       past-price : charge_answer bs price (length out) ≡ need refusal.BufferLength (eqb (length out) (width * h.n))
       unfolding price_checks first_of and_then need
-      past-price = past_plan ∙ rw (le-leb price 1000000 l, plan_n charge-planned) (by (eqb (length out) (width * h.n)))
+      past-price = past_plan ∙ rw (le-leb price 1000000 l, plan_n planned) (by (eqb (length out) (width * h.n)))
         where
-          by : (t : Bool) → and_then (cond t Passed (Refused refusal.BufferLength)) Passed ≡ cond t Passed (Refused refusal.BufferLength)
+          by : (t : Bool) → and_then (cond t (Ok tt) (Err refusal.BufferLength)) (Ok tt) ≡ cond t (Ok tt) (Err refusal.BufferLength)
           by true = refl
           by false = refl
 
       module _ (ne : length out ≡ width * h.n → ⊥) where
-        short : charge_answer bs price (length out) ≡ Refused refusal.BufferLength
+        short : charge_answer bs price (length out) ≡ Err refusal.BufferLength
         unfolding need
         short = past-price ∙ rw (ne_eqb (length out) (width * h.n) ne)
 
-        pub charge-short : charged.Refused refusal.BufferLength ≡ charged_of (charge_answer bs price (length out)) (bill_of (plan_of bs) price)
-        charge-short = charged_refused (charge_answer bs price (length out)) (bill_of (plan_of bs) price) refusal.BufferLength short
+        pub charge-short : Err refusal.BufferLength ≡ charged_of (charge_answer bs price (length out)) (bill_of (plan_of bs) price)
+        charge-short = refused-is (charge_answer bs price (length out)) refusal.BufferLength (bill_of (plan_of bs) price) short
 
         pub kept-short : out ≡ charge_after bs price out
         unfolding charge_after
         kept-short = kept (charge_answer bs price (length out)) refusal.BufferLength _ out short
 
       module _ (eq : length out ≡ width * h.n) where
-        passed : charge_answer bs price (length out) ≡ Passed
+        passed : charge_answer bs price (length out) ≡ (Ok tt)
         unfolding need
         passed = past-price ∙ rw (eq-eqb (length out) (width * h.n) eq)
 
-        pub charge-billed : (bill : ℕ) → bill ≡ bill_of (plan_of bs) price → charged.Bill bill ≡ charged_of (charge_answer bs price (length out)) (bill_of (plan_of bs) price)
+        pub charge-billed : (bill : ℕ) → bill ≡ bill_of (plan_of bs) price → Ok bill ≡ charged_of (charge_answer bs price (length out)) (bill_of (plan_of bs) price)
         unfolding charged_of
         charge-billed bill e = rw (passed, e)
 
@@ -260,4 +240,4 @@ module _ (bs : List ℕ) (price : ℕ) (out : List ℕ) where
         unfolding charge_after unless_refused
         charge-written new e = rw passed e
 
-pub ruleset charging = (rules, charged_passed, charged_refused, charge-no-plan, kept-no-plan, charge-planned, room_fits, charge-dear, kept-dear, charge-short, kept-short, charge-billed, charge-written)
+pub ruleset charging = (rules, charge-no-plan, kept-no-plan, room_fits, charge-dear, kept-dear, charge-short, kept-short, charge-billed, charge-written)

@@ -21,7 +21,7 @@ use Rattle.plan.specs.declared.Gate.TheVariants.{Input, Add, Scale, Offset, Mult
 use Rattle.plan.specs.declared.Rule.{Rule}
 use Rattle.plan.specs.declared.Rule.TheVariants.{Reduction, Truncation}
 use Rattle.plan.specs.declared.Step.{Step}
-use Rattle.plan.specs.declared.Step.TheVariants.{DealInputs, SendOuts}
+use Rattle.plan.specs.declared.Step.TheVariants.{SendOuts}
 use Rattle.plan.specs.Plans.{Plan, party_count, parties, dealer_count, kind_of, is_kind, kind_count, is_input_of, input_wires, multiply_steps, steps_at, steps_from, steps, step_at, last_call, sent_by, written_count, per_multiply, sent_count}
 use Rattle.plan.proofs.Valid.{Valid, Plain, plain_no_6, plain_no_7, none_or_majority}
 use Rattle.plan.proofs.Wires.{length-input_wires}

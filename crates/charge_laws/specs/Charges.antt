@@ -1,4 +1,4 @@
--- The line charge (document 02, R-14): what each party sends, the carrier's bill in cents, and each party's part of it.
+-- The line charge: what each party sends, the carrier's bill in cents, and each party's part of it.
 use Rattle.std.specs.Prelude.{ℕ, zero, suc, ◌+◌, ◌-◌, ◌*◌, ◌/◌, ◌%◌, cond, List, map, ltb, length, get_or, set}
 use Rattle.numbers.specs.Tables.{tab, total}
 use Rattle.plan.specs.Plans.{Plan, parties, last_call, written_count, sent_count}

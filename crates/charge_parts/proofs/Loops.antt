@@ -1,19 +1,20 @@
 -- The loops over the parts.
 --     putting       parts as a list
---     summing       a sum
+--     sum-is        a sum
 --     seeking       the greatest
 --     dividing      parts rounded down, with what that leaves over
 -- Assumes nothing.
 use mathlib.Core.Path.{◌≡◌, refl, sym, ap, ◌∙◌}
 use mathlib.Core.List.{List, [], ◌∷◌}
 use Prim.Native.Nat.{ℕ, suc, ◌+◌, ◌-◌, ◌*◌, ◌/◌, ◌%◌, ◌<◌, ◌≤◌}
+use Rattle.std.specs.List.{sum}
+use Rattle.std.proofs.lemmas.List.Sums.{sum_by-cons}
 use native.Mathlib.Nat.{mul-le-mul}
 use native.Mathlib.Numerals.{add-one}
 use native.Mathlib.Omega.{arith}
 use borrow.Author.Rules.{rules}
 use borrow.Author.Tests.{lt-ltb, le-ltb}
-use lib.ListN.{length, get_or, take, drop, set, length-set, take-append-drop}
-use lib.Seq.{take-suc, take_all}
+use lib.ListN.{length, get_or, set, length-set}
 use mir.Syntax.{w64}
 use mir.Val.{Fits}
 use Rattle.numbers.specs.Tables.{tab, total}
@@ -21,7 +22,7 @@ use Rattle.numbers.specs.Bytes.{width, bytes_of}
 use Rattle.numbers.proofs.Tables.{list-tab}
 use Rattle.numbers.proofs.Fills.{Filled, fill_none, fill_next, filled, Stored, stored-all, storing}
 use Rattle.charge_laws.specs.Charges.{floor_at, remainder_at, greater_at, greatest_from, greatest}
-use Rattle.charge_laws.proofs.Totals.{total-append, entry-total, greater_in}
+use Rattle.charge_laws.proofs.Totals.{entry-total, greater_in}
 
 -- ---- the parts as a list
 pub parts_put : (parts d₀ d : List ℕ) (i : ℕ) → Stored (λ k. get_or parts k 0) (length parts) d₀ d i → length parts ≤ i → length d₀ ≡ width * length parts → d ≡ bytes_of parts
@@ -29,33 +30,11 @@ parts_put parts d₀ d i h l e = stored-all (λ k. get_or parts k 0) (length par
 
 pub ruleset putting = (storing, parts_put)
 
--- ---- a sum: k is that of the first i
-pub record Summed (xs : List ℕ) (k i : ℕ) : Type 0 where
-  pub within : i ≤ length xs
-  pub is : k ≡ total (take i xs)
-
-front_less : (xs : List ℕ) (i : ℕ) → total (take i xs) ≤ total xs
-front_less xs i = omega (arith, ap total (take-append-drop i xs), total-append (take i xs) (drop i xs))
-
-pub sum-none : (xs : List ℕ) → Summed xs 0 0
+-- ---- a sum
+pub sum-is : (xs : List ℕ) → sum xs ≡ total xs
 unfolding total
-sum-none xs = record { within = omega arith; is = refl }
-
-module _ (xs : List ℕ) (k i : ℕ) (h : Summed xs k i) where
-  further : i < length xs → k + get_or xs i 0 ≡ total (take (i + 1) xs)
-  unfolding total
-  further l = rw add-one (omega (arith, h.is, ap total (take-suc xs i 0 l), total-append (take i xs) (get_or xs i 0 ∷ [])))
-
-  pub sum_next : i < length xs → Summed xs (k + get_or xs i 0) (i + 1)
-  sum_next l = record { within = omega arith; is = further l }
-
-  pub sum_fits : i < length xs → total xs < 4294967296 → Fits w64 (k + get_or xs i 0)
-  sum_fits l f = record { fits = omega (arith, further l, front_less xs (i + 1)) }
-
-  pub sum_all : length xs ≤ i → k ≡ total xs
-  sum_all l = h.is ∙ ap total (take_all i xs l)
-
-pub ruleset summing = (rules, sum-none, sum_next, sum_fits, sum_all)
+sum-is [] = refl
+sum-is (x ∷ xs) = sum_by-cons (λ y. y) x xs ∙ ap (λ (k : ℕ). x + k) (sum-is xs)
 
 -- ---- the greatest
 pub greater_second : (rs : List ℕ) (b i : ℕ) → get_or rs b 0 < get_or rs i 0 → i ≡ greater_at rs b i

@@ -1,8 +1,9 @@
 -- What each way through the converter says of its definition.
 --     converting     what closes the needs of the functions
 -- Assumes nothing.
+use Rattle.std.proofs.Common.{Ok, Err}
 use Prim.Native.Nat.{ℕ, ◌+◌, ◌*◌, ◌<◌, ◌≤◌}
-use mathlib.Core.Path.{◌≡◌, refl, sym, ap, ◌∙◌}
+use mathlib.Core.Path.{◌≡◌, sym, ap, ◌∙◌}
 use mathlib.Core.Bool.{true}
 use mathlib.Core.List.{List, [], ◌∷◌, ◌++◌, flat_map}
 use native.Mathlib.Omega.{arith}
@@ -12,7 +13,6 @@ use borrow.Author.Tests.{ne_eqb, eq-eqb}
 use lib.Dec.{eqb}
 use lib.ListN.{length, get_or, take}
 use lib.Seq.{take-suc, take_all, length-take-le}
-use Rattle.numbers.specs.Tables.{tab}
 use Rattle.numbers.specs.Bytes.{bytes_from}
 use Rattle.numbers.proofs.Rows.{flat-length, flat-snoc}
 use Rattle.numbers.proofs.Tables.{length-tab, get_or-tab}
@@ -20,28 +20,21 @@ use Rattle.plan.specs.declared.Gate.{Gate}
 use Rattle.plan.specs.declared.Gate.TheVariants.{Input}
 use Rattle.plan.specs.declared.Output.{Output}
 use Rattle.plan.specs.declared.Header.{Header}
-use Rattle.plan.specs.declared.Checked.{Checked}
-use Rattle.plan.specs.declared.Checked.TheVariants.{Passed, Refused}
-use Rattle.plan.specs.declared.Reading.{Reading}
-use Rattle.plan.specs.declared.Reading.TheVariants as reading
 use Rattle.plan.specs.declared.Refusal.{Refusal}
 use Rattle.plan.specs.declared.Refusal.TheVariants as refusal
 use Rattle.plan.specs.Refusals.{and_then, first_of, need}
-use Rattle.plan.specs.Plans.{Plan, party_count}
-use Rattle.plan.specs.File.{layout_for, gate_at, out_at, point_at, out_ok, plan_of, outcome_of, reading_of, header_of}
+use Rattle.plan.specs.Plans.{party_count}
+use Rattle.plan.specs.File.{layout_for, gate_at, out_at, point_at, out_ok, plan_of}
 use Rattle.plan.specs.Planned.{Planned}
-use Rattle.plan.proofs.Refusals.{and_then_passed, and_then_refused, first_of-append}
+use Rattle.plan.proofs.Refusals.{and_then_refused, first_of-append}
 use Rattle.plan.proofs.Planned.{plan_t, plan_p, plan_n, plan_points, plan_gates, plan_outs, plan_gate, plan_out}
 use Rattle.plan.proofs.Valid.{valid}
-use Rattle.plan.proofs.Ways.{of_refused}
 use Rattle.plan_file.specs.Bodies.{written, place_in, out_start, gate_bytes, gates_bytes, out_bytes, points_bytes, contents, file_size, file_as, field_limit}
 use Rattle.plan_file.proofs.Files.{file_long, out_long, out_parts}
 use Rattle.plan_file.proofs.Writing.{Pointed, points_begin, points_next, points_end, points_same, written_then, written-whole, length-written}
 use Rattle.plan_file.proofs.Rows.{gates_then, one_put, written_none, none_bytes, file_put}
 use Rattle.seat_messages.specs.Calls.{unless_refused}
 use Rattle.convert_call.specs.Converting.{old_checks, converted_file, convert_checks, convert_answer, convert_after}
-use Rattle.convert_call.specs.Reads.{OldReading}
-use Rattle.convert_call.proofs.Reading.{old_planned, old_passes}
 
 abbrev no_out : Output
 no_out = record { party = 0; wire = 0 }
@@ -157,36 +150,33 @@ module _ (bs : List ℕ) (h : Header) (p : Planned bs h) (s s1 s2 s3 s4 : List �
 pub ruleset filing = (rules, third_fits, file-whole)
 
 -- ---- the call
-module _ (bs : List ℕ) (r : Reading) (a : OldReading bs r) (out : List ℕ) where
+module _ (bs out : List ℕ) where
   whole : convert_answer bs (length out) ≡ and_then (first_of (old_checks bs)) (first_of (need refusal.BufferLength (eqb (length out) (length (converted_file bs))) ∷ []))
   unfolding convert_answer convert_checks
   whole = first_of-append (old_checks bs) _
 
-  module _ (q : Refusal) (e : r ≡ reading.Refused q) where
-    turned : convert_answer bs (length out) ≡ Refused q
-    turned = whole ∙ and_then_refused (first_of (old_checks bs)) _ q (of_refused (first_of (old_checks bs)) (header_of bs) q (sym a.eq ∙ e))
+  module _ (q : Refusal) (e : first_of (old_checks bs) ≡ Err q) where
+    turned : convert_answer bs (length out) ≡ Err q
+    turned = whole ∙ and_then_refused (first_of (old_checks bs)) _ q e
 
-    pub convert-refused : (c : Checked) → c ≡ outcome_of r → c ≡ convert_answer bs (length out)
-    unfolding outcome_of
-    convert-refused c ec = rw e at ec ∙ sym turned
+    pub convert-refused : Err q ≡ convert_answer bs (length out)
+    convert-refused = sym turned
 
     pub refused-kept : out ≡ convert_after bs out
     unfolding convert_after unless_refused
     refused-kept = rw turned
 
-  module _ (h : Header) (e : r ≡ reading.Passed h) where
-    pub convert-planned : Planned bs h
-    convert-planned = old_planned bs r h a e
+  -- the plan that was read
+  module _ (passes : first_of (old_checks bs) ≡ (Ok tt)) (xs : List ℕ) (ex : xs ≡ bs) where
+    module _ (size : ℕ) (es : size ≡ length (converted_file xs)) where
+      size-is : size ≡ length (converted_file bs)
+      size-is = es ∙ ap (λ (s : List ℕ). length (converted_file s)) ex
 
-    passes : first_of (old_checks bs) ≡ Passed
-    passes = old_passes bs r h a e
-
-    module _ (size : ℕ) (es : size ≡ length (converted_file bs)) where
-      short : (length out ≡ size → ⊥) → convert_answer bs (length out) ≡ Refused refusal.BufferLength
+      short : (length out ≡ size → ⊥) → convert_answer bs (length out) ≡ Err refusal.BufferLength
       unfolding first_of and_then need
-      short k = whole ∙ rw (passes, ← es, ne_eqb (length out) size k)
+      short k = whole ∙ rw (passes, ← size-is, ne_eqb (length out) size k)
 
-      pub convert-short : (length out ≡ size → ⊥) → Refused refusal.BufferLength ≡ convert_answer bs (length out)
+      pub convert-short : (length out ≡ size → ⊥) → Err refusal.BufferLength ≡ convert_answer bs (length out)
       convert-short k = sym (short k)
 
       pub short-kept : (length out ≡ size → ⊥) → out ≡ convert_after bs out
@@ -194,18 +184,15 @@ module _ (bs : List ℕ) (r : Reading) (a : OldReading bs r) (out : List ℕ) wh
       short-kept k = rw (short k)
 
       module _ (k : length out ≡ size) where
-        done : convert_answer bs (length out) ≡ Passed
+        done : convert_answer bs (length out) ≡ (Ok tt)
         unfolding first_of and_then need
-        done = whole ∙ rw (passes, ← es, eq-eqb (length out) size k)
+        done = whole ∙ rw (passes, ← size-is, eq-eqb (length out) size k)
 
-        pub convert-done : Passed ≡ convert_answer bs (length out)
+        pub convert-done : (Ok tt) ≡ convert_answer bs (length out)
         convert-done = sym done
 
-        pub convert-room : length out ≡ length (converted_file bs)
-        convert-room = k ∙ es
-
-        pub convert-written : (new : List ℕ) → new ≡ converted_file bs → new ≡ convert_after bs out
+        pub convert-written : (new : List ℕ) → new ≡ converted_file xs → new ≡ convert_after bs out
         unfolding convert_after unless_refused
-        convert-written new en = en ∙ rw done
+        convert-written new en = en ∙ ap converted_file ex ∙ rw done
 
-pub ruleset converting = (rules, convert-refused, refused-kept, convert-planned, convert-short, short-kept, convert-done, convert-room, convert-written)
+pub ruleset converting = (rules, convert-refused, refused-kept, convert-short, short-kept, convert-done, convert-written)

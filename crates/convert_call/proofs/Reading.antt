@@ -1,33 +1,29 @@
 -- A plan of version 1 or 2 is read as any other.
 --     old-same      its checks are those of a plan, where the version is not 3
---     old_planned   what such a reading says
 --     versions      what closes the needs of the reader
 -- Assumes nothing.
+use Rattle.std.proofs.Common.{Ok, Err}
 use Prim.Native.Nat.{ℕ, ◌≤◌}
 use mathlib.Core.Path.{◌≡◌, refl, sym, ap, ◌∙◌}
 use mathlib.Core.Bool.{Bool, true, false, ◌&&◌}
-use mathlib.Core.List.{List, [], ◌∷◌, ◌++◌}
+use mathlib.Core.List.{List}
 use native.Mathlib.Omega.{arith}
 use borrow.Author.Rules.{rules}
-use borrow.Author.Tests.{le-leb, lt-leb}
+use borrow.Author.Tests.{clash, le-leb, lt-leb, eqb-true, eqb-false}
 use native.Mathlib.Decide.{dec_le}
-use lib.Dec.{leb}
-use lib.ListN.{length, get_or, take, drop}
+use lib.Dec.{eqb, leb}
+use lib.ListN.{length, take, drop}
+use Rattle.numbers.proofs.Truth.{both_true}
 use Rattle.plan.specs.declared.Header.{Header}
-use Rattle.plan.specs.declared.Checked.{Checked}
-use Rattle.plan.specs.declared.Checked.TheVariants.{Passed, Refused}
-use Rattle.plan.specs.declared.Reading.{Reading}
-use Rattle.plan.specs.declared.Reading.TheVariants as reading
+use Rattle.plan.specs.Refusals.{Checked}
 use Rattle.plan.specs.declared.Refusal.{Refusal}
 use Rattle.plan.specs.declared.Refusal.TheVariants as refusal
 use Rattle.plan.specs.Refusals.{and_then, first_of, need}
-use Rattle.plan.specs.File.{magic, same_bytes, between, version_at, plan_checks, plan_check, header_of, reading_of, read_plan}
-use Rattle.plan.specs.Planned.{Planned, ReadAs}
+use Rattle.plan.specs.File.{magic, same_bytes, between, version_at, plan_checks, plan_check}
+use Rattle.plan.specs.Planned.{Planned}
 use Rattle.plan.proofs.Refusals.{passed_both, passed-need}
-use Rattle.plan.proofs.Planned.{between-true, planned_read}
-use Rattle.plan.proofs.Ways.{of_passed}
+use Rattle.plan.proofs.Planned.{between-true}
 use Rattle.convert_call.specs.Converting.{old_checks}
-use Rattle.convert_call.specs.Reads.{OldReading}
 
 -- the rest of a plan's checks
 module _ (bs : List ℕ) where
@@ -57,38 +53,41 @@ module _ (bs : List ℕ) where
   old-same h = old-is ∙ ap (λ (b : Bool). and_then (need refusal.Magic begun) (and_then (need refusal.Version b) rest)) (same-range (version_at bs) h) ∙ sym plan-is
 
   -- a plan that passes has version 1 or 2
-  pub old-version : first_of (old_checks bs) ≡ Passed → between 1 2 (version_at bs) ≡ true
+  pub old-version : first_of (old_checks bs) ≡ (Ok tt) → between 1 2 (version_at bs) ≡ true
   old-version e =
       let a = passed_both (need refusal.Magic begun) _ (sym old-is ∙ e) in
       passed-need refusal.Version _ (passed_both (need refusal.Version (between 1 2 (version_at bs))) rest a.1).0
 
-  old-passed : first_of (old_checks bs) ≡ Passed → first_of (old_checks bs) ≡ plan_check bs
+  old-passed : first_of (old_checks bs) ≡ (Ok tt) → first_of (old_checks bs) ≡ plan_check bs
   old-passed e = old-same (λ v. omega (arith, (between-true 1 2 (version_at bs) (old-version e)).1))
 
-  pub old-plan : first_of (old_checks bs) ≡ Passed → plan_check bs ≡ Passed
+  pub old-plan : first_of (old_checks bs) ≡ (Ok tt) → plan_check bs ≡ (Ok tt)
   old-plan e = sym (old-passed e) ∙ e
 
-  module _ (v : ℕ) (ev : v ≡ get_or bs 4 0) (b : Bool) (eb : b ≡ begun) (three : v ≡ 3) where
-    pub old-third : b ≡ true → OldReading bs (reading.Refused refusal.Version)
-    unfolding reading_of need and_then between
-    old-third h = record { eq = rw (old-is, ← eb, h, ← ev, three) }
+  -- without the letters both refuse them
+  old-without : begun ≡ false → first_of (old_checks bs) ≡ plan_check bs
+  unfolding need and_then
+  old-without e = rw (plan-is, old-is, e)
 
-    pub old-letters : b ≡ false → (r : Reading) → ReadAs bs r → OldReading bs r
-    unfolding read_plan need and_then
-    old-letters h r a = record { eq = a.eq ∙ ap (λ (c : Checked). reading_of c (header_of bs)) (rw (plan-is, old-is, ← eb, h)) }
+  module _ (t : Bool) (et : t ≡ (eqb (version_at bs) 3 && begun)) where
+    pub old-third : t ≡ true → first_of (old_checks bs) ≡ Err refusal.Version
+    unfolding need and_then between
+    old-third h =
+        let k = both_true (eqb (version_at bs) 3) begun (sym et ∙ h) in
+        rw (old-is, k.1, eqb-true (version_at bs) 3 k.0)
 
-  pub old-other : (v : ℕ) → v ≡ get_or bs 4 0 → (v ≡ 3 → ⊥) → (r : Reading) → ReadAs bs r → OldReading bs r
-  unfolding read_plan
-  old-other v ev h r a = record { eq = a.eq ∙ ap (λ (c : Checked). reading_of c (header_of bs)) (sym (old-same (λ e. h (ev ∙ e)))) }
+    old-agrees : t ≡ false → first_of (old_checks bs) ≡ plan_check bs
+    old-agrees h = by (eqb (version_at bs) 3) begun refl refl (sym et ∙ h)
+      where
+        by : (v b : Bool) → eqb (version_at bs) 3 ≡ v → begun ≡ b → (v && b) ≡ false → first_of (old_checks bs) ≡ plan_check bs
+        by false b p q e = old-same (eqb-false (version_at bs) 3 p)
+        by true false p q e = old-without q
+        by true true p q e = absurd (clash (sym e))
 
-pub ruleset versions = (rules, old-third, old-letters, old-other)
+    pub old-refused : (r : Refusal) → t ≡ false → plan_check bs ≡ Err r → first_of (old_checks bs) ≡ Err r
+    old-refused r h e = old-agrees h ∙ e
 
--- what such a reading says
-pub old_planned : (bs : List ℕ) (r : Reading) (h : Header) → OldReading bs r → r ≡ reading.Passed h → Planned bs h
-unfolding read_plan
-old_planned bs r h a e =
-    let passed : first_of (old_checks bs) ≡ Passed = (of_passed (first_of (old_checks bs)) (header_of bs) h (sym a.eq ∙ e)).0 in
-    planned_read bs r h (record { eq = a.eq ∙ ap (λ (c : Checked). reading_of c (header_of bs)) (old-passed bs passed) }) e
+    pub old-passes : (xs : List ℕ) (h : Header) → t ≡ false → Planned xs h → xs ≡ bs → first_of (old_checks bs) ≡ (Ok tt)
+    old-passes xs h n p e = old-agrees n ∙ ap plan_check (sym e) ∙ p.passes
 
-pub old_passes : (bs : List ℕ) (r : Reading) (h : Header) → OldReading bs r → r ≡ reading.Passed h → first_of (old_checks bs) ≡ Passed
-old_passes bs r h a e = (of_passed (first_of (old_checks bs)) (header_of bs) h (sym a.eq ∙ e)).0
+pub ruleset versions = (rules, old-third, old-refused, old-passes)

@@ -1,6 +1,6 @@
--- A plan of version 1 or 2 as one of version 3 (document 02, R-6): the same n, t, p, gates, outs and points, in order.
+-- A plan of version 1 or 2 as one of version 3: the same n, t, p, gates, outs and points, in order.
 use Rattle.std.specs.Prelude.{ℕ, List, [], ◌∷◌, ◌++◌, eqb, length, take, drop}
-use Rattle.plan.specs.declared.Checked.{Checked}
+use Rattle.plan.specs.Refusals.{Checked}
 use Rattle.plan.specs.declared.Refusal.TheVariants as refusal
 use Rattle.plan.specs.Refusals.{first_of, need}
 use Rattle.plan.specs.File.{version_at, between, plan_checks, plan_of}

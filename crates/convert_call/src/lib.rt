@@ -1,114 +1,101 @@
-// A plan of version 1 or 2 written as one of version 3 (document 02, R-6).
-#![tactic(auto)]
+// A plan of version 1 or 2 written as one of version 3.
+#![tactic(auto, using(crate::proofs::Converting::putting))]
 
-ghost use Rattle.std.specs.Prelude.{◌≡◌, ◌+◌, ◌*◌, ◌<◌, ◌≤◌, length, get_or};
+ghost use Rattle.std.specs.Prelude.{Ok, Err, IfOk, IfErr, ◌≡◌, ◌&&◌, ◌≤◌, eqb, leb, length, take};
 ghost use mathlib.Core.List.{flat_map};
-ghost use Rattle.numbers.specs.Bytes.{bytes_from};
-ghost use Rattle.plan.specs.File.{layout_for, plan_of};
-ghost use Rattle.plan.specs.Planned.{Planned};
+ghost use Rattle.plan.specs.Refusals.{first_of};
+ghost use Rattle.plan.specs.File.{magic, same_bytes, version_at, plan_of};
 ghost use Rattle.plan_file.specs.Bodies.{written, place_in, out_start, gates_bytes, out_bytes, points_bytes};
-ghost use Rattle.convert_call.specs.Converting.{converted_file, convert_answer, convert_after};
-ghost use Rattle.convert_call.specs.Reads.{OldReading};
+ghost use Rattle.convert_call.specs.Converting.{old_checks, converted_file, convert_answer, convert_after};
 
-use plan::{Checked, Header, Reading, Refusal};
+use plan::{PlanFile, Refusal};
+
+// Whether a file begins as a plan of version 3.
+#[tactic(auto, using(crate::proofs::Reading::versions))]
+fn is_third(bytes: &[u8]) -> bool
+    ensures { result ≡ (eqb (version_at bytes.now) 3 && (leb 18 (length bytes.now) && same_bytes (take 4 bytes.now) magic)) }
+{
+    plan::byte(bytes, 4) == 3 && plan_reading::begins(bytes)
+}
 
 // Reads a plan of version 1 or 2: any other version is refused.
-pub fn read_old(plan: &[u8]) -> Reading
-    ensures { OldReading plan.now result }
+#[tactic(auto, using(crate::proofs::Reading::versions))]
+pub fn read_old(bytes: &[u8]) -> Result<PlanFile<'_>, Refusal>
+    ensures same { IfOk result (λ f. f.bytes.now ≡ bytes.now) }
+    ensures passed { IfOk result (λ f. first_of (old_checks bytes.now) ≡ Ok tt) }
+    ensures refused { IfErr result (λ r. first_of (old_checks bytes.now) ≡ Err r) }
 {
-    if plan::byte(plan, 4) != 3 {
-        return plan_reading::read(plan);
+    if is_third(bytes) {
+        return Err(Refusal::Version);
     }
-    if plan_reading::begins(plan) {
-        return Reading::Refused(Refusal::Version);
-    }
-    plan_reading::read(plan)
+    // As it is: a plan that has a name is known to pass, and the result of a last call is not.
+    let plan = plan_reading::read(bytes)?;
+    Ok(plan)
 }
 
 // The bytes of the plan as one of version 3.
-pub fn converted_size(plan: &[u8], h: Header) -> usize
-    requires { Planned plan.now h }
-    ensures { record { eq : result ≡ length (converted_file plan.now); few : result ≤ 10524 } }
+pub fn converted_size(plan: &PlanFile) -> usize
+    ensures { record { eq : result ≡ length (converted_file plan.now.bytes.now); few : result ≤ 10524 } }
 {
-    plan_file::file_size(3, h.n, h.gates, h.outs)
+    plan_file::file_size(3, plan.header.n, plan.header.gates, plan.header.outs)
 }
 
-fn put_gates(plan: &[u8], h: Header, out: &mut [u8])
-    requires { Planned plan.now h }
-    ensures { out.new ≡ written out.old (place_in 3 0) (gates_bytes 3 (plan_of plan.now).gates) }
+fn put_gates(plan: &PlanFile, out: &mut [u8])
+    ensures { out.new ≡ written out.old (place_in 3 0) (gates_bytes 3 (plan_of plan.now.bytes.now).gates) }
 {
-    let mut g: usize = 0;
-    while g < h.gates {
-        plan_file::put_gate(out, 3, g, plan::gate_at(plan, g));
-        g += 1;
+    for g in 0..plan.header.gates {
+        plan_file::put_gate(out, 3, g, plan.gate(g));
     }
 }
 
-fn put_outs(plan: &[u8], h: Header, out: &mut [u8])
-    requires { Planned plan.now h }
-    ensures { out.new ≡ written out.old (out_start 3 h.gates 0) (flat_map out_bytes (plan_of plan.now).outs) }
+fn put_outs(plan: &PlanFile, out: &mut [u8])
+    ensures { out.new ≡ written out.old (out_start 3 plan.now.header.gates 0) (flat_map out_bytes (plan_of plan.now.bytes.now).outs) }
 {
-    let mut o: usize = 0;
-    while o < h.outs {
-        plan_file::put_out(out, 3, h.gates, o, plan::out_at(plan, o));
-        o += 1;
+    for o in 0..plan.header.outs {
+        plan_file::put_out(out, 3, plan.header.gates, o, plan::out_at(plan.bytes, o));
     }
 }
 
-// The point of party i + 1, from where the points stand on.
-fn put_point(plan: &[u8], h: Header, at: usize, i: usize, out: &mut [u8])
-    requires planned { Planned plan.now h }
-    requires fact { record { at : at ≤ 10464; i : i < h.n } }
-    ensures { out.new ≡ written out.old (at + (layout_for 3).point * i) (bytes_from (layout_for 3).point (get_or (plan_of plan.now).points i 0)) }
+fn put_points(plan: &PlanFile, out: &mut [u8])
+    ensures { out.new ≡ written out.old (out_start 3 plan.now.header.gates plan.now.header.outs) (points_bytes 3 (plan_of plan.now.bytes.now).points) }
 {
-    plan_file::put_point(out, 3, at, i, plan::point_at(plan, i));
-}
-
-fn put_points(plan: &[u8], h: Header, out: &mut [u8])
-    requires { Planned plan.now h }
-    ensures { out.new ≡ written out.old (out_start 3 h.gates h.outs) (points_bytes 3 (plan_of plan.now).points) }
-{
-    let at = plan_file::out_start(3, h.gates, h.outs);
-    let mut i: usize = 0;
-    while i < h.n {
-        put_point(plan, h, at, i, out);
-        i += 1;
+    let at = plan_file::out_start(3, plan.header.gates, plan.header.outs);
+    for i in 0..plan.header.n {
+        plan_file::put_point(out, 3, at, i, plan::point_at(plan.bytes, i));
     }
 }
 
 // Writes the plan as one of version 3.
-fn write_third(plan: &[u8], h: Header, out: &mut [u8])
-    requires planned { Planned plan.now h }
-    requires out_len { length out.old ≡ length (converted_file plan.now) }
-    ensures { out.new ≡ converted_file plan.now }
+#[tactic(auto, using(crate::proofs::Converting::filing))]
+fn write_third(plan: &PlanFile, out: &mut [u8])
+    requires out_len { length out.old ≡ length (converted_file plan.now.bytes.now) }
+    ensures { out.new ≡ converted_file plan.now.bytes.now }
 {
     plan_file::put_contents(
         out,
         3,
-        h.n as u32,
-        h.t as u32,
-        h.field.p as u32,
-        h.gates,
-        h.outs,
+        plan.header.n as u32,
+        plan.header.t as u32,
+        plan.header.field.p as u32,
+        plan.header.gates,
+        plan.header.outs,
     );
-    put_gates(plan, h, out);
-    put_outs(plan, h, out);
-    put_points(plan, h, out);
+    put_gates(plan, out);
+    put_outs(plan, out);
+    put_points(plan, out);
 }
 
 // Converts a plan: `out` takes the file of version 3. Answers the first refusal of the plan, with 2 for any version but 1 and 2, or 19, and then
 // `out` is not written.
-pub fn convert(plan: &[u8], out: &mut [u8]) -> Checked
-    ensures answer { result ≡ convert_answer plan.now (length out.old) }
-    ensures out { out.new ≡ convert_after plan.now out.old }
+#[tactic(auto, using(crate::proofs::Converting::converting))]
+pub fn convert(bytes: &[u8], out: &mut [u8]) -> Result<(), Refusal>
+    ensures answer { result ≡ convert_answer bytes.now (length out.old) }
+    ensures out { out.new ≡ convert_after bytes.now out.old }
 {
-    let r = read_old(plan);
-    let Reading::Passed(h) = r else {
-        return plan_reading::outcome(r);
-    };
-    if out.len() != converted_size(plan, h) {
-        return Checked::Refused(Refusal::BufferLength);
+    let plan = read_old(bytes)?;
+    if out.len() != converted_size(&plan) {
+        return Err(Refusal::BufferLength);
     }
-    write_third(plan, h, out);
-    Checked::Passed
+    write_third(&plan, out);
+    Ok(())
 }

@@ -4,6 +4,7 @@
 --     tallying        the rows sorted and merged are the list of views
 --     calling         the call
 -- Assumes nothing.
+use Rattle.std.proofs.Common.{Ok, Err}
 use Prim.Native.Nat.{ℕ, suc, ◌+◌, ◌*◌, ◌/◌, ◌^◌, ◌<◌, ◌≤◌}
 use mathlib.Core.Path.{◌≡◌, refl, sym, ap, ap₂, subst, ◌∙◌}
 use mathlib.Core.Bool.{true}
@@ -24,17 +25,14 @@ use Rattle.numbers.proofs.Bytes.{fits_below, numbers-length, numbers-part, numbe
 use Rattle.sharing_laws.specs.Sharing.{rows_of}
 use Rattle.sharing_openings.proofs.Rows.{length_rows, row_at}
 use Rattle.plan.specs.declared.Header.{Header}
-use Rattle.plan.specs.declared.Checked.{Checked}
-use Rattle.plan.specs.declared.Checked.TheVariants.{Passed, Refused}
-use Rattle.plan.specs.declared.Reading.{Reading}
-use Rattle.plan.specs.declared.Reading.TheVariants as reading
+use Rattle.plan.specs.Refusals.{Checked}
 use Rattle.plan.specs.declared.Refusal.{Refusal}
 use Rattle.plan.specs.Refusals.{and_then, first_of}
 use Rattle.plan.specs.Plans.{Plan, party_count, coin_count, coin_owners}
-use Rattle.plan.specs.File.{plan_checks, plan_check, plan_of, outcome_of}
-use Rattle.plan.specs.Planned.{Planned, ReadAs}
+use Rattle.plan.specs.File.{plan_checks, plan_check, plan_of}
+use Rattle.plan.specs.Planned.{Planned}
 use Rattle.plan.proofs.Refusals.{and_then_passed, and_then_refused, first_of-append}
-use Rattle.plan.proofs.Planned.{planned_read, refused_read, plan_n, plan_p, plan_gates}
+use Rattle.plan.proofs.Planned.{plan_n, plan_p, plan_gates}
 use Rattle.plan.proofs.Valid.{valid, plain, plain_no_7}
 use Rattle.plan_coalition.specs.Coalitions.{members, set_ok}
 use Rattle.seat_messages.specs.Calls.{unless_refused}
@@ -227,11 +225,7 @@ module _ (bs : List ℕ) (h : Header) (pl : Planned bs h) (set : ℕ) (inputs gi
 pub ruleset tallying = (rules, rows-room, rows_whole, narrow, rows_few)
 
 -- ---- the call
-outcome_refused : (r : Reading) (q : Refusal) (c : Checked) → c ≡ outcome_of r → r ≡ reading.Refused q → c ≡ Refused q
-unfolding outcome_of
-outcome_refused r q c e f = rw f at e
-
-kept : (c : Checked) (r : Refusal) (new old : List ℕ) → c ≡ Refused r → old ≡ unless_refused c new old
+kept : (c : Checked) (r : Refusal) (new old : List ℕ) → c ≡ Err r → old ≡ unless_refused c new old
 unfolding unless_refused
 kept c r new old e = rw e
 
@@ -240,42 +234,41 @@ module _ (bs : List ℕ) (set : ℕ) (inputs coins out : List ℕ) where
   unfolding count_answer count_checks plan_check
   answer_parts = first_of-append (plan_checks bs) (counting_checks (plan_of bs) set inputs coins (length out))
 
-  module _ (r : Reading) (a : ReadAs bs r) where
-    module _ (q : Refusal) (e : r ≡ reading.Refused q) where
-      no-plan : count_answer bs set inputs coins (length out) ≡ Refused q
-      no-plan = answer_parts ∙ and_then_refused (plan_check bs) _ q (refused_read bs r q a e)
+  module _ (q : Refusal) (e : plan_check bs ≡ Err q) where
+    no-plan : count_answer bs set inputs coins (length out) ≡ Err q
+    no-plan = answer_parts ∙ and_then_refused (plan_check bs) _ q e
 
-      pub count-no-plan : (c : Checked) → c ≡ outcome_of r → c ≡ count_answer bs set inputs coins (length out)
-      count-no-plan c ec = outcome_refused r q c ec e ∙ sym no-plan
+    pub count-no-plan : Err q ≡ count_answer bs set inputs coins (length out)
+    count-no-plan = sym no-plan
 
-      pub kept-no-plan : out ≡ count_after bs set inputs coins out
+    pub kept-no-plan : out ≡ count_after bs set inputs coins out
+    unfolding count_after
+    kept-no-plan = kept (count_answer bs set inputs coins (length out)) q _ out no-plan
+
+  module _ (h : Header) (pl : Planned bs h) (c : Checked) (ec : c ≡ first_of (counting_checks (plan_of bs) set inputs coins (length out))) where
+    past_plan : count_answer bs set inputs coins (length out) ≡ c
+    past_plan = answer_parts ∙ and_then_passed (plan_check bs) _ pl.passes ∙ sym ec
+
+    module _ (q : Refusal) (f : c ≡ Err q) where
+      pub count-refused : Err q ≡ count_answer bs set inputs coins (length out)
+      count-refused = sym (past_plan ∙ f)
+
+      pub kept-refused : out ≡ count_after bs set inputs coins out
       unfolding count_after
-      kept-no-plan = kept (count_answer bs set inputs coins (length out)) q _ out no-plan
+      kept-refused = kept (count_answer bs set inputs coins (length out)) q _ out (past_plan ∙ f)
 
-    module _ (h : Header) (e : r ≡ reading.Passed h) (c : Checked) (ec : c ≡ first_of (counting_checks (plan_of bs) set inputs coins (length out))) where
-      past_plan : count_answer bs set inputs coins (length out) ≡ c
-      past_plan = answer_parts ∙ and_then_passed (plan_check bs) _ (planned_read bs r h a e).passes ∙ sym ec
+    module _ (f : c ≡ (Ok tt)) where
+      pub count-done : (Ok tt) ≡ count_answer bs set inputs coins (length out)
+      count-done = sym (past_plan ∙ f)
 
-      module _ (q : Refusal) (f : c ≡ Refused q) where
-        pub count-refused : c ≡ count_answer bs set inputs coins (length out)
-        count-refused = sym past_plan
+      pub count-given : Countable (plan_of bs) set inputs coins
+      count-given = passed-countable (plan_of bs) set inputs coins (length out) (sym ec ∙ f)
 
-        pub kept-refused : out ≡ count_after bs set inputs coins out
-        unfolding count_after
-        kept-refused = kept (count_answer bs set inputs coins (length out)) q _ out (past_plan ∙ f)
+      pub count_room : length out ≡ count_size (plan_of bs) set
+      count_room = passed-size (plan_of bs) set inputs coins (length out) (sym ec ∙ f)
 
-      module _ (f : c ≡ Passed) where
-        pub count-done : Passed ≡ count_answer bs set inputs coins (length out)
-        count-done = sym (past_plan ∙ f)
+      pub count-written : (new : List ℕ) → new ≡ bytes_of (view_list (plan_of bs) set (numbers inputs) (numbers coins)) → new ≡ count_after bs set inputs coins out
+      unfolding count_after unless_refused
+      count-written new en = en ∙ rw (past_plan ∙ f)
 
-        pub count-given : Countable (plan_of bs) set inputs coins
-        count-given = passed-countable (plan_of bs) set inputs coins (length out) (sym ec ∙ f)
-
-        pub count_room : length out ≡ count_size (plan_of bs) set
-        count_room = passed-size (plan_of bs) set inputs coins (length out) (sym ec ∙ f)
-
-        pub count-written : (new : List ℕ) → new ≡ bytes_of (view_list (plan_of bs) set (numbers inputs) (numbers coins)) → new ≡ count_after bs set inputs coins out
-        unfolding count_after unless_refused
-        count-written new en = en ∙ rw (past_plan ∙ f)
-
-pub ruleset calling = (rules, planned_read, count-no-plan, kept-no-plan, count-refused, kept-refused, count-done, count-given, count_room, count-written)
+pub ruleset calling = (rules, count-no-plan, kept-no-plan, count-refused, kept-refused, count-done, count-given, count_room, count-written)

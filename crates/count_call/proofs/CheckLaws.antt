@@ -3,6 +3,7 @@
 --     checking       all of them
 --     passing        what a call that passes them is given
 -- Assumes nothing.
+use Rattle.std.proofs.Common.{Ok, Err}
 use Prim.Native.Nat.{ℕ, ◌+◌, ◌*◌, ◌<◌, ◌≤◌}
 use mathlib.Core.Path.{◌≡◌, refl, sym, ap, ap₂, ◌∙◌}
 use mathlib.Core.Bool.{Bool, true, false, cond, ◌&&◌}
@@ -20,8 +21,7 @@ use Rattle.numbers.proofs.Bytes.{holds-length}
 use Rattle.numbers.proofs.Below.{first_over-nothing}
 use Rattle.numbers.proofs.Truth.{both_true}
 use Rattle.plan.specs.declared.Header.{Header}
-use Rattle.plan.specs.declared.Checked.{Checked}
-use Rattle.plan.specs.declared.Checked.TheVariants.{Passed, Refused}
+use Rattle.plan.specs.Refusals.{Checked}
 use Rattle.plan.specs.declared.Refusal.{Refusal}
 use Rattle.plan.specs.declared.Refusal.TheVariants as refusal
 use Rattle.plan.specs.Refusals.{and_then, first_of, need}
@@ -56,11 +56,11 @@ module _ (bs : List ℕ) (h : Header) (pl : Planned bs h) (set : ℕ) (inputs co
         ∙ ap (λ (n : ℕ). and_then (inputs_of h.field.p n) (coins_of_lem h.field.p (member_coins (plan_of bs) set))) (sym ek)
         ∙ ap (λ (d : Checked). and_then d (coins_of_lem h.field.p (member_coins (plan_of bs) set))) (sym ec)
 
-    pub list-inputs : (r : Refusal) → c ≡ Refused r → c ≡ first_of (member_checks (plan_of bs) set inputs coins)
-    list-inputs r e = e ∙ sym (list-parts ∙ and_then_refused c _ r e)
+    pub list-inputs : (r : Refusal) → c ≡ Err r → Err r ≡ first_of (member_checks (plan_of bs) set inputs coins)
+    list-inputs r e = sym (list-parts ∙ and_then_refused c _ r e)
 
     pub list-coins :
-        c ≡ Passed → (d : ℕ) → d ≡ member_coins (plan_of bs) set → (r : Checked) → r ≡ first_of (list_checks refusal.CoinCount refusal.CoinValue h.field.p d coins)
+        c ≡ (Ok tt) → (d : ℕ) → d ≡ member_coins (plan_of bs) set → (r : Checked) → r ≡ first_of (list_checks refusal.CoinCount refusal.CoinValue h.field.p d coins)
         → r ≡ first_of (member_checks (plan_of bs) set inputs coins)
     unfolding coins_of_lem
     list-coins e d ed r er = er ∙ sym (list-parts ∙ and_then_passed c _ e ∙ ap (coins_of_lem h.field.p) (sym ed))
@@ -119,7 +119,7 @@ module _ (bs : List ℕ) (h : Header) (pl : Planned bs h) (set : ℕ) (inputs co
   set_is : t ≡ set_ok (plan_of bs) set
   set_is = et ∙ set_ok_lem bs h set pl
 
-  pub check-set : t ≡ false → Refused refusal.Coalition ≡ first_of (counting_checks (plan_of bs) set inputs coins room)
+  pub check-set : t ≡ false → Err refusal.Coalition ≡ first_of (counting_checks (plan_of bs) set inputs coins room)
   check-set e = sym (parts ∙ and_then_refused (need refusal.Coalition (set_ok (plan_of bs) set)) _ refusal.Coalition (need-false refusal.Coalition (set_ok (plan_of bs) set) (sym set_is ∙ e)))
 
   module _ (y : t ≡ true) (c : Checked) (ec : c ≡ first_of (member_checks (plan_of bs) set inputs coins)) where
@@ -128,14 +128,14 @@ module _ (bs : List ℕ) (h : Header) (pl : Planned bs h) (set : ℕ) (inputs co
         parts ∙ and_then_passed (need refusal.Coalition (set_ok (plan_of bs) set)) _ (need-true refusal.Coalition (set_ok (plan_of bs) set) (sym set_is ∙ y))
         ∙ ap (λ (d : Checked). and_then d (and_then many-check room-check)) (sym ec)
 
-    pub check-lists : (r : Refusal) → c ≡ Refused r → c ≡ first_of (counting_checks (plan_of bs) set inputs coins room)
-    check-lists r e = e ∙ sym (past-set ∙ and_then_refused c _ r e)
+    pub check-lists : (r : Refusal) → c ≡ Err r → Err r ≡ first_of (counting_checks (plan_of bs) set inputs coins room)
+    check-lists r e = sym (past-set ∙ and_then_refused c _ r e)
 
-    module _ (e : c ≡ Passed) (k : ℕ) (ek : k ≡ capped (setting_count (plan_of bs) set)) where
+    module _ (e : c ≡ (Ok tt)) (k : ℕ) (ek : k ≡ capped (setting_count (plan_of bs) set)) where
       past-lists : first_of (counting_checks (plan_of bs) set inputs coins room) ≡ and_then many-check room-check
       past-lists = past-set ∙ and_then_passed c _ e
 
-      pub check-many : 65536 < k → Refused refusal.Settings ≡ first_of (counting_checks (plan_of bs) set inputs coins room)
+      pub check-many : 65536 < k → Err refusal.Settings ≡ first_of (counting_checks (plan_of bs) set inputs coins room)
       check-many l = sym (past-lists ∙ and_then_refused many-check _ refusal.Settings (need-false refusal.Settings (settings_ok (plan_of bs) set) (over bs h pl set k ek l)))
 
       module _ (l : k ≤ 65536) (w : ℕ) (ew : w ≡ row_width (plan_of bs) set) where
@@ -148,10 +148,10 @@ module _ (bs : List ℕ) (h : Header) (pl : Planned bs h) (set : ℕ) (inputs co
             past-lists ∙ and_then_passed many-check _ (need-true refusal.Settings (settings_ok (plan_of bs) set) (few-ok bs h pl set k ek l))
             ∙ ap (λ (n : ℕ). need refusal.BufferLength (eqb room n)) (sym size_is)
 
-        pub check-room : (room ≡ width * (w * k) → ⊥) → Refused refusal.BufferLength ≡ first_of (counting_checks (plan_of bs) set inputs coins room)
+        pub check-room : (room ≡ width * (w * k) → ⊥) → Err refusal.BufferLength ≡ first_of (counting_checks (plan_of bs) set inputs coins room)
         check-room n = sym (past-many ∙ need-false refusal.BufferLength (eqb room (width * (w * k))) (ne_eqb room (width * (w * k)) n))
 
-        pub check-passed : room ≡ width * (w * k) → Passed ≡ first_of (counting_checks (plan_of bs) set inputs coins room)
+        pub check-passed : room ≡ width * (w * k) → (Ok tt) ≡ first_of (counting_checks (plan_of bs) set inputs coins room)
         check-passed q = sym (past-many ∙ need-true refusal.BufferLength (eqb room (width * (w * k))) (eq-eqb room (width * (w * k)) q))
 
 pub few-numbers : (w k : ℕ) → w ≤ 524289 → k ≤ 65536 → w * k ≤ 34359803904
@@ -166,7 +166,7 @@ size_fits w k l m = record { fits = omega (arith, few-numbers w k l m) }
 pub ruleset checking = (rules, not-true, not-false, check-set, check-lists, check-many, check-room, check-passed, numbers_fit, size_fits)
 
 -- ---- a call that passes
-module _ (plan : Plan) (set : ℕ) (inputs coins : List ℕ) (room : ℕ) (e : first_of (counting_checks plan set inputs coins room) ≡ Passed) where
+module _ (plan : Plan) (set : ℕ) (inputs coins : List ℕ) (room : ℕ) (e : first_of (counting_checks plan set inputs coins room) ≡ (Ok tt)) where
   pub passed-countable : Countable plan set inputs coins
   unfolding counting_checks member_checks list_checks first_of settings_ok
   passed-countable =

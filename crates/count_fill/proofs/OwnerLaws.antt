@@ -1,17 +1,19 @@
 -- The owners of coins as they are written, one byte a coin.
---     Repeating, repeating     the loop over one dealing's coins
+--     repeating                one dealing's coins
 --     Dealers, dealing         the loop over the dealings by parties 1 to m
 --     gating                   a gate, by its kind
 --     Owned, owning            the loop over the gates
 -- Assumes nothing.
-use Prim.Native.Nat.{ℕ, zero, suc, ◌+◌, ◌*◌, ◌^◌, ◌<◌, ◌≤◌}
+use Prim.Native.Nat.{ℕ, zero, suc, ◌+◌, ◌-◌, ◌*◌, ◌^◌, ◌<◌, ◌≤◌}
 use mathlib.Core.Path.{◌≡◌, refl, sym, ap, ap₂, subst, ◌∙◌}
 use mathlib.Core.List.{List, [], ◌∷◌, ◌++◌, flat_map, append_assoc, append-nil}
 use native.Mathlib.Numerals.{add-one}
 use native.Mathlib.Omega.{arith}
 use borrow.Author.Rules.{rules}
-use lib.ListN.{length, take, set, get_or, replicate, length-set, length-replicate, length-append, replicate-append-replicate}
-use lib.Seq.{take-suc-set, take_all, take-suc}
+use borrow.Rule.Slice.PartMut.{put_mid}
+use Rattle.std.proofs.lemmas.Slice.{take-put_mid}
+use lib.ListN.{length, take, drop, get_or, replicate, length-replicate, length-append, length-drop}
+use lib.Seq.{length-take-le, take_all, take-suc}
 use mir.Syntax.{w64}
 use mir.Val.{Fits}
 use Rattle.numbers.specs.Tables.{tab}
@@ -44,46 +46,19 @@ pub put_as : (xs ys : List ℕ) (at r : ℕ) (d e : List ℕ) → xs ≡ ys → 
 put_as xs ys at r d e q p = subst (λ (l : List ℕ). Put l at d e r) q p
 
 -- ---- one dealing
-pub record Repeating (i k at : ℕ) (d₀ d : List ℕ) (j : ℕ) : Type 0 where
-  pub within : j ≤ k
-  pub room : at + k ≤ length d₀
-  pub long : length d ≡ length d₀
-  pub front : take (at + j) d ≡ take at d₀ ++ replicate j i
-
-pub repeat-none : (i k at : ℕ) (d : List ℕ) → at + k ≤ length d → Repeating i k at d d 0
-repeat-none i k at d l =
-    let z : at + 0 ≡ at = omega arith in
-    record { within = omega arith; room = l; long = refl; front = rw z (sym (append-nil (take at d))) }
-
-module _ (i k at : ℕ) (d₀ d : List ℕ) (j : ℕ) (h : Repeating i k at d₀ d j) where
-  pub repeat_next : j < k → Repeating i k at d₀ (set d (at + j) i) (j + 1)
-  repeat_next l =
-      let q : at + (j + 1) ≡ suc (at + j) = omega arith in
-      record {
-        within = omega arith;
-        room = h.room;
-        long = length-set d (at + j) i ∙ h.long;
-        front =
-            ap (λ (n : ℕ). take n (set d (at + j) i)) q ∙ take-suc-set d (at + j) i (omega (arith, h.room, h.long))
-            ∙ ap (λ (l : List ℕ). l ++ (i ∷ [])) h.front ∙ append_assoc (take at d₀) (replicate j i) (i ∷ [])
-            ∙ ap (λ (l : List ℕ). take at d₀ ++ l) (replicate-append-replicate j 1 i);
-      }
-
-  pub repeat_inside : j < k → at + j < length d
-  repeat_inside l = omega (arith, h.room, h.long)
-
-  pub repeat_done : k ≤ j → Put (replicate k i) at d₀ d (at + k)
-  repeat_done l =
-      let q : j ≡ k = omega (arith, h.within) in
-      record { place = omega (arith, length-replicate {A = ℕ} k i); front = subst (λ (n : ℕ). take (at + n) d ≡ take at d₀ ++ replicate n i) q h.front }
+pub put_filled : (i k at : ℕ) (d ys : List ℕ) → at + k ≤ length d → ys ≡ replicate (length (take (at + k - at) (drop at d))) i → Put (replicate k i) at d (put_mid at (at + k - at) d ys) (at + k)
+put_filled i k at d ys l e =
+    let n : length (take (at + k - at) (drop at d)) ≡ k = omega (arith, length-take-le (at + k - at) (drop at d), length-drop at d) in
+    let f : ys ≡ replicate k i = e ∙ ap (λ (m : ℕ). replicate m i) n in
+    record {
+      place = omega (arith, length-replicate {A = ℕ} k i);
+      front = take-put_mid at (at + k - at) d ys (at + k) (omega (arith, ap length f, length-replicate {A = ℕ} k i)) (omega arith) ∙ ap (λ (l : List ℕ). take at d ++ l) f;
+    }
 
 pub place_fits : (at k : ℕ) (d : List ℕ) → at + k ≤ length d → length d < 2 ^ 64 → Fits w64 (at + k)
 place_fits at k d l f = record { fits = omega arith }
 
-pub step_fits : (at k j : ℕ) (d : List ℕ) → at + k ≤ length d → j < k → length d < 2 ^ 64 → Fits w64 (at + j)
-step_fits at k j d l m f = record { fits = omega arith }
-
-pub ruleset repeating = (rules, repeat-none, repeat_next, repeat_inside, repeat_done, place_fits, step_fits)
+pub ruleset repeating = (rules, put_filled, place_fits)
 
 -- ---- the dealings by parties 1 to m
 abbrev pub dealt : ℕ → ℕ → List ℕ
@@ -168,23 +143,6 @@ module _ (bs : List ℕ) (h : Header) (pl : Planned bs h) (g : ℕ) (l : g < h.g
         put_as _ _ at r d e
         (owners_of Random (dealt h.t h.n) q (random-owners (plan_of bs) ∙ ap₂ (λ (t m : ℕ). blocks t 0 m) (plan_t pl) (plan_n pl) ∙ sym (dealt_blocks h.t h.n))) p
 
-  module _ (at : ℕ) (d : List ℕ) where
-    pub put-add : (a b : ℕ) → gate ≡ Add a b → Put (coin_owners_at (plan_of bs) (gate_at bs g)) at d d at
-    unfolding coin_owners_at dealings_at flat_map
-    put-add a b q = put_as _ _ at at d d (owners_of (Add a b) [] q refl) (put-none at d)
-
-    pub put-scale : (a c : ℕ) → gate ≡ Scale a c → Put (coin_owners_at (plan_of bs) (gate_at bs g)) at d d at
-    unfolding coin_owners_at dealings_at flat_map
-    put-scale a c q = put_as _ _ at at d d (owners_of (Scale a c) [] q refl) (put-none at d)
-
-    pub put-offset : (a c : ℕ) → gate ≡ Offset a c → Put (coin_owners_at (plan_of bs) (gate_at bs g)) at d d at
-    unfolding coin_owners_at dealings_at flat_map
-    put-offset a c q = put_as _ _ at at d d (owners_of (Offset a c) [] q refl) (put-none at d)
-
-    pub put-spend : (a b : ℕ) → gate ≡ Spend a b → Put (coin_owners_at (plan_of bs) (gate_at bs g)) at d d at
-    unfolding coin_owners_at dealings_at flat_map
-    put-spend a b q = put_as _ _ at at d d (owners_of (Spend a b) [] q refl) (put-none at d)
-
 pub few-parties : (bs : List ℕ) (h : Header) → Planned bs h → h.n ≤ 15
 few-parties bs h pl = pl.n-high
 
@@ -199,10 +157,7 @@ pub ruleset gating = (
   put_input,
   put-multiply,
   put-random,
-  put-add,
-  put-scale,
-  put-offset,
-  put-spend,
+  put-none,
 )
 
 -- ---- the gates

@@ -127,34 +127,37 @@ pub row_next_size : (plan : Plan) (set v : ℕ) (inputs given owners : List ℕ)
 row_next_size plan set v inputs given owners le = record { fits = omega (arith, le.few) }
 
 -- s rows stand; `size` is a row's bytes
-pub record Filling (bs : List ℕ) (set : ℕ) (xs cs : List ℕ) (v settings size : ℕ) (coins d₀ d : List ℕ) (at s : ℕ) : Type 0 where
+pub record Filling (bs : List ℕ) (set : ℕ) (xs cs : List ℕ) (v settings size : ℕ) (coins d₀ d : List ℕ) (s : ℕ) : Type 0 where
   pub sized : size ≡ width * (v + 1)
   pub coined : length coins ≡ width * coin_count (plan_of bs)
-  pub written : Written (row_bytes (plan_of bs) set xs cs) size settings d₀ d at s
+  pub written : Written (row_bytes (plan_of bs) set xs cs) size settings d₀ d s
 
 pub fill_none :
     (bs : List ℕ) (set : ℕ) (xs cs : List ℕ) (v settings : ℕ) (coins d : List ℕ) → length coins ≡ width * coin_count (plan_of bs) → length d ≡ width * (v + 1) * settings
-    → Filling bs set xs cs v settings (width * (v + 1)) coins d d 0 0
+    → Filling bs set xs cs v settings (width * (v + 1)) coins d d 0
 fill_none bs set xs cs v settings coins d lc l = record { sized = refl; coined = lc; written = none_written (row_bytes (plan_of bs) set xs cs) (width * (v + 1)) settings d l }
 
-module _ (bs : List ℕ) (set : ℕ) (xs cs : List ℕ) (v settings size : ℕ) (coins d₀ d : List ℕ) (at s : ℕ) (f : Filling bs set xs cs v settings size coins d₀ d at s) where
-  pub row_end : s < settings → length d₀ < 2 ^ 64 → Fits w64 (at + size)
+module _ (bs : List ℕ) (set : ℕ) (xs cs : List ℕ) (v settings size : ℕ) (coins d₀ d : List ℕ) (s : ℕ) (f : Filling bs set xs cs v settings size coins d₀ d s) where
+  pub row_start : s < settings → length d₀ < 2 ^ 64 → Fits w64 (size * s)
+  row_start l m = record { fits = omega (arith, room f.written l, f.written.long) }
+
+  pub row_end : s < settings → length d₀ < 2 ^ 64 → Fits w64 (size * s + size)
   row_end l m = record { fits = omega (arith, room f.written l, f.written.long) }
 
-  pub row_here : s < settings → at + size ≤ length d
+  pub row_here : s < settings → size * s + size ≤ length d
   row_here l = room f.written l
 
-  pub row_sized : s < settings → length (take (at + size - at) (drop at d)) ≡ width * (v + 1)
+  pub row_sized : s < settings → length (take (size * s + size - size * s) (drop (size * s) d)) ≡ width * (v + 1)
   row_sized l = piece_long f.written l ∙ f.sized
 
   pub row_written :
-      (coins' ys : List ℕ) → s < settings → length coins' ≡ length coins → length ys ≡ length (take (at + size - at) (drop at d)) → ys ≡ row_bytes (plan_of bs) set xs cs s
-      → Filling bs set xs cs v settings size coins' d₀ (take at d ++ (ys ++ drop (at + size - at) (drop at d))) (at + size) (s + 1)
+      (coins' ys : List ℕ) → s < settings → length coins' ≡ length coins → length ys ≡ length (take (size * s + size - size * s) (drop (size * s) d)) → ys ≡ row_bytes (plan_of bs) set xs cs s
+      → Filling bs set xs cs v settings size coins' d₀ (take (size * s) d ++ (ys ++ drop (size * s + size - size * s) (drop (size * s) d))) (s + 1)
   row_written coins' ys l lc kept is = record { sized = f.sized; coined = lc ∙ f.coined; written = written_next f.written l ys kept is }
 
   pub rows_written : settings ≤ s → d ≡ rows_filled (plan_of bs) set xs cs settings
   unfolding rows_filled
-  rows_written l = written_done (row_bytes (plan_of bs) set xs cs) size settings d₀ d at s l f.written
+  rows_written l = written_done (row_bytes (plan_of bs) set xs cs) size settings d₀ d s l f.written
 
   pub rows_long : length d ≡ length d₀
   rows_long = f.written.long
@@ -170,6 +173,7 @@ pub ruleset filling = (
   row_size,
   row_next_size,
   fill_none,
+  row_start,
   row_end,
   row_here,
   row_sized,

@@ -9,7 +9,8 @@ use native.Mathlib.Numerals.{add-one}
 use lib.ListN.{length, take, replicate, length-map}
 use lib.Seq.{take_at, get_or_at, set_at}
 use Rattle.plan.specs.File.{same_bytes}
-use Rattle.count_rows.specs.Tables.{is_before, order_of, is_equal}
+use Rattle.std.specs.Ordering.{is_eq}
+use Rattle.count_rows.specs.Tables.{is_before, order_of}
 use Rattle.count_rows.specs.Sorts.{inserted, sorted}
 use Rattle.count_rows.specs.Merges as merges
 use Rattle.count_rows.specs.Merges.{same_view, count_of, added, merged_from, merged, flat}
@@ -64,8 +65,8 @@ module _ (v : ℕ) (x y : List ℕ) (c : ℕ) (a : length x ≡ v) (b : length y
   view-same : same_view v (x ++ (c ∷ [])) (unit y) ≡ same_bytes x y
   unfolding same_view
   view-same =
-      ap (λ (u : List ℕ). is_equal (order_of u (take v (unit y)))) (take_at x (c ∷ []) v a)
-      ∙ ap (λ (u : List ℕ). is_equal (order_of x u)) (take_at y (1 ∷ []) v b) ∙ equal_same x y
+      ap (λ (u : List ℕ). is_eq (order_of u (take v (unit y)))) (take_at x (c ∷ []) v a)
+      ∙ ap (λ (u : List ℕ). is_eq (order_of x u)) (take_at y (1 ∷ []) v b) ∙ equal_same x y
 
   view-added : added v (x ++ (c ∷ [])) (unit y) ≡ x ++ (suc c ∷ [])
   unfolding added

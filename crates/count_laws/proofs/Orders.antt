@@ -14,8 +14,9 @@ use lib.Dec.{eqb, ltb}
 use lib.ListN.{length}
 use Rattle.numbers.proofs.Truth.{both_true}
 use Rattle.plan.specs.File.{same_bytes}
-use Rattle.count_rows.specs.Tables.{is_before, order_of, is_equal}
-use Rattle.count_rows.specs.declared.Order.TheVariants.{Less, Equal, Greater}
+use Rattle.std.specs.Ordering.{is_eq}
+use Rattle.count_rows.specs.Tables.{is_before, order_of}
+use Rattle.std.specs.declared.cmp.Ordering.TheVariants.{Less, Equal, Greater}
 use Rattle.count_rows.proofs.Orders.{true-false, before_irrefl, up_antisym}
 
 pub same_refl : (xs : List ℕ) → same_bytes xs xs ≡ true
@@ -51,7 +52,7 @@ before_by xs ys false e f g =
     let q : xs ≡ ys = up_antisym xs ys g e in
     true-false (sym (ap (same_bytes xs) (sym q) ∙ same_refl xs) ∙ f)
 
-equal_by : (xs ys : List ℕ) (s a b : Bool) → same_bytes xs ys ≡ s → is_before xs ys ≡ a → is_before ys xs ≡ b → is_equal (cond a Less (cond b Greater Equal)) ≡ s
+equal_by : (xs ys : List ℕ) (s a b : Bool) → same_bytes xs ys ≡ s → is_before xs ys ≡ a → is_before ys xs ≡ b → is_eq (cond a Less (cond b Greater Equal)) ≡ s
 equal_by xs ys true true b p q r = true-false (sym q ∙ ap (is_before xs) (sym (same-eq xs ys p)) ∙ before_irrefl xs)
 equal_by xs ys true false true p q r = true-false (sym r ∙ ap (is_before ys) (same-eq xs ys p) ∙ before_irrefl ys)
 equal_by xs ys true false false p q r = refl
@@ -61,7 +62,7 @@ equal_by xs ys false false false p q r =
     let e : xs ≡ ys = up_antisym xs ys r q in
     true-false (sym (ap (same_bytes xs) (sym e) ∙ same_refl xs) ∙ p)
 
-pub equal_same : (xs ys : List ℕ) → is_equal (order_of xs ys) ≡ same_bytes xs ys
+pub equal_same : (xs ys : List ℕ) → is_eq (order_of xs ys) ≡ same_bytes xs ys
 unfolding order_of
 equal_same xs ys = equal_by xs ys (same_bytes xs ys) (is_before xs ys) (is_before ys xs) refl refl refl
 

@@ -1,7 +1,7 @@
--- Counting the views (document 02, R-13) as its caller sees it: the first refusal or none, and the lent list afterwards.
+-- Counting the views as its caller sees it: the first refusal or none, and the lent list afterwards.
 use Rattle.std.specs.Prelude.{ℕ, ◌+◌, ◌*◌, Bool, ◌&&◌, List, [], ◌∷◌, ◌++◌, eqb, leb, length}
 use Rattle.numbers.specs.Bytes.{width, numbers, bytes_of}
-use Rattle.plan.specs.declared.Checked.{Checked}
+use Rattle.plan.specs.Refusals.{Checked}
 use Rattle.plan.specs.declared.Refusal.TheVariants as refusal
 use Rattle.plan.specs.Refusals.{first_of, need}
 use Rattle.plan.specs.Plans.{Plan, input_count, kind_count}

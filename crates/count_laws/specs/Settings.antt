@@ -1,4 +1,4 @@
--- The settings of the others' coins (document 02, R-13): the members' coins stand as given, in the whole list's order, and the coins of all
+-- The settings of the others' coins: the members' coins stand as given, in the whole list's order, and the coins of all
 -- other parties run through every value.
 use Rattle.std.specs.Prelude.{ℕ, ◌/◌, ◌%◌, ◌^◌, cond, not, drop, get_or}
 use mathlib.Core.List.{List, [], ◌∷◌, flat_map}

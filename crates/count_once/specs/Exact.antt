@@ -1,4 +1,4 @@
--- A set of exactly t members (document 02, R-13).
+-- A set of exactly t members.
 use Rattle.std.specs.Prelude.{ℕ, ◌≤◌, ◌≡◌, true, length}
 use Rattle.plan.specs.Plans.{Plan}
 use Rattle.plan_coalition.specs.Coalitions.{members, set_ok}

@@ -1,11 +1,12 @@
 -- Rows of a view's numbers and a count: neighbours with the same view become one row, and the counts add up.
 use Rattle.std.specs.Prelude.{ℕ, ◌+◌, ◌-◌, ◌*◌, ◌≤◌, ◌<◌, Bool, cond, List, [], ◌∷◌, ◌++◌, length, take, drop, get_or, set, replicate}
 use Rattle.numbers.specs.Bytes.{limit}
-use Rattle.count_rows.specs.Tables.{order_of, is_equal, row}
+use Rattle.std.specs.Ordering.{is_eq}
+use Rattle.count_rows.specs.Tables.{order_of, row}
 
 -- the first v numbers are the same
 unfoldable pub same_view : ℕ → List ℕ → List ℕ → Bool
-same_view v r s = is_equal (order_of (take v r) (take v s))
+same_view v r s = is_eq (order_of (take v r) (take v s))
 
 -- number v of a row is its count
 abbrev pub count_of : ℕ → List ℕ → ℕ

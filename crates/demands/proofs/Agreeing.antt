@@ -2,6 +2,7 @@
 --     at-member                                 what holds for the list of members holds for each
 --     inputs-agree, outs-agree                  refusals 21 and 22 do not fall
 -- Assumes nothing.
+use Rattle.std.proofs.Common.{Ok}
 use Prim.Native.Nat.{ℕ, zero, suc, ◌+◌, ◌<◌, ◌≤◌}
 use mathlib.Core.Path.{◌≡◌, refl, sym, ap, ◌∙◌}
 use mathlib.Core.Bool.{Bool, true, false, cond, not, ◌&&◌, ◌||◌}
@@ -16,7 +17,6 @@ use Rattle.numbers.proofs.Truth.{both_true}
 use Rattle.plan.specs.declared.Gate.{Gate}
 use Rattle.plan.specs.declared.Gate.TheVariants.{Input, Add, Scale, Offset, Multiply, Random, Spend}
 use Rattle.plan.specs.declared.Output.{Output}
-use Rattle.plan.specs.declared.Checked.TheVariants.{Passed}
 use Rattle.plan.specs.declared.Refusal.TheVariants as refusal
 use Rattle.plan.proofs.Refusals.{found_nothing}
 use Rattle.plan.specs.Plans.{Plan, party_count, input_owners_at, input_owners, input_count, out_wires_of, out_wires, own_of, own_inputs}
@@ -106,7 +106,7 @@ module _ (plan : Plan) (valid : Valid plan) (n-high : party_count plan ≤ 16) (
       all_at P (input_owners plan) j
       (owners_from plan P plan.gates (λ g m. owners-at plan P g (get_or plan.gates g (Input 0)) (λ s low high. (low, omega arith)) (valid.gates g m))) l
 
-  pub inputs-agree : map (λ i. own_inputs plan i xs) (members set) ≡ map (λ i. own_inputs plan i ys) (members set) → inputs_agree plan set xs ys ≡ Passed
+  pub inputs-agree : map (λ i. own_inputs plan i xs) (members set) ≡ map (λ i. own_inputs plan i ys) (members set) → inputs_agree plan set xs ys ≡ Ok tt
   unfolding inputs_agree input_count own_inputs
   inputs-agree e =
       found_nothing refusal.InputsDiffer _
@@ -142,7 +142,7 @@ module _ (plan : Plan) (valid : Valid plan) (n-high : party_count plan ≤ 16) (
       let high : s ≤ party_count plan = leb-true s (party_count plan) (both_true (leb 1 s) (leb s (party_count plan)) ok).1 in
       (low, omega (arith, high, n-high))
 
-  pub outs-agree : map (granted plan xs) (members set) ≡ map (granted plan ys) (members set) → outs_agree plan set (values plan xs) (values plan ys) ≡ Passed
+  pub outs-agree : map (granted plan xs) (members set) ≡ map (granted plan ys) (members set) → outs_agree plan set (values plan xs) (values plan ys) ≡ Ok tt
   unfolding outs_agree granted out_wires
   outs-agree e =
       found_nothing refusal.OutputsDiffer _

@@ -3,6 +3,7 @@
 --     mail-is                                   the mail of every round
 --     demand2                                   the claim: the results, the bench's view byte for byte, the elements sent
 -- Assumes nothing.
+use Rattle.std.proofs.Common.{Ok}
 use Prim.Native.Nat.{ℕ, zero, suc, ◌-◌, ◌*◌, ◌<◌, ◌≤◌}
 use mathlib.Core.Path.{◌≡◌, refl, sym, ap, ap₂, ◌∙◌}
 use mathlib.Core.Logic.{◌≢◌}
@@ -17,8 +18,7 @@ use Rattle.numbers.proofs.Bytes.{length-bytes_of, bytes_of-nil, bytes_of-append}
 use Rattle.field.proofs.Inverse.{pos}
 use Rattle.sharing_laws.proofs.Alls.{all-tab}
 use Rattle.sharing_laws.proofs.Lists.{map-all, flat_map-all, flat_map-nil, flat_map-map}
-use Rattle.plan.specs.declared.Checked.{Checked}
-use Rattle.plan.specs.declared.Checked.TheVariants.{Passed}
+use Rattle.plan.specs.Refusals.{Checked}
 use Rattle.plan.specs.declared.Refusal.{Refusal}
 use Rattle.plan.specs.declared.Refusal.TheVariants as refusal
 use Rattle.plan.specs.Refusals.{need}
@@ -51,7 +51,7 @@ made a s o = record { answer = a; state = s; out = o }
 same_made : (a b : Checked) (s t o u : List ℕ) → a ≡ b → s ≡ t → o ≡ u → made a s o ≡ made b t u
 same_made a b s t o u e f g = ap (λ (x : Checked). made x s o) e ∙ ap₂ (λ (x y : List ℕ). made b x y) f g
 
-pub kept : (a : Checked) (new old : List ℕ) → a ≡ Passed → unless_refused a new old ≡ new
+pub kept : (a : Checked) (new old : List ℕ) → a ≡ Ok tt → unless_refused a new old ≡ new
 unfolding unless_refused
 kept a new old e = rw e
 
@@ -86,7 +86,7 @@ module _ (plan : Plan) (xs cs : List ℕ) where
 
   -- what a party's call number k leaves, as bytes
   unfoldable left : ℕ → ℕ → Answered
-  left k i = made Passed (bytes_of (held (suc k) i).state) (bytes_of (written plan k (held (suc k) i)))
+  left k i = made (Ok tt) (bytes_of (held (suc k) i).state) (bytes_of (written plan k (held (suc k) i)))
 
   module _ (k : ℕ) (rs : List Answered) (e : rs ≡ map (left k) (parties plan)) (i : ℕ) (l : 1 ≤ i) (m : i ≤ party_count plan) where
     left_at : answer_of i rs ≡ left k i
@@ -101,7 +101,7 @@ module _ (plan : Plan) (xs cs : List ℕ) where
     unfolding left
     left-state = ap (λ (c : Answered). c.state) left_at
 
-    left_passed : (answer_of i rs).answer ≡ Passed
+    left_passed : (answer_of i rs).answer ≡ Ok tt
     unfolding left
     left_passed = ap (λ (c : Answered). c.answer) left_at
 
@@ -125,12 +125,12 @@ module _ (plan : Plan) (xs cs : List ℕ) where
         ∙ ap bytes_of (sym (mail-parts k i))
 
 -- ---- the bench
-pub count_passes : (r : Refusal) (n : ℕ) (l : List ℕ) → length l ≡ n → need r (holds_count n (bytes_of l)) ≡ Passed
+pub count_passes : (r : Refusal) (n : ℕ) (l : List ℕ) → length l ≡ n → need r (holds_count n (bytes_of l)) ≡ Ok tt
 count_passes r n l e = need-true r (holds_count n (bytes_of l)) (count_holds n l e)
 
-pub bench_passes : (bytes : List ℕ) (set : ℕ) (xs cs : List ℕ) (room : ℕ) → plan_check bytes ≡ Passed
+pub bench_passes : (bytes : List ℕ) (set : ℕ) (xs cs : List ℕ) (room : ℕ) → plan_check bytes ≡ Ok tt
     → Inputs (plan_of bytes) xs → Coins (plan_of bytes) cs → set_ok (plan_of bytes) set ≡ true → room ≡ width * view_count (plan_of bytes) (members set)
-    → bench_answer bytes set (bytes_of xs) (bytes_of cs) room ≡ Passed
+    → bench_answer bytes set (bytes_of xs) (bytes_of cs) room ≡ Ok tt
 unfolding bench_answer run_checks plan_check
 bench_passes bytes set xs cs room passes inputs settings ok fits =
     let s : (plan_of bytes).p ≤ limit = small_prime bytes passes in
@@ -142,7 +142,7 @@ bench_passes bytes set xs cs room passes inputs settings ok fits =
     (next_passes _ _ (values_pass refusal.CoinValue (plan_of bytes).p cs s settings.small)
     (next_passes _ _ (need-true refusal.BufferLength _ (eq-eqb room (width * view_count (plan_of bytes) (members set)) fits)) first_of-nil))))))
 
-pub view-written : (bytes : List ℕ) (set : ℕ) (xs cs out : List ℕ) → plan_check bytes ≡ Passed
+pub view-written : (bytes : List ℕ) (set : ℕ) (xs cs out : List ℕ) → plan_check bytes ≡ Ok tt
     → Inputs (plan_of bytes) xs → Coins (plan_of bytes) cs → set_ok (plan_of bytes) set ≡ true → length out ≡ width * view_count (plan_of bytes) (members set)
     → view_after bytes set (bytes_of xs) (bytes_of cs) out ≡ bytes_of (view (plan_of bytes) (members set) xs cs [])
 unfolding view_after
@@ -157,7 +157,7 @@ module _ (bytes xs cs : List ℕ) (lent : ℕ → ℕ → List ℕ) (is-bytes : 
   abbrev plan : Plan
   plan = plan_of bytes
 
-  passes : plan_check bytes ≡ Passed
+  passes : plan_check bytes ≡ Ok tt
   passes = given.passes
 
   few : plan.p ≤ limit
@@ -207,7 +207,7 @@ module _ (bytes xs cs : List ℕ) (lent : ℕ → ℕ → List ℕ) (is-bytes : 
   step k i l from1 upto out fits =
       let a = (runs_right bytes xs cs is-bytes given).accepted k i l from1 upto (length out) fits in
       let c = call-is k i l from1 upto in
-      same_made _ Passed _ _ _ _ a
+      same_made _ (Ok tt) _ _ _ _ a
       (kept _ _ (bytes_of (held plan xs cs k i).state) a ∙ ap (λ (d : Called). bytes_of d.state) c)
       (kept _ _ out a
       ∙ ap₂ (λ (m : ℕ) (d : Called). bytes_of (written plan m d)) (ap (λ (s : List ℕ). get_or s 0 0) (state-read k i l from1 upto) ∙ numbered k i from1 upto l) c)

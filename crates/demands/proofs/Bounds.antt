@@ -1,5 +1,6 @@
 -- How many of everything a plan that passes has.
 -- Assumes nothing.
+use Rattle.std.proofs.Common.{Ok}
 use Prim.Native.Nat.{ℕ, zero, suc, ◌+◌, ◌*◌, ◌≤◌, ◌<◌}
 use mathlib.Core.Path.{◌≡◌}
 use mathlib.Core.Logic.{◌⊎◌, ⊎_elim}
@@ -12,7 +13,6 @@ use lib.ListN.{length}
 use Rattle.numbers.specs.Tables.{count_where}
 use Rattle.numbers.proofs.Tables.{length-tab}
 use Rattle.numbers.proofs.Counts.{count_where-le-length}
-use Rattle.plan.specs.declared.Checked.TheVariants.{Passed}
 use Rattle.plan.specs.declared.Gate.{Gate}
 use Rattle.plan.specs.declared.Gate.TheVariants.{Input, Add, Scale, Offset, Multiply, Random, Spend}
 use Rattle.plan.specs.declared.Step.{Step}
@@ -39,7 +39,7 @@ kinds-apart (Multiply a b ∷ gs) = omega (arith, kinds-apart gs)
 kinds-apart (Random ∷ gs) = omega (arith, kinds-apart gs)
 kinds-apart (Spend a b ∷ gs) = omega (arith, kinds-apart gs)
 
-module _ (bs : List ℕ) (passes : plan_check bs ≡ Passed) where
+module _ (bs : List ℕ) (passes : plan_check bs ≡ Ok tt) where
   pub laid_out : Laid bs
   laid_out = laid bs (passing bs passes).layout
 

@@ -2,6 +2,7 @@
 --     split_at            the checks before the one that refuses, by their numbers
 --     first_broken        the claim
 -- Assumes nothing.
+use Rattle.std.proofs.Common.{Option, Some, None, Ok, Err}
 use Prim.Native.Nat.{ℕ, zero, suc, ◌+◌, ◌*◌, ◌<◌}
 use mathlib.Core.Path.{◌≡◌, refl, sym, ◌∙◌}
 use mathlib.Core.Logic.{◌↔◌}
@@ -11,8 +12,6 @@ use native.Mathlib.Omega.{arith}
 use borrow.Author.Tests.{eq-eqb, ltb-true, ltb-false}
 use lib.Dec.{eqb, ltb}
 use lib.ListN.{length, get_or, take, drop, get_or-eq_default}
-use Rattle.numbers.specs.declared.Found.{Found}
-use Rattle.numbers.specs.declared.Found.TheVariants.{At, Nothing}
 use Rattle.numbers.specs.Bytes.{numbers, first_over, all_below}
 use Rattle.numbers.proofs.Tables.{length-tab}
 use Rattle.numbers.proofs.Below.{all_below_at, all_below-tab, first_over-nothing}
@@ -22,8 +21,7 @@ use Rattle.sharing_laws.specs.OffLine.{OnOne, OffAt}
 use Rattle.sharing_laws.proofs.OffLine.{off-line}
 use Rattle.plan.specs.declared.Refusal.{Refusal}
 use Rattle.plan.specs.declared.Refusal.TheVariants as refusal
-use Rattle.plan.specs.declared.Checked.{Checked}
-use Rattle.plan.specs.declared.Checked.TheVariants.{Passed, Refused}
+use Rattle.plan.specs.Refusals.{Checked}
 use Rattle.plan.specs.Refusals.{number_of, place_of, and_then, first_of, unless_found}
 use Rattle.plan.proofs.Refusals.{first_of-append, and_then_end, passed_both, passed_found, FirstRefused, first_refused}
 use Rattle.plan.specs.Plans.{Plan, party_count, last_call, own_out_count}
@@ -32,7 +30,7 @@ use Rattle.plan.proofs.Valid.{Valid, valid}
 use Rattle.seat_messages.specs.Messages.{from_each}
 use Rattle.seat_messages.specs.Calls.{on_polynomial, outs_check, opening_check, party_checks, call_checks, call_answer}
 use Rattle.demands.specs.Further.{shares_in, Broken, FirstBroken}
-use Rattle.demands.proofs.First.{clash, same_number, same_place, Numbered, Numbers, ◌▹◌, joined, plan_numbers, plan-numbers, party_numbers, party-numbers, first_passed}
+use Rattle.demands.proofs.First.{clash, same_number, same_place, Numbers, ◌▹◌, joined, plan_numbers, plan-numbers, party_numbers, party-numbers, first_passed}
 
 -- ---- the checks before the one that refuses
 is_in : ℕ → List ℕ → Bool
@@ -47,19 +45,19 @@ not_first n m true rest e h = absurd (true≢false h)
 not_first n m false rest e h = (λ q. true≢false (sym (eq-eqb m n q) ∙ e), h)
 
 -- where the first k checks have other numbers than the refusal, they pass
-split_at : (k : ℕ) (ns : List ℕ) (cs : List Checked) → Numbers ns cs → (r : Refusal) → is_in (number_of r) (take k ns) ≡ false → first_of cs ≡ Refused r
-    → (first_of (take k cs) ≡ Passed) × (first_of (drop k cs) ≡ Refused r)
+split_at : (k : ℕ) (ns : List ℕ) (cs : List Checked) → Numbers ns cs → (r : Refusal) → is_in (number_of r) (take k ns) ≡ false → first_of cs ≡ Err r
+    → (first_of (take k cs) ≡ Ok tt) × (first_of (drop k cs) ≡ Err r)
 unfolding first_of and_then is_in
 split_at (suc k) [] (_ ∷ cs) h r none e = elim h [ ]
 split_at (suc k) (n ∷ ns) [] h r none e = elim h [ ]
 split_at zero ns cs h r none e = (refl, e)
 split_at (suc k) [] [] h r none e = clash r e
-split_at (suc k) (n ∷ ns) (Passed ∷ cs) (◌▹◌ c h) r none e =
+split_at (suc k) (n ∷ ns) ((Ok tt) ∷ cs) (◌▹◌ c h) r none e =
     split_at k ns cs h r (not_first (number_of r) n (eqb n (number_of r)) (is_in (number_of r) (take k ns)) refl none).1 e
-split_at (suc k) (n ∷ ns) (Refused s ∷ cs) (◌▹◌ c h) r none e =
+split_at (suc k) (n ∷ ns) (Err s ∷ cs) (◌▹◌ c h) r none e =
     absurd ((not_first (number_of r) n (eqb n (number_of r)) (is_in (number_of r) (take k ns)) refl none).0 (sym (c.is s refl) ∙ same_number s r e))
 
-cond_refused : (b : Bool) (c : Checked) (r : Refusal) → cond b c Passed ≡ Refused r → c ≡ Refused r
+cond_refused : (b : Bool) (c : Checked) (r : Refusal) → cond b c (Ok tt) ≡ Err r → c ≡ Err r
 cond_refused true c r e = e
 cond_refused false c r e = clash r e
 
@@ -69,12 +67,12 @@ below_by p xs i pos h true e = all_below_at p xs i h (ltb-true i (length xs) e)
 below_by p xs i pos h false e = rw (get_or-eq_default xs 0 {n = i} (ltb-false i (length xs) e)) pos
 
 module _ (plan : Plan) (ok : Valid plan) (i : ℕ) (mail : List ℕ) (below : all_below plan.p mail ≡ true) where
-  off : ℕ → Found
+  off : ℕ → Option ℕ
   off j = first_off plan.p plan.t plan.points (shares_in plan i mail j)
 
   law : (j : ℕ)
-      → ((s : ℕ) → (off j ≡ At s) ↔ OffAt plan.p plan.t plan.points (shares_in plan i mail j) s)
-      × ((off j ≡ Nothing) ↔ OnOne plan.p plan.t plan.points (shares_in plan i mail j))
+      → ((s : ℕ) → (off j ≡ Some s) ↔ OffAt plan.p plan.t plan.points (shares_in plan i mail j) s)
+      × ((off j ≡ None) ↔ OnOne plan.p plan.t plan.points (shares_in plan i mail j))
   unfolding off from_each party_count
   law j =
       off-line plan.p plan.t plan.points (shares_in plan i mail j) ok.prime ok.distinct (omega (arith, ok.threshold))
@@ -82,12 +80,12 @@ module _ (plan : Plan) (ok : Valid plan) (i : ℕ) (mail : List ℕ) (below : al
       (all_below-tab plan.p (λ s. get_or mail (own_out_count plan i * s + j) 0) (length plan.points)
       (λ s l. below_by plan.p mail (own_out_count plan i * s + j) (pos ok.prime) below (ltb (own_out_count plan i * s + j) (length mail)) refl))
 
-  told : (place : ℕ) (f : Found) → unless_found (λ s. refusal.OffPolynomial (s + 1)) f ≡ Refused (refusal.OffPolynomial place) → (s : ℕ) × (f ≡ At s) × (place ≡ s + 1)
+  told : (place : ℕ) (f : Option ℕ) → unless_found (λ s. refusal.OffPolynomial (s + 1)) f ≡ Err (refusal.OffPolynomial place) → (s : ℕ) × (f ≡ Some s) × (place ≡ s + 1)
   unfolding unless_found place_of
-  told place (At s) e = (s, refl, sym (same_place (refusal.OffPolynomial (s + 1)) (refusal.OffPolynomial place) e))
-  told place Nothing e = clash (refusal.OffPolynomial place) e
+  told place (Some s) e = (s, refl, sym (same_place (refusal.OffPolynomial (s + 1)) (refusal.OffPolynomial place) e))
+  told place None e = clash (refusal.OffPolynomial place) e
 
-  outs-broken : (place : ℕ) → outs_check plan i mail ≡ Refused (refusal.OffPolynomial place) → Broken plan i mail place
+  outs-broken : (place : ℕ) → outs_check plan i mail ≡ Err (refusal.OffPolynomial place) → Broken plan i mail place
   unfolding outs_check on_polynomial off
   outs-broken place e =
       let w : FirstRefused (λ j. on_polynomial plan.p plan.t plan.points (shares_in plan i mail j)) (own_out_count plan i) (refusal.OffPolynomial place) =
@@ -104,14 +102,14 @@ module _ (plan : Plan) (ok : Valid plan) (i : ℕ) (mail : List ℕ) (below : al
 
 -- ---- a call that is refused with 20
 module _ (bytes : List ℕ) (i : ℕ) (inputs coins state mail : List ℕ) (room place : ℕ)
-    (e : call_answer bytes i inputs coins state mail room ≡ Refused (refusal.OffPolynomial place)) where
-  parts : (first_of (take 21 (call_checks bytes i inputs coins state mail room)) ≡ Passed) × (first_of (drop 21 (call_checks bytes i inputs coins state mail room)) ≡ Refused (refusal.OffPolynomial place))
+    (e : call_answer bytes i inputs coins state mail room ≡ Err (refusal.OffPolynomial place)) where
+  parts : (first_of (take 21 (call_checks bytes i inputs coins state mail room)) ≡ Ok tt) × (first_of (drop 21 (call_checks bytes i inputs coins state mail room)) ≡ Err (refusal.OffPolynomial place))
   unfolding call_answer call_checks number_of is_in
   parts =
       split_at 21 (plan_numbers ++ party_numbers) (call_checks bytes i inputs coins state mail room)
       (joined (plan-numbers bytes) (party-numbers (plan_of bytes) i inputs coins state mail room)) (refusal.OffPolynomial place) refl e
 
-  passes : plan_check bytes ≡ Passed
+  passes : plan_check bytes ≡ Ok tt
   unfolding call_checks plan_check plan_checks party_checks
   passes = (passed_both (first_of (plan_checks bytes)) _ (sym (first_of-append (plan_checks bytes) (take 11 (party_checks (plan_of bytes) i inputs coins state mail room))) ∙ parts.0)).0
 
@@ -121,7 +119,7 @@ module _ (bytes : List ℕ) (i : ℕ) (inputs coins state mail : List ℕ) (room
       first_over-nothing (plan_of bytes).p (numbers mail)
       (passed_found refusal.MailValue (first_over (plan_of bytes).p (numbers mail)) (first_passed (take 21 (call_checks bytes i inputs coins state mail room)) parts.0 19))
 
-  opening : opening_check (plan_of bytes) i (get_or (numbers state) 0 0) (numbers mail) ≡ Refused (refusal.OffPolynomial place)
+  opening : opening_check (plan_of bytes) i (get_or (numbers state) 0 0) (numbers mail) ≡ Err (refusal.OffPolynomial place)
   unfolding call_checks plan_checks party_checks first_of
   opening = sym (and_then_end (opening_check (plan_of bytes) i (get_or (numbers state) 0 0) (numbers mail))) ∙ parts.1
 

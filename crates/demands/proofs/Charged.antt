@@ -2,13 +2,13 @@
 --     shared            a bill's parts, for any list
 --     charged_right     the claim
 -- Assumes nothing.
+use Rattle.std.proofs.Common.{Ok}
 use Prim.Native.Nat.{ℕ, ◌≤◌, ◌<◌}
 use mathlib.Core.Path.{◌≡◌, refl, ◌∙◌}
 use mathlib.Core.List.{List}
 use native.Mathlib.Omega.{arith}
 use lib.ListN.{length, get_or}
 use Rattle.numbers.specs.Tables.{total}
-use Rattle.plan.specs.declared.Checked.TheVariants.{Passed}
 use Rattle.plan.specs.Plans.{sent_count}
 use Rattle.plan.specs.File.{plan_check, plan_of}
 use Rattle.plan.proofs.Valid.{valid}
@@ -33,7 +33,7 @@ shared bill es l = record {
   lower = more-lower bill es l;
 }
 
-module _ (bytes : List ℕ) (passes : plan_check bytes ≡ Passed) where
+module _ (bytes : List ℕ) (passes : plan_check bytes ≡ Ok tt) where
   all : total (elements (plan_of bytes)) ≡ sent_count (plan_of bytes)
   all = elements-sent (plan_of bytes) (valid bytes passes)
 

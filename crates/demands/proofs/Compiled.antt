@@ -1,20 +1,19 @@
 -- A formula sheet that compiles: its plan passes, and what it grants to the result's party is the formula's value.
 --     compiled     the claim
 -- Assumes nothing.
-use Prim.Native.Nat.{ℕ, zero, suc, ◌+◌, ◌*◌, ◌<◌, ◌≤◌}
+use Rattle.std.proofs.Common.{Ok}
+use Prim.Native.Nat.{ℕ, ◌*◌, ◌≤◌}
 use mathlib.Core.Path.{◌≡◌, refl, sym, ap, ◌∙◌}
 use mathlib.Core.Bool.{true, ◌&&◌}
 use mathlib.Core.List.{List, [], ◌∷◌, map}
 use native.Mathlib.Omega.{arith}
 use borrow.Author.Tests.{leb-true}
-use lib.Dec.{leb, ltb}
+use lib.Dec.{ltb}
 use lib.ListN.{length, drop}
 use Rattle.numbers.specs.Bytes.{width, bytes_of, all_below}
 use Rattle.numbers.proofs.Truth.{both_true}
-use Rattle.plan.specs.declared.Output.{Output}
-use Rattle.plan.specs.declared.Checked.TheVariants.{Passed}
 use Rattle.plan.specs.declared.Refusal.TheVariants as refusal
-use Rattle.plan.specs.Refusals.{first_of, need}
+use Rattle.plan.specs.Refusals.{first_of}
 use Rattle.plan.specs.Plans.{Plan, last_call, own_of, own_inputs, written_count}
 use Rattle.plan.specs.File.{between, out_ok, plan_check, plan_of}
 use Rattle.plan.proofs.Refusals.{first_of-append, passed_both, passed-need}
@@ -26,24 +25,24 @@ use Rattle.run_protocol.specs.Settings.{Inputs, Coins}
 use Rattle.seat_messages.specs.Calls.{unless_refused}
 use Rattle.sheet_text.specs.Trees.{party_of, names_of, formula_value}
 use Rattle.sheet_text.specs.Making.{sheet_tree, sheet_ok, tree_made, bodies_with, tree_bodies}
-use Rattle.sheet_text.proofs.Proper.{Below, some_name, sheet_below, tree-value, tree-others}
+use Rattle.sheet_text.proofs.Proper.{Below, sheet_below, tree-value, tree-others}
 use Rattle.sheet_text.proofs.Sound.{made_count, made-own}
 use Rattle.sheet_call.specs.Compiling.{sheet_bodies, sheet_file, text_checks, sheet_checks, sheet_answer, sheet_after}
 use Rattle.sheet_call.proofs.Calls.{names-some, sheet-wired}
 use Rattle.demands.specs.Sheets.{named_figures, SameValue, Compiled}
 use Rattle.demands.specs.Apart as apart
-use Rattle.demands.proofs.Written.{parties, prime, sound, plan-is, is-bytes, results}
+use Rattle.demands.proofs.Written.{prime, sound, plan-is, is-bytes, results}
 
 own_named : (j : ℕ) (names xs : List ℕ) → own_of j (map party_of names) xs ≡ named_figures j names xs
 unfolding own_of named_figures
 own_named j [] xs = refl
 own_named j (x ∷ names) xs = rw (own_named j names (drop 1 xs))
 
-module _ (n t p i : ℕ) (text : List ℕ) (room : ℕ) (answers : sheet_answer n t p i text room ≡ Passed) where
+module _ (n t p i : ℕ) (text : List ℕ) (room : ℕ) (answers : sheet_answer n t p i text room ≡ Ok tt) where
   record Checks : Type 0 where
     kept : sheet_ok n p text ≡ true
     few : length (sheet_bodies n p i text).gates ≤ 1024
-    plan : plan_check (file_of_plan n t p (sheet_bodies n p i text)) ≡ Passed
+    plan : plan_check (file_of_plan n t p (sheet_bodies n p i text)) ≡ Ok tt
 
   checks : Checks
   unfolding sheet_answer sheet_checks text_checks first_of plan_check sheet_file

@@ -2,6 +2,7 @@
 --     match-passes, match-written               the call of the matching
 --     demand3                                   the claim
 -- Assumes nothing.
+use Rattle.std.proofs.Common.{Ok}
 use Prim.Native.Nat.{ℕ, ◌*◌, ◌≤◌}
 use mathlib.Core.Path.{◌≡◌, sym, ap, ap₂, ◌∙◌}
 use mathlib.Core.Bool.{true}
@@ -10,7 +11,6 @@ use native.Mathlib.Omega.{arith}
 use borrow.Author.Tests.{eq-eqb}
 use lib.ListN.{length}
 use Rattle.numbers.specs.Bytes.{width, limit, numbers, bytes_of, all_below}
-use Rattle.plan.specs.declared.Checked.TheVariants.{Passed}
 use Rattle.plan.specs.declared.Refusal.TheVariants as refusal
 use Rattle.plan.proofs.Refusals.{first_of-nil, need-true, next_passes, both_pass}
 use Rattle.plan.specs.Plans.{party_count, input_count, coin_count, own_coins}
@@ -25,7 +25,7 @@ use Rattle.run_bench.specs.BenchCalls.{bench_answer, view_after}
 use Rattle.match_privacy.specs.Matching.{matched_coins}
 use Rattle.match_privacy.specs.Bijections as Bijections
 use Rattle.match_agreement.specs.MatchCalls.{pair_checks, inputs_agree, outs_agree, match_answer, matched_after}
-use Rattle.demands.specs.Demands.{Alike, SameBytes, Private, Demand3}
+use Rattle.demands.specs.Demands.{Alike, SameBytes, Demand3}
 use Rattle.demands.proofs.Second.{small_prime}
 use Rattle.demands.proofs.Third.{runs_private}
 use Rattle.demands.proofs.Apart.{kept, count_passes, bench_passes, view-written}
@@ -33,7 +33,7 @@ use Rattle.demands.proofs.Bounds.{parties-few}
 use Rattle.demands.proofs.Agreeing.{inputs-agree, outs-agree}
 
 module _ (bytes : List ℕ) (set : ℕ) (xs ys : List ℕ) (is-bytes : all_below 256 bytes ≡ true) (alike : Alike bytes set xs ys) (c : List ℕ) (settings : Coins (plan_of bytes) c) where
-  passes : plan_check bytes ≡ Passed
+  passes : plan_check bytes ≡ Ok tt
   passes = alike.passes
 
   read_first : numbers (bytes_of xs) ≡ xs
@@ -45,7 +45,7 @@ module _ (bytes : List ℕ) (set : ℕ) (xs ys : List ℕ) (is-bytes : all_below
   read-coins : numbers (bytes_of c) ≡ c
   read-coins = back (plan_of bytes).p c (small_prime bytes passes) settings.small
 
-  match-passes : (room : ℕ) → room ≡ width * coin_count (plan_of bytes) → match_answer bytes set (bytes_of xs) (bytes_of ys) (bytes_of c) room ≡ Passed
+  match-passes : (room : ℕ) → room ≡ width * coin_count (plan_of bytes) → match_answer bytes set (bytes_of xs) (bytes_of ys) (bytes_of c) room ≡ Ok tt
   unfolding match_answer pair_checks plan_check
   match-passes room fits =
       let s : (plan_of bytes).p ≤ limit = small_prime bytes passes in
@@ -98,7 +98,7 @@ demand3 bytes set xs ys is-bytes alike =
       answers = λ c out s fits. match-passes bytes set xs ys is-bytes alike c s (length out) fits;
       writes = λ c out s fits. match-written bytes set xs ys is-bytes alike c s out fits;
       among = λ own c s e. (v.full c s, v.keeps c s ∙ e);
-      one_to-one = v.one_to-one;
+      one_to_one = v.one_to_one;
       onto = λ own d s e.
           let o = v.onto d s in
           (o.0, o.1, sym (v.keeps o.0 o.1) ∙ ap (λ (c : List ℕ). map (λ i. own_coins (plan_of bytes) i c) (members set)) o.2 ∙ e, o.2);

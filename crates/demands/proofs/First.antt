@@ -3,6 +3,7 @@
 --     Bounded, told                             places below 2^32
 --     demand1                                   the claim
 -- Assumes nothing.
+use Rattle.std.proofs.Common.{Option, Some, None, Ok, Err}
 use Prim.Native.Nat.{ℕ, zero, suc, ◌+◌, ◌*◌, ◌/◌, ◌%◌, ◌<◌, ◌≤◌}
 use mathlib.Core.Path.{◌≡◌, refl, sym, ap, ◌∙◌}
 use mathlib.Core.Bool.{Bool, true, false, cond, ◌&&◌}
@@ -11,8 +12,6 @@ use native.Mathlib.Omega.{arith}
 use borrow.Author.Tests.{leb-true}
 use lib.Dec.{eqb, leb}
 use lib.ListN.{length, get_or}
-use Rattle.numbers.specs.declared.Found.{Found}
-use Rattle.numbers.specs.declared.Found.TheVariants.{At, Nothing}
 use Rattle.numbers.specs.Tables.{tab, first_failing}
 use Rattle.numbers.specs.Bytes.{numbers, holds_count, first_over}
 use Rattle.numbers.proofs.Truth.{both_true}
@@ -22,8 +21,7 @@ use Rattle.numbers.proofs.Bytes.{holds-numbers}
 use Rattle.sharing_laws.proofs.OffLine.{off_within}
 use Rattle.plan.specs.declared.Refusal.{Refusal}
 use Rattle.plan.specs.declared.Refusal.TheVariants as refusal
-use Rattle.plan.specs.declared.Checked.{Checked}
-use Rattle.plan.specs.declared.Checked.TheVariants.{Passed, Refused}
+use Rattle.plan.specs.Refusals.{Checked}
 use Rattle.plan.specs.Refusals.{number_of, place_of, code_of, and_then, first_of, need, unless_found}
 use Rattle.plan.proofs.Refusals.{first_of-append, passed_both, passed-need, first_refused}
 use Rattle.plan.specs.Plans.{Plan, party_count, last_call, input_count, own_input_count, coin_count, own_coin_count, own_out_count, mail_count, sent_count}
@@ -51,37 +49,27 @@ use Rattle.demands.proofs.Bounds.{outs_few, parties-few, inputs_few, own_few, ow
 infixr 5 ◌▹◌
 infixr 5 ◌▸◌
 -- ---- a check's number
-refused? : Checked → ℕ
-refused? Passed = 0
-refused? (Refused r) = 1
+pub clash : {A : Type 0} (q : Refusal) → ◌≡◌ {A = Checked} (Ok tt) (Err q) → A
+clash q e = absurd cc
 
-numbered : Checked → ℕ
-numbered Passed = 0
-numbered (Refused r) = number_of r
-
-pub clash : {A : Type 0} (q : Refusal) → Passed ≡ Refused q → A
-unfolding refused?
-clash q e = absurd (let z : ◌≡◌ {A = ℕ} 0 1 = ap refused? e in omega (arith, z))
-
-pub same_number : (r q : Refusal) → Refused r ≡ Refused q → number_of r ≡ number_of q
-unfolding numbered
-same_number r q e = ap numbered e
+pub same_number : (r q : Refusal) → ◌≡◌ {A = Checked} (Err r) (Err q) → number_of r ≡ number_of q
+same_number r q e = cc
 
 -- where this check refuses, its number is n
 pub record Numbered (n : ℕ) (c : Checked) : Type 0 where
-  pub is : (q : Refusal) → c ≡ Refused q → number_of q ≡ n
+  pub is : (q : Refusal) → c ≡ Err q → number_of q ≡ n
 
 need_number : (r : Refusal) (ok : Bool) → Numbered (number_of r) (need r ok)
 unfolding need
 need_number r true = record { is = λ q e. clash q e }
 need_number r false = record { is = λ q e. sym (same_number r q e) }
 
-found_number : (r : ℕ → Refusal) (n : ℕ) (f : Found) → ((i : ℕ) → number_of (r i) ≡ n) → Numbered n (unless_found r f)
+found_number : (r : ℕ → Refusal) (n : ℕ) (f : Option ℕ) → ((i : ℕ) → number_of (r i) ≡ n) → Numbered n (unless_found r f)
 unfolding unless_found
-found_number r n (At i) h = record { is = λ q e. sym (same_number (r i) q e) ∙ h i }
-found_number r n Nothing h = record { is = λ q e. clash q e }
+found_number r n (Some i) h = record { is = λ q e. sym (same_number (r i) q e) ∙ h i }
+found_number r n None h = record { is = λ q e. clash q e }
 
-cond_number : (n : ℕ) (b : Bool) (c : Checked) → Numbered n c → Numbered n (cond b c Passed)
+cond_number : (n : ℕ) (b : Bool) (c : Checked) → Numbered n c → Numbered n (cond b c (Ok tt))
 cond_number n true c h = h
 cond_number n false c h = record { is = λ q e. clash q e }
 
@@ -104,7 +92,7 @@ ordered [] = true
 ordered (n ∷ ns) = before n ns && ordered ns
 
 ranked-after : (n : ℕ) {ns : List ℕ} {cs : List Checked} → before n ns ≡ true → Numbers ns cs
-    → (k : ℕ) (q : Refusal) → get_or cs k Passed ≡ Refused q → rank_in checking_order n ≤ rank_of q
+    → (k : ℕ) (q : Refusal) → get_or cs k (Ok tt) ≡ Err q → rank_in checking_order n ≤ rank_of q
 unfolding before rank_of
 ranked-after n b none k q e = clash q e
 ranked-after n {ns = m ∷ ms} b (c ▹ cs) zero q e =
@@ -113,27 +101,27 @@ ranked-after n {ns = m ∷ ms} b (c ▹ cs) zero q e =
 ranked-after n {ns = m ∷ ms} b (c ▹ cs) (suc k) q e =
     ranked-after n (both_true (leb (rank_in checking_order n) (rank_in checking_order m)) (before n ms) b).1 cs k q e
 
-pub first_passed : (cs : List Checked) → first_of cs ≡ Passed → (k : ℕ) → get_or cs k Passed ≡ Passed
+pub first_passed : (cs : List Checked) → first_of cs ≡ Ok tt → (k : ℕ) → get_or cs k (Ok tt) ≡ Ok tt
 unfolding first_of and_then
 first_passed [] e k = refl
-first_passed (Passed ∷ cs) e zero = refl
-first_passed (Passed ∷ cs) e (suc k) = first_passed cs e k
-first_passed (Refused r ∷ cs) e k = clash r (sym e)
+first_passed ((Ok tt) ∷ cs) e zero = refl
+first_passed ((Ok tt) ∷ cs) e (suc k) = first_passed cs e k
+first_passed (Err r ∷ cs) e k = clash r (sym e)
 
-first_among : (cs : List Checked) (r : Refusal) → first_of cs ≡ Refused r → (k : ℕ) × (k < length cs) × (get_or cs k Passed ≡ Refused r)
+first_among : (cs : List Checked) (r : Refusal) → first_of cs ≡ Err r → (k : ℕ) × (k < length cs) × (get_or cs k (Ok tt) ≡ Err r)
 unfolding first_of and_then
 first_among [] r e = clash r e
-first_among (Passed ∷ cs) r e = let o = first_among cs r e in (suc o.0, omega (arith, o.1), o.2)
-first_among (Refused q ∷ cs) r e = (0, omega arith, e)
+first_among ((Ok tt) ∷ cs) r e = let o = first_among cs r e in (suc o.0, omega (arith, o.1), o.2)
+first_among (Err q ∷ cs) r e = (0, omega arith, e)
 
-first_ranked : {ns : List ℕ} (cs : List Checked) → Numbers ns cs → ordered ns ≡ true → (r : Refusal) → first_of cs ≡ Refused r
-    → (k : ℕ) (q : Refusal) → get_or cs k Passed ≡ Refused q → rank_of r ≤ rank_of q
+first_ranked : {ns : List ℕ} (cs : List Checked) → Numbers ns cs → ordered ns ≡ true → (r : Refusal) → first_of cs ≡ Err r
+    → (k : ℕ) (q : Refusal) → get_or cs k (Ok tt) ≡ Err q → rank_of r ≤ rank_of q
 unfolding first_of and_then ordered rank_of
 first_ranked [] none o r e k q h = clash r e
-first_ranked (Passed ∷ cs) (c ▹ ns) o r e zero q h = clash q h
-first_ranked {ns = n ∷ ms} (Passed ∷ cs) (c ▹ ns) o r e (suc k) q h = first_ranked cs ns (both_true (before n ms) (ordered ms) o).1 r e k q h
-first_ranked (Refused s ∷ cs) (c ▹ ns) o r e zero q h = rw (← same_number s r e, ← same_number s q h) (omega arith)
-first_ranked {ns = n ∷ ms} (Refused s ∷ cs) (c ▹ ns) o r e (suc k) q h =
+first_ranked ((Ok tt) ∷ cs) (c ▹ ns) o r e zero q h = clash q h
+first_ranked {ns = n ∷ ms} ((Ok tt) ∷ cs) (c ▹ ns) o r e (suc k) q h = first_ranked cs ns (both_true (before n ms) (ordered ms) o).1 r e k q h
+first_ranked (Err s ∷ cs) (c ▹ ns) o r e zero q h = rw (← same_number s r e, ← same_number s q h) (omega arith)
+first_ranked {ns = n ∷ ms} (Err s ∷ cs) (c ▹ ns) o r e (suc k) q h =
     let m : number_of r ≡ n = sym (same_number s r e) ∙ c.is s refl in
     rw m (ranked-after n (both_true (before n ms) (ordered ms) o).0 ns k q h)
 
@@ -175,45 +163,40 @@ number_range (refusal.OffPolynomial o) = (omega arith, omega arith)
 number_range (refusal.InputsDiffer i) = (omega arith, omega arith)
 number_range (refusal.OutputsDiffer o) = (omega arith, omega arith)
 
-placed : Checked → ℕ
-placed Passed = 0
-placed (Refused r) = place_of r
-
-pub same_place : (r q : Refusal) → Refused r ≡ Refused q → place_of r ≡ place_of q
-unfolding placed
-same_place r q e = ap placed e
+pub same_place : (r q : Refusal) → ◌≡◌ {A = Checked} (Err r) (Err q) → place_of r ≡ place_of q
+same_place r q e = cc
 
 -- where this check refuses, its place is below 2^32
 abbrev Small : Checked → Type 0
-Small c = (q : Refusal) → c ≡ Refused q → place_of q < 4294967296
+Small c = (q : Refusal) → c ≡ Err q → place_of q < 4294967296
 
 need_small : (r : Refusal) (ok : Bool) → place_of r ≡ 0 → Small (need r ok)
 unfolding need
 need_small r true z q e = clash q e
 need_small r false z q e = omega (arith, z, same_place r q e)
 
-found_below : (r : ℕ → Refusal) (f : Found) → ((i : ℕ) → f ≡ At i → place_of (r i) < 4294967296) → Small (unless_found r f)
+found_below : (r : ℕ → Refusal) (f : Option ℕ) → ((i : ℕ) → f ≡ Some i → place_of (r i) < 4294967296) → Small (unless_found r f)
 unfolding unless_found
-found_below r (At i) l q e = omega (arith, l i refl, same_place (r i) q e)
-found_below r Nothing l q e = clash q e
+found_below r (Some i) l q e = omega (arith, l i refl, same_place (r i) q e)
+found_below r None l q e = clash q e
 
-found_small : (r : ℕ → Refusal) (f : Found) → ((i : ℕ) → place_of (r i) ≡ i) → ((i : ℕ) → f ≡ At i → i < 4294967296) → Small (unless_found r f)
+found_small : (r : ℕ → Refusal) (f : Option ℕ) → ((i : ℕ) → place_of (r i) ≡ i) → ((i : ℕ) → f ≡ Some i → i < 4294967296) → Small (unless_found r f)
 found_small r f z l = found_below r f (λ i e. omega (arith, z i, l i e))
 
 each_small : (check : ℕ → Checked) (n : ℕ) → ((k : ℕ) → Small (check k)) → Small (first_of (tab check n))
 each_small check n h q e = let o = first_refused check n q e in h o.at q o.refuses
 
-cond_small : (b : Bool) (c : Checked) → Small c → Small (cond b c Passed)
+cond_small : (b : Bool) (c : Checked) → Small c → Small (cond b c (Ok tt))
 cond_small true c h q e = h q e
 cond_small false c h q e = clash q e
 
 -- a search among so many
-search_small : (ok : ℕ → Bool) (n : ℕ) → n ≤ 4294967296 → (i : ℕ) → first_failing ok n ≡ At i → i < 4294967296
+search_small : (ok : ℕ → Bool) (n : ℕ) → n ≤ 4294967296 → (i : ℕ) → first_failing ok n ≡ Some i → i < 4294967296
 search_small ok n l i e = omega (arith, (first_failing_lem ok n i e).within)
 
 -- the numbers of a list that has so many
 list_small : (few : Refusal) (over : ℕ → Refusal) (p n : ℕ) (bs : List ℕ) → ((i : ℕ) → place_of (over i) ≡ i) → n ≤ 4294967296
-    → need few (holds_count n bs) ≡ Passed → Small (unless_found over (first_over p (numbers bs)))
+    → need few (holds_count n bs) ≡ Ok tt → Small (unless_found over (first_over p (numbers bs)))
 list_small few over p n bs o l e =
     found_small over (first_over p (numbers bs)) o
     (λ i q. omega (arith, l, (first_over_at p (numbers bs) i q).within, holds-numbers n bs (passed-need few (holds_count n bs) e)))
@@ -221,33 +204,33 @@ list_small few over p n bs o l e =
 -- ---- a list of checks, each of which may rest on those before it
 data Bounded : List Checked → Type 0 where
   none : Bounded []
-  ◌▸◌ : {c : Checked} {cs : List Checked} → Small c → (c ≡ Passed → Bounded cs) → Bounded (c ∷ cs)
+  ◌▸◌ : {c : Checked} {cs : List Checked} → Small c → (c ≡ Ok tt → Bounded cs) → Bounded (c ∷ cs)
 
 bounded_first : {cs : List Checked} → Bounded cs → Small (first_of cs)
 unfolding first_of and_then
 bounded_first Bounded.none q e = clash q e
-bounded_first (◌▸◌ {c = Passed} s rest) q e = bounded_first (rest refl) q e
-bounded_first (◌▸◌ {c = Refused r} s rest) q e = s q e
+bounded_first (◌▸◌ {c = (Ok tt)} s rest) q e = bounded_first (rest refl) q e
+bounded_first (◌▸◌ {c = Err r} s rest) q e = s q e
 
-bounded-joined : {cs ds : List Checked} → Bounded cs → (first_of cs ≡ Passed → Bounded ds) → Bounded (cs ++ ds)
+bounded-joined : {cs ds : List Checked} → Bounded cs → (first_of cs ≡ Ok tt → Bounded ds) → Bounded (cs ++ ds)
 unfolding first_of and_then
 bounded-joined Bounded.none h = h refl
-bounded-joined (◌▸◌ {c = Passed} s rest) h = s ▸ λ e. bounded-joined (rest e) h
-bounded-joined (◌▸◌ {c = Refused r} s rest) h = s ▸ λ e. clash r (sym e)
+bounded-joined (◌▸◌ {c = (Ok tt)} s rest) h = s ▸ λ e. bounded-joined (rest e) h
+bounded-joined (◌▸◌ {c = Err r} s rest) h = s ▸ λ e. clash r (sym e)
 
 -- ---- the answer to a list of checks
 module _ {ns : List ℕ} {cs : List Checked} (K : Type 0) (numbers : Numbers ns cs) (order : ordered ns ≡ true) (bounded : Bounded cs)
-    (kept : (r : Refusal) → first_of cs ≡ Refused r → K) where
-  told_none : (a : Checked) → code_of a ≡ 0 → a ≡ Passed
+    (kept : (r : Refusal) → first_of cs ≡ Err r → K) where
+  told_none : (a : Checked) → code_of a ≡ 0 → a ≡ Ok tt
   unfolding code_of
-  told_none Passed e = refl
-  told_none (Refused q) e = absurd (omega (arith, (number_range q).0, e))
+  told_none (Ok tt) e = refl
+  told_none (Err q) e = absurd (omega (arith, (number_range q).0, e))
 
-  told_number : (r : Refusal) → code_of (Refused r) % 256 ≡ number_of r
+  told_number : (r : Refusal) → code_of (Err r) % 256 ≡ number_of r
   unfolding code_of
   told_number r = omega (arith, (number_range r).1)
 
-  told_place : (r : Refusal) → place_of r < 4294967296 → code_of (Refused r) / 256 ≡ place_of r
+  told_place : (r : Refusal) → place_of r < 4294967296 → code_of (Err r) / 256 ≡ place_of r
   unfolding code_of
   told_place r l = omega (arith, (number_range r).1, l)
 
@@ -440,7 +423,7 @@ price_bounded bs price room = need_small refusal.Price _ refl ▸ λ e0. need_sm
 no_place : (r : Refusal) (ok : Bool) {cs : List Checked} → place_of r ≡ 0 → Bounded cs → Bounded (need r ok ∷ cs)
 no_place r ok z rest = need_small r ok z ▸ λ e. rest
 
-module _ (bs : List ℕ) (passes : plan_check bs ≡ Passed) where
+module _ (bs : List ℕ) (passes : plan_check bs ≡ Ok tt) where
   opening_small : (i k : ℕ) (mail : List ℕ) → Small (opening_check (plan_of bs) i k mail)
   unfolding opening_check outs_check on_polynomial place_of party_count
   opening_small i k mail =
@@ -525,35 +508,35 @@ module _ (bs : List ℕ) (passes : plan_check bs ≡ Passed) where
       ▸ λ e9. Bounded.none
 
 -- ---- the claim
-kept : (a : Checked) (r : Refusal) (new old : List ℕ) → a ≡ Refused r → unless_refused a new old ≡ old
+kept : (a : Checked) (r : Refusal) (new old : List ℕ) → a ≡ Err r → unless_refused a new old ≡ old
 unfolding unless_refused
 kept a r new old e = rw e refl
 
-sent-whole : (bs : List ℕ) (a : Checked) → plan_check bs ≡ Passed → a ≡ Passed → answer_of (benched_of a (sent_count (plan_of bs))) ≡ 256 * sent_count (plan_of bs)
+sent-whole : (bs : List ℕ) (a : Checked) → plan_check bs ≡ Ok tt → a ≡ Ok tt → answer_of (benched_of a (sent_count (plan_of bs))) ≡ 256 * sent_count (plan_of bs)
 unfolding answer_of benched_of
 sent-whole bs a p e = let l : sent_count (plan_of bs) ≤ 4294967295 = sent-few bs p in rw e (omega (arith, l))
 
-sent-none : (s : ℕ) (a : Checked) (r : Refusal) → a ≡ Refused r → answer_of (benched_of a s) ≡ code_of (Refused r)
+sent-none : (s : ℕ) (a : Checked) (r : Refusal) → a ≡ Err r → answer_of (benched_of a s) ≡ code_of (Err r)
 unfolding answer_of benched_of
 sent-none s a r e = rw e refl
 
-plan_passed : (bs : List ℕ) (rest : List Checked) → first_of (plan_checks bs ++ rest) ≡ Passed → plan_check bs ≡ Passed
+plan_passed : (bs : List ℕ) (rest : List Checked) → first_of (plan_checks bs ++ rest) ≡ Ok tt → plan_check bs ≡ Ok tt
 unfolding plan_check
 plan_passed bs rest e = (passed_both _ _ (sym (first_of-append (plan_checks bs) rest) ∙ e)).0
 
 -- a charge that passes is of a plan that passes, at a price within its limit
-pub charge_passed : (bs : List ℕ) (price room : ℕ) → charge_answer bs price room ≡ Passed → (plan_check bs ≡ Passed) × (price ≤ 1000000)
+pub charge_passed : (bs : List ℕ) (price room : ℕ) → charge_answer bs price room ≡ Ok tt → (plan_check bs ≡ Ok tt) × (price ≤ 1000000)
 unfolding charge_answer plan_check price_checks first_of
 charge_passed bs price room e =
     let a = passed_both _ _ (sym (first_of-append (plan_checks bs) (price_checks bs price room)) ∙ e) in
     (a.0, leb-true price 1000000 (passed-need refusal.Price _ (passed_both _ _ a.1).0))
 
-bill-whole : (bs : List ℕ) (price : ℕ) (a : Checked) → plan_check bs ≡ Passed → price ≤ 1000000 → a ≡ Passed
+bill-whole : (bs : List ℕ) (price : ℕ) (a : Checked) → plan_check bs ≡ Ok tt → price ≤ 1000000 → a ≡ Ok tt
     → billed_of (charged_of a (bill_of (plan_of bs) price)) ≡ 256 * bill_of (plan_of bs) price
 unfolding billed_of charged_of
 bill-whole bs price a p l e = let b : bill_of (plan_of bs) price < 4294967296 = bill-few bs p price l in rw e (omega (arith, b))
 
-bill-none : (b : ℕ) (a : Checked) (r : Refusal) → a ≡ Refused r → billed_of (charged_of a b) ≡ code_of (Refused r)
+bill-none : (b : ℕ) (a : Checked) (r : Refusal) → a ≡ Err r → billed_of (charged_of a b) ≡ code_of (Err r)
 unfolding billed_of charged_of
 bill-none b a r e = rw e refl
 

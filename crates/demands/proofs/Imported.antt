@@ -1,10 +1,11 @@
 -- An imported circuit: its plan passes, and what it grants to party 1 is the circuit's bits.
 --     imported     the claim
 -- Assumes nothing.
-use Prim.Native.Nat.{ℕ, suc, ◌+◌, ◌*◌, ◌<◌, ◌≤◌}
+use Rattle.std.proofs.Common.{Ok}
+use Prim.Native.Nat.{ℕ, suc, ◌*◌, ◌≤◌}
 use mathlib.Core.Path.{◌≡◌, refl, sym, ap, ◌∙◌}
 use mathlib.Core.Bool.{true, ◌&&◌}
-use mathlib.Core.List.{List, [], ◌∷◌}
+use mathlib.Core.List.{List}
 use native.Mathlib.Omega.{arith}
 use borrow.Author.Tests.{leb-true}
 use lib.Dec.{leb}
@@ -12,9 +13,8 @@ use lib.ListN.{length}
 use Rattle.numbers.specs.Bytes.{width, bytes_of, all_below}
 use Rattle.numbers.proofs.Below.{all_below_more}
 use Rattle.numbers.proofs.Truth.{both_true}
-use Rattle.plan.specs.declared.Checked.TheVariants.{Passed}
 use Rattle.plan.specs.declared.Refusal.TheVariants as refusal
-use Rattle.plan.specs.Refusals.{first_of, need}
+use Rattle.plan.specs.Refusals.{first_of}
 use Rattle.plan.specs.Plans.{Plan, last_call, own_inputs, written_count}
 use Rattle.plan.specs.File.{plan_check, plan_of}
 use Rattle.plan.proofs.Refusals.{first_of-append, passed_both, passed-need}
@@ -38,11 +38,11 @@ use Rattle.demands.specs.Apart as apart
 use Rattle.demands.proofs.Written.{parties, prime, plan-is, is-bytes, results}
 
 -- ---- what the checks of a text that imports say
-module _ (n t p : ℕ) (text : List ℕ) (room : ℕ) (answers : import_answer n t p text room ≡ Passed) where
+module _ (n t p : ℕ) (text : List ℕ) (room : ℕ) (answers : import_answer n t p text room ≡ Ok tt) where
   record Checks : Type 0 where
     kept : text_ok n text ≡ true
     few : (leb (length (import_bodies p text).gates) 1024 && leb (length (import_bodies p text).outs) 64) ≡ true
-    plan : plan_check (import_file n t p text) ≡ Passed
+    plan : plan_check (import_file n t p text) ≡ Ok tt
 
   checks : Checks
   unfolding import_answer import_checks text_checks first_of plan_check
@@ -65,7 +65,7 @@ module _ (n t p : ℕ) (text : List ℕ) (room : ℕ) (answers : import_answer n
   unfolding import_bodies
   made-wired one two = sound_wired n p (circuit_bodies p (circuit_of text)) (made-sound n p (circuit_of text) rules one two)
 
-  passes : plan_check (file_of_plan n t p (import_bodies p text)) ≡ Passed
+  passes : plan_check (file_of_plan n t p (import_bodies p text)) ≡ Ok tt
   unfolding import_file
   passes = checks.plan
 

@@ -2,6 +2,7 @@
 --     own_same, granted-same                    what refusals 21 and 22 leave
 --     matched_bytes                             the claim, on any bytes
 -- Assumes nothing.
+use Rattle.std.proofs.Common.{Ok}
 use Prim.Native.Nat.{ℕ, suc, ◌+◌, ◌*◌, ◌<◌}
 use mathlib.Core.Path.{◌≡◌, refl, sym, ap, ap₂, subst, ◌∙◌}
 use mathlib.Core.Bool.{Bool, true, false, cond, not, ◌||◌}
@@ -16,7 +17,6 @@ use Rattle.numbers.proofs.Searches.{nothing_passes}
 use Rattle.numbers.proofs.Below.{all_below_at, first_over-nothing}
 use Rattle.numbers.proofs.Bytes.{holds-length, holds-numbers, bytes_of-numbers}
 use Rattle.plan.specs.declared.Output.{Output}
-use Rattle.plan.specs.declared.Checked.TheVariants.{Passed}
 use Rattle.plan.specs.declared.Refusal.TheVariants as refusal
 use Rattle.plan.specs.Refusals.{first_of}
 use Rattle.plan.proofs.Refusals.{first_of-append, passed_both, passed-need, passed_found}
@@ -70,7 +70,7 @@ module _ (set i : ℕ) (on : in_set set i ≡ true) where
       step false e r = r
 
 module _ (plan : Plan) (set : ℕ) (ok : set_ok plan set ≡ true) (xs ys : List ℕ) where
-  inputs-left : inputs_agree plan set xs ys ≡ Passed → map (λ i. own_inputs plan i xs) (members set) ≡ map (λ i. own_inputs plan i ys) (members set)
+  inputs-left : inputs_agree plan set xs ys ≡ Ok tt → map (λ i. own_inputs plan i xs) (members set) ≡ map (λ i. own_inputs plan i ys) (members set)
   unfolding inputs_agree input_count own_inputs
   inputs-left e =
       map-all (λ i. own_inputs plan i xs) (λ i. own_inputs plan i ys) (members set)
@@ -79,7 +79,7 @@ module _ (plan : Plan) (set : ℕ) (ok : set_ok plan set ≡ true) (xs ys : List
       (λ j q. either_back (in_set set (get_or (input_owners plan) j 0)) (get_or xs j 0) (get_or ys j 0)
       (nothing_passes (λ j. not (in_set set (get_or (input_owners plan) j 0)) || eqb (get_or xs j 0) (get_or ys j 0)) (input_count plan) (passed_found refusal.InputsDiffer _ e) j q))))
 
-  outs-left : outs_agree plan set (values plan xs) (values plan ys) ≡ Passed → map (granted plan xs) (members set) ≡ map (granted plan ys) (members set)
+  outs-left : outs_agree plan set (values plan xs) (values plan ys) ≡ Ok tt → map (granted plan xs) (members set) ≡ map (granted plan ys) (members set)
   unfolding outs_agree granted out_wires
   outs-left e =
       map-all (granted plan xs) (granted plan ys) (members set)
@@ -97,16 +97,16 @@ whole_bytes k bs b h = bytes_of-numbers k bs (holds-length k bs h) (λ i l. all_
 
 module _ (bytes : List ℕ) (set : ℕ) (first second coins out view view' : List ℕ) (is-bytes : all_below 256 bytes ≡ true)
     (b1 : all_below 256 first ≡ true) (b2 : all_below 256 second ≡ true) (b3 : all_below 256 coins ≡ true)
-    (passed : match_answer bytes set first second coins (length out) ≡ Passed) where
-  two : (first_of (plan_checks bytes) ≡ Passed) × (first_of (pair_checks (plan_of bytes) set first second coins (length out)) ≡ Passed)
+    (passed : match_answer bytes set first second coins (length out) ≡ Ok tt) where
+  two : (first_of (plan_checks bytes) ≡ Ok tt) × (first_of (pair_checks (plan_of bytes) set first second coins (length out)) ≡ Ok tt)
   unfolding match_answer
   two = passed_both _ _ (sym (first_of-append (plan_checks bytes) (pair_checks (plan_of bytes) set first second coins (length out))) ∙ passed)
 
-  plan-passes : plan_check bytes ≡ Passed
+  plan-passes : plan_check bytes ≡ Ok tt
   unfolding plan_check
   plan-passes = two.0
 
-  each : (k : ℕ) → get_or (pair_checks (plan_of bytes) set first second coins (length out)) k Passed ≡ Passed
+  each : (k : ℕ) → get_or (pair_checks (plan_of bytes) set first second coins (length out)) k (Ok tt) ≡ Ok tt
   each = first_passed _ two.1
 
   set_passes : set_ok (plan_of bytes) set ≡ true
@@ -141,11 +141,11 @@ module _ (bytes : List ℕ) (set : ℕ) (first second coins out view view' : Lis
   unfolding pair_checks
   out_long = eqb-true (length out) (width * coin_count (plan_of bytes)) (passed-need refusal.BufferLength _ (each 7))
 
-  agreed : inputs_agree (plan_of bytes) set (numbers first) (numbers second) ≡ Passed
+  agreed : inputs_agree (plan_of bytes) set (numbers first) (numbers second) ≡ Ok tt
   unfolding pair_checks
   agreed = each 8
 
-  granted-same : outs_agree (plan_of bytes) set (values (plan_of bytes) (numbers first)) (values (plan_of bytes) (numbers second)) ≡ Passed
+  granted-same : outs_agree (plan_of bytes) set (values (plan_of bytes) (numbers first)) (values (plan_of bytes) (numbers second)) ≡ Ok tt
   unfolding pair_checks
   granted-same = each 9
 

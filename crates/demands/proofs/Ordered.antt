@@ -1,20 +1,19 @@
--- R-12: every order of allowed calls ends as the run does.
+-- Every order of allowed calls ends as the run does.
 --     in_any_order            the statement
 -- Assumes nothing.
-use mathlib.Core.Path.{◌≡◌, refl, sym, ap, ap₂, subst, ◌∙◌}
+use Rattle.std.proofs.Common.{Ok}
+use mathlib.Core.Path.{◌≡◌, ap, ap₂, ◌∙◌}
 use mathlib.Core.Bool.{true}
 use mathlib.Core.List.{List, []}
 use Prim.Native.Nat.{ℕ, suc, ◌*◌, ◌≤◌}
 use native.Mathlib.Omega.{arith}
 use Rattle.numbers.specs.Bytes.{width, bytes_of, all_below}
-use Rattle.plan.specs.declared.Checked.TheVariants.{Passed}
 use Rattle.plan.specs.Plans.{Plan, party_count, last_call, own_inputs, own_coins, written_count}
 use Rattle.plan.specs.File.{plan_of}
 use Rattle.plan.proofs.Valid.{valid}
 use Rattle.seat_messages.specs.Messages.{Called}
 use Rattle.seat_messages.specs.Calls.{call_answer}
-use Rattle.run_protocol.specs.Rounds.{call_of, mail_to, after, at_end, results}
-use Rattle.run_protocol.specs.Ideal.{granted}
+use Rattle.run_protocol.specs.Rounds.{call_of, after, at_end, results}
 use Rattle.run_orders.specs.Orders.{Progress, nobody_called, made_by, latest, mail_so_far, ready, all_ready, reached, AnyOrder}
 use Rattle.run_orders.proofs.AnyOrder.{Ready, is-ready, any_order}
 use Rattle.demands.specs.Demands.{Given}
@@ -44,7 +43,7 @@ module _ (bytes xs coins order : List ℕ) (is-bytes : all_below 256 bytes ≡ t
   accepted-by :
       (i room : ℕ) → Ready plan i P → ready plan i P ≡ true → room ≡ width * written_count plan i (made_by i P)
       → call_answer bytes i (bytes_of (own_inputs plan i xs)) (bytes_of (own_coins plan i coins)) (bytes_of (latest i P).state) (bytes_of (mail_so_far i (made_by i P) P)) room
-      ≡ Passed
+      ≡ Ok tt
   accepted-by i room r can fits =
       ap₂ (λ (c : Called) (mail : List ℕ). call_answer bytes i (bytes_of (own_inputs plan i xs)) (bytes_of (own_coins plan i coins)) (bytes_of c.state) (bytes_of mail) room)
       (latest-is i r.from1 r.upto) (run.takes i can)

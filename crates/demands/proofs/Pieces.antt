@@ -2,6 +2,7 @@
 --     flat_split                                lists of the same lengths, joined to the same, are the same
 --     same_pieces                               the claim
 -- Assumes nothing.
+use Rattle.std.proofs.Common.{Ok}
 use Prim.Native.Nat.{ℕ, zero, suc, ◌≤◌, ◌^◌}
 use mathlib.Core.Path.{◌≡◌, refl, sym, ap, ap₂, ◌∙◌}
 use mathlib.Core.Bool.{true}
@@ -18,7 +19,6 @@ use Rattle.sharing_laws.specs.Interp.{All}
 use Rattle.sharing_laws.proofs.Alls.{all-tab}
 use Rattle.sharing_laws.proofs.Lists.{get_or-map-in}
 use Rattle.plan.specs.Plans.{party_count, last_call, own_inputs, own_coins, mail_count}
-use Rattle.plan.specs.declared.Checked.TheVariants.{Passed}
 use Rattle.plan.specs.File.{plan_check, plan_of}
 use Rattle.plan.proofs.Valid.{valid}
 use Rattle.plan_coalition.specs.Coalitions.{in_set, members, set_ok}
@@ -51,7 +51,7 @@ flat_split f g (i ∷ is) l e =
     (flat_split f g is l.1 (back_same (f i) (flat_map f is) (g i) (flat_map g is) l.0 e))
 
 module _ (bytes : List ℕ) (set : ℕ) (xs ys c : List ℕ) (alike : Alike bytes set xs ys) (s : Coins (plan_of bytes) c) (i : ℕ) (from1 : 1 ≤ i) (on : in_set set i ≡ true) where
-  passes : plan_check bytes ≡ Passed
+  passes : plan_check bytes ≡ Ok tt
   passes = alike.passes
 
   by-demand : Private (plan_of bytes) (members set) xs ys

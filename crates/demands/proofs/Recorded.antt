@@ -2,6 +2,7 @@
 --     recorded_passed, read_passed                               what the answers of the writer and of the bench's reader say
 --     round_trip, shown-apart, same_shown, tiled, own_body       the claims
 -- Assumes nothing.
+use Rattle.std.proofs.Common.{Ok}
 use Prim.Native.Nat.{ℕ, zero, suc, ◌-◌, ◌*◌, ◌^◌, ◌<◌, ◌≤◌}
 use mathlib.Core.Path.{◌≡◌, refl, sym, ap, ap₂, ◌∙◌}
 use mathlib.Core.Bool.{Bool, true}
@@ -15,8 +16,7 @@ use Rattle.numbers.specs.Bytes.{width, limit, numbers, bytes_of}
 use Rattle.numbers.proofs.Searches.{nothing_passes}
 use Rattle.numbers.proofs.Bytes.{holds-numbers}
 use Rattle.sharing_laws.proofs.Lists.{flat_map-all}
-use Rattle.plan.specs.declared.Checked.{Checked}
-use Rattle.plan.specs.declared.Checked.TheVariants.{Passed}
+use Rattle.plan.specs.Refusals.{Checked}
 use Rattle.plan.specs.declared.Refusal.TheVariants as refusal
 use Rattle.plan.specs.Refusals.{first_of, need}
 use Rattle.plan.proofs.Refusals.{first_of-nil, first_of-append, need-true, next_passes, both_pass, passed_both, passed-need}
@@ -46,15 +46,15 @@ use Rattle.demands.proofs.Matched.{matched_bytes}
 
 -- ---- what answers say
 recorded_passed :
-    (bytes figures coins : List ℕ) (room : ℕ) → record_answer bytes figures coins room ≡ Passed
-    → (plan_check bytes ≡ Passed) × (length (numbers coins) ≡ coin_count (plan_of bytes))
+    (bytes figures coins : List ℕ) (room : ℕ) → record_answer bytes figures coins room ≡ Ok tt
+    → (plan_check bytes ≡ Ok tt) × (length (numbers coins) ≡ coin_count (plan_of bytes))
 unfolding record_answer record_checks plan_check given_checks list_checks
 recorded_passed bytes figures coins room passed =
     let rest : List Checked = given_checks (plan_of bytes) figures coins ++ (need refusal.BufferLength (eqb room (record_size (plan_of bytes))) ∷ []) in
     let a = passed_both _ _ (sym (first_of-append (plan_checks bytes) rest) ∙ passed) in
     (a.0, holds-numbers (coin_count (plan_of bytes)) coins (passed-need refusal.CoinCount _ (first_passed rest a.1 2)))
 
-read_passed : (bytes stored : List ℕ) (room : ℕ) → bench_read_answer bytes stored room ≡ Passed → (plan_check bytes ≡ Passed) × (record_ok (plan_of bytes) stored ≡ true)
+read_passed : (bytes stored : List ℕ) (room : ℕ) → bench_read_answer bytes stored room ≡ Ok tt → (plan_check bytes ≡ Ok tt) × (record_ok (plan_of bytes) stored ≡ true)
 unfolding bench_read_answer bench_read_checks plan_check
 read_passed bytes stored room passed =
     let rest : List Checked =
@@ -64,8 +64,8 @@ read_passed bytes stored room passed =
     (a.0, passed-need refusal.Record _ (first_passed rest a.1 0))
 
 -- ---- a record that passes 28 is read by both
-module _ (bytes stored : List ℕ) (passes : plan_check bytes ≡ Passed) (ok : record_ok (plan_of bytes) stored ≡ true) where
-  bench_passes : (room : ℕ) → room ≡ width * view_count (plan_of bytes) (parties (plan_of bytes)) → bench_read_answer bytes stored room ≡ Passed
+module _ (bytes stored : List ℕ) (passes : plan_check bytes ≡ Ok tt) (ok : record_ok (plan_of bytes) stored ≡ true) where
+  bench_passes : (room : ℕ) → room ≡ width * view_count (plan_of bytes) (parties (plan_of bytes)) → bench_read_answer bytes stored room ≡ Ok tt
   unfolding bench_read_answer bench_read_checks plan_check
   bench_passes room fits =
       both_pass (plan_checks bytes) _ passes
@@ -81,7 +81,7 @@ module _ (bytes stored : List ℕ) (passes : plan_check bytes ≡ Passed) (ok : 
     unfolding between
     a-party = rw (le-leb 1 i l, le-leb i (party_count (plan_of bytes)) m) refl
 
-    plant-passes : (room : ℕ) → room ≡ body_size (plan_of bytes) i → plant_read_answer bytes stored i room ≡ Passed
+    plant-passes : (room : ℕ) → room ≡ body_size (plan_of bytes) i → plant_read_answer bytes stored i room ≡ Ok tt
     unfolding plant_read_answer plant_read_checks plan_check
     plant-passes room fits =
         both_pass (plan_checks bytes) _ passes
@@ -94,8 +94,8 @@ module _ (bytes stored : List ℕ) (passes : plan_check bytes ≡ Passed) (ok : 
     plant-gives out fits = kept _ _ out (plant-passes (length out) fits)
 
 -- ---- the record of a run
-module _ (bytes figures coins out : List ℕ) (passed : record_answer bytes figures coins (length out) ≡ Passed) where
-  plan-passes : plan_check bytes ≡ Passed
+module _ (bytes figures coins out : List ℕ) (passed : record_answer bytes figures coins (length out) ≡ Ok tt) where
+  plan-passes : plan_check bytes ≡ Ok tt
   plan-passes = (recorded_passed bytes figures coins (length out) passed).0
 
   full : length (numbers coins) ≡ coin_count (plan_of bytes)
@@ -142,7 +142,7 @@ pub round_trip : RoundTrip
 round_trip bytes figures coins out passed = read_back bytes figures coins out passed
 
 -- ---- parties run apart
-run_passes : (bytes xs coins : List ℕ) (room : ℕ) → Given bytes xs coins → room ≡ record_size (plan_of bytes) → record_answer bytes (bytes_of xs) (bytes_of coins) room ≡ Passed
+run_passes : (bytes xs coins : List ℕ) (room : ℕ) → Given bytes xs coins → room ≡ record_size (plan_of bytes) → record_answer bytes (bytes_of xs) (bytes_of coins) room ≡ Ok tt
 unfolding record_answer record_checks given_checks list_checks plan_check
 run_passes bytes xs coins room given fits =
     let s : (plan_of bytes).p ≤ limit = small_prime bytes given.passes in
@@ -156,7 +156,7 @@ run_passes bytes xs coins room given fits =
 pub shown-apart : ShownApart
 unfolding body_size
 shown-apart bytes xs coins stored out i lent is-bytes given room l m whole fits =
-    let passed : record_answer bytes (bytes_of xs) (bytes_of coins) (length stored) ≡ Passed = run_passes bytes xs coins (length stored) given whole in
+    let passed : record_answer bytes (bytes_of xs) (bytes_of coins) (length stored) ≡ Ok tt = run_passes bytes xs coins (length stored) given whole in
     let s : (plan_of bytes).p ≤ limit = small_prime bytes given.passes in (
       passed,
       ((round_trip bytes (bytes_of xs) (bytes_of coins) stored passed).plant i out l m fits).1
@@ -179,7 +179,7 @@ tiled bytes stored out lent passed fits =
           (λ i l m. plant-gives bytes stored a.0 a.1 i l m (lent i) (fits i))));
     }
   where
-    joins : (bytes stored out : List ℕ) → bench_read_answer bytes stored (length out) ≡ Passed → bench_read_after bytes stored out ≡ bodies_of (plan_of bytes) stored
+    joins : (bytes stored out : List ℕ) → bench_read_answer bytes stored (length out) ≡ Ok tt → bench_read_after bytes stored out ≡ bodies_of (plan_of bytes) stored
     joins bytes stored out passed = unfold bench_read_after in kept _ _ out passed
 
 -- ---- a plant's own body alone
@@ -213,15 +213,15 @@ only_member (suc k) l m =
 
 -- where the bench gives this set's view, party i's reader gives the same of the stored run
 module _ (bytes : List ℕ) (i : ℕ) (l : 1 ≤ i) (m : i ≤ party_count (plan_of bytes)) (figures coins given : List ℕ)
-    (passed : bench_answer bytes (only i) figures coins (length given) ≡ Passed) where
-  two : (first_of (plan_checks bytes) ≡ Passed) × (first_of (run_checks (plan_of bytes) (only i) figures coins (length given)) ≡ Passed)
+    (passed : bench_answer bytes (only i) figures coins (length given) ≡ Ok tt) where
+  two : (first_of (plan_checks bytes) ≡ Ok tt) × (first_of (run_checks (plan_of bytes) (only i) figures coins (length given)) ≡ Ok tt)
   unfolding bench_answer
   two = passed_both _ _ (sym (first_of-append (plan_checks bytes) (run_checks (plan_of bytes) (only i) figures coins (length given))) ∙ passed)
 
-  each : (k : ℕ) → get_or (run_checks (plan_of bytes) (only i) figures coins (length given)) k Passed ≡ Passed
+  each : (k : ℕ) → get_or (run_checks (plan_of bytes) (only i) figures coins (length given)) k (Ok tt) ≡ Ok tt
   each = first_passed _ two.1
 
-  record-passes : (room : ℕ) → room ≡ record_size (plan_of bytes) → record_answer bytes figures coins room ≡ Passed
+  record-passes : (room : ℕ) → room ≡ record_size (plan_of bytes) → record_answer bytes figures coins room ≡ Ok tt
   unfolding record_answer record_checks given_checks list_checks run_checks
   record-passes room fits =
       both_pass (plan_checks bytes) _ two.0
@@ -235,7 +235,7 @@ module _ (bytes : List ℕ) (i : ℕ) (l : 1 ≤ i) (m : i ≤ party_count (plan
     stored-run : ReadBack bytes figures coins (record_after bytes figures coins stored)
     stored-run = round_trip bytes figures coins stored (record-passes (length stored) whole)
 
-    one_passes : plant_read_answer bytes (record_after bytes figures coins stored) i (length out) ≡ Passed
+    one_passes : plant_read_answer bytes (record_after bytes figures coins stored) i (length out) ≡ Ok tt
     unfolding body_size
     one_passes = (stored-run.plant i out l m fits).0
 

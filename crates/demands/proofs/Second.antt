@@ -3,12 +3,12 @@
 --     takes                    what a call of such a run takes
 --     runs_right               the claim
 -- Assumes nothing.
+use Rattle.std.proofs.Common.{Ok}
 use Prim.Native.Nat.{ℕ, ◌≤◌, ◌<◌}
 use mathlib.Core.Path.{◌≡◌, refl}
 use mathlib.Core.List.{List, []}
 use native.Mathlib.Omega.{arith}
 use Rattle.numbers.specs.Bytes.{limit, all_below}
-use Rattle.plan.specs.declared.Checked.TheVariants.{Passed}
 use Rattle.plan.specs.Plans.{Plan, party_count, kind_count, last_call}
 use Rattle.plan.specs.File.{plan_checks, plan_check, plan_of}
 use Rattle.plan.proofs.Valid.{Valid, valid, sized, plain, plain_no_7}
@@ -23,13 +23,13 @@ use Rattle.demands.specs.Demands.{Given}
 use Rattle.demands.specs.Lists.{RunsRight}
 
 -- ---- a plan that is read from a file spends no triple
-pub spends-none : (bytes : List ℕ) → plan_check bytes ≡ Passed → kind_count (plan_of bytes) 7 ≡ 0
+pub spends-none : (bytes : List ℕ) → plan_check bytes ≡ Ok tt → kind_count (plan_of bytes) 7 ≡ 0
 spends-none bytes passes = plain_no_7 (plan_of bytes) (plain bytes passes)
 
-pub small_prime : (bytes : List ℕ) → plan_check bytes ≡ Passed → (plan_of bytes).p ≤ limit
+pub small_prime : (bytes : List ℕ) → plan_check bytes ≡ Ok tt → (plan_of bytes).p ≤ limit
 small_prime bytes passes = (sized bytes passes).few
 
-pub few_calls : (bytes : List ℕ) → plan_check bytes ≡ Passed → last_call (plan_of bytes) < limit
+pub few_calls : (bytes : List ℕ) → plan_check bytes ≡ Ok tt → last_call (plan_of bytes) < limit
 few_calls bytes passes = omega (arith, (sized bytes passes).short, steps_few (plan_of bytes))
 
 pub alone : (bytes xs coins : List ℕ) → Given bytes xs coins → Whole (plan_of bytes) xs coins []

@@ -1,22 +1,20 @@
 -- A plan's file in another version has the same plan; so every call answers and writes the same. Of the converter.
 -- Assumes nothing.
-use Prim.Native.Nat.{ℕ, ◌*◌, ◌<◌}
+use Rattle.std.proofs.Common.{Ok}
+use Prim.Native.Nat.{ℕ, ◌*◌}
 use mathlib.Core.Path.{◌≡◌, refl, sym, ap, ap₂, ◌∙◌}
-use mathlib.Core.Bool.{true}
 use mathlib.Core.List.{List, [], ◌∷◌, ◌++◌}
-use native.Mathlib.Omega.{arith}
 use lib.Dec.{eqb}
 use lib.ListN.{length, get_or}
 use Rattle.numbers.specs.Bytes.{width, numbers, bytes_of}
-use Rattle.plan.specs.declared.Checked.{Checked}
-use Rattle.plan.specs.declared.Checked.TheVariants.{Passed}
+use Rattle.plan.specs.Refusals.{Checked}
 use Rattle.plan.specs.declared.Refusal.TheVariants as refusal
 use Rattle.plan.specs.Refusals.{first_of, need}
 use Rattle.plan.specs.Plans.{Plan, party_count, parties}
 use Rattle.plan.specs.File.{between, version_at, n_at, p_at, plan_checks, plan_check, plan_of}
-use Rattle.plan.proofs.Refusals.{first_of-append, and_then_passed, passed_both, passed-need}
+use Rattle.plan.proofs.Refusals.{first_of-append, and_then_passed, passed_both}
 use Rattle.plan.proofs.Planned.{passing, modulus_small}
-use Rattle.plan_file.specs.Bodies.{file_as, field_limit}
+use Rattle.plan_file.specs.Bodies.{file_as}
 use Rattle.plan_file.proofs.Files.{version_back}
 use Rattle.plan_file.proofs.Rewritten.{same-plan, same-passes}
 use Rattle.convert_call.specs.Converting.{old_checks, converted_file, convert_checks, convert_answer, convert_after}
@@ -32,10 +30,10 @@ use Rattle.run_bench.specs.BenchCalls.{run_checks, bench_answer, view_after}
 use Rattle.match_agreement.specs.MatchCalls.{pair_checks, match_answer, matched_after}
 use Rattle.record_laws.specs.Records.{body_size, record_size, record_of, record_checks, record_answer, record_after, record_ok, bench_read_checks, bench_read_answer, bodies_of, bench_read_after, body_of, plant_read_checks, plant_read_answer, plant_read_after}
 use Rattle.count_laws.specs.CountCalls.{view_list, counting_checks, count_checks, count_answer, count_after}
-use Rattle.demands.specs.Further.{SameCalls, Rewritten, SameVersions, Converted, Converts}
+use Rattle.demands.specs.Further.{SameCalls, SameVersions, Converts}
 
 -- two files that pass, with one plan
-module _ (bs file : List ℕ) (passes : plan_check bs ≡ Passed) (passes' : plan_check file ≡ Passed) (same : plan_of file ≡ plan_of bs) where
+module _ (bs file : List ℕ) (passes : plan_check bs ≡ Ok tt) (passes' : plan_check file ≡ Ok tt) (same : plan_of file ≡ plan_of bs) where
   further : (rest : Plan → List Checked) → first_of (plan_checks file ++ rest (plan_of file)) ≡ first_of (plan_checks bs ++ rest (plan_of bs))
   unfolding plan_check
   further rest =
@@ -117,19 +115,19 @@ module _ (bs file : List ℕ) (passes : plan_check bs ≡ Passed) (passes' : pla
 
 pub same_versions : SameVersions
 same_versions bytes v passes known fits =
-    let passes' : plan_check (file_as v (plan_of bytes)) ≡ Passed = same-passes bytes passes v known fits in
+    let passes' : plan_check (file_as v (plan_of bytes)) ≡ Ok tt = same-passes bytes passes v known fits in
     let same : plan_of (file_as v (plan_of bytes)) ≡ plan_of bytes = same-plan bytes passes v known fits in
     record { passes = passes'; plan = same; calls = calls bytes (file_as v (plan_of bytes)) passes passes' same }
 
-old_parts : (bytes : List ℕ) (room : ℕ) → convert_answer bytes room ≡ Passed → first_of (old_checks bytes) ≡ Passed
+old_parts : (bytes : List ℕ) (room : ℕ) → convert_answer bytes room ≡ Ok tt → first_of (old_checks bytes) ≡ Ok tt
 unfolding convert_answer convert_checks
 old_parts bytes room e = (passed_both (first_of (old_checks bytes)) _ (sym (first_of-append (old_checks bytes) _) ∙ e)).0
 
 pub converts : Converts
 converts bytes out e =
-    let both : first_of (old_checks bytes) ≡ Passed = old_parts bytes (length out) e in
+    let both : first_of (old_checks bytes) ≡ Ok tt = old_parts bytes (length out) e in
     let is : convert_after bytes out ≡ file_as 3 (plan_of bytes) = unfold convert_after in unfold unless_refused in unfold converted_file in rw e in
-    let passes : plan_check bytes ≡ Passed = old-plan bytes both in
+    let passes : plan_check bytes ≡ Ok tt = old-plan bytes both in
     record {
       old = old-version bytes both;
       new = ap version_at is ∙ version_back 3 (plan_of bytes);

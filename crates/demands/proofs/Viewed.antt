@@ -2,17 +2,17 @@
 --     views-counted     the list that the call leaves
 --     views_once        exactly t members
 -- Assumes nothing.
+use Rattle.std.proofs.Common.{Ok}
 use Prim.Native.Nat.{ℕ, ◌<◌}
 use mathlib.Core.Path.{◌≡◌, refl, sym, ap, ◌∙◌}
 use mathlib.Core.Bool.{true}
 use mathlib.Core.List.{List, []}
 use lib.ListN.{length}
-use Rattle.numbers.specs.Bytes.{numbers, bytes_of, all_below}
+use Rattle.numbers.specs.Bytes.{numbers, all_below}
 use Rattle.numbers.proofs.Tables.{length-tab}
 use Rattle.numbers.proofs.Bytes.{holds-numbers}
 use Rattle.numbers.proofs.Below.{first_over-nothing}
 use Rattle.field.proofs.Inverse.{pos}
-use Rattle.plan.specs.declared.Checked.TheVariants.{Passed}
 use Rattle.plan.specs.declared.Refusal.TheVariants as refusal
 use Rattle.plan.specs.Refusals.{first_of}
 use Rattle.plan.specs.Plans.{Plan}
@@ -43,8 +43,8 @@ settings_right plan set given above long small = record {
         let r = setting-reached plan set c above full.count full.small in
         (r.0, r.1, ap (λ (g : List ℕ). setting_coins plan set g r.0) (sym held) ∙ r.2)
 
-module _ (bytes : List ℕ) (set : ℕ) (figures coins : List ℕ) (room : ℕ) (e : count_answer bytes set figures coins room ≡ Passed) where
-  parts : (plan_check bytes ≡ Passed) × (first_of (counting_checks (plan_of bytes) set figures coins room) ≡ Passed)
+module _ (bytes : List ℕ) (set : ℕ) (figures coins : List ℕ) (room : ℕ) (e : count_answer bytes set figures coins room ≡ Ok tt) where
+  parts : (plan_check bytes ≡ Ok tt) × (first_of (counting_checks (plan_of bytes) set figures coins room) ≡ Ok tt)
   unfolding count_answer count_checks plan_check
   parts = passed_both _ _ (sym (first_of-append (plan_checks bytes) (counting_checks (plan_of bytes) set figures coins room)) ∙ e)
 

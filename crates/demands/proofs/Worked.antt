@@ -1,5 +1,5 @@
 -- The table of sums holds, by computation.
-use mathlib.Core.Path.{◌≡◌, refl}
+use mathlib.Core.Path.{refl}
 use mathlib.Core.List.{flat_map}
 use Rattle.numbers.specs.Tables.{tab, first_from, first_failing, count_where, total}
 use Rattle.numbers.specs.Bytes.{number_at, bytes_from, word_at, numbers_of, numbers, bytes_of, holds_count, first_over, all_below}
@@ -34,11 +34,11 @@ sums = record {
   p3_result = refl;
   p4 = refl;
   p5_coins = refl;
-  p5_first-view = refl;
+  p5_first_view = refl;
   p5-view = refl;
   p6_first = refl;
   p6_passes = refl;
-  p7-not_above = refl;
+  p7_not_above = refl;
   p7_nine = refl;
   p7_largest = refl;
   p7_even_larger = refl;

@@ -1,5 +1,5 @@
 -- The table of the imported circuits holds, by computation.
-use mathlib.Core.Path.{◌≡◌, refl}
+use mathlib.Core.Path.{refl}
 use mathlib.Core.List.{flat_map}
 use Rattle.numbers.specs.Tables.{tab, first_from, first_failing, count_where}
 use Rattle.numbers.specs.Bytes.{number_at, bytes_from, word_at, all_below}
@@ -40,9 +40,9 @@ circuit_sums = record {
   more-values = refl;
   set_twice = refl;
   left_unset = refl;
-  not_yet-set = refl;
+  not_yet_set = refl;
   leading-zero = refl;
-  tab_no-blank = refl;
+  tab_no_blank = refl;
   too_large = refl;
   too_many_outs = refl;
   parties_of_257 = refl;

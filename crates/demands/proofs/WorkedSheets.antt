@@ -1,5 +1,5 @@
 -- The table of the formula sheets holds, by computation.
-use mathlib.Core.Path.{◌≡◌, refl}
+use mathlib.Core.Path.{refl}
 use mathlib.Core.List.{flat_map}
 use Rattle.numbers.specs.Tables.{tab, first_from, first_failing, count_where}
 use Rattle.numbers.specs.Bytes.{number_at, bytes_from, word_at, bytes_of, all_below}

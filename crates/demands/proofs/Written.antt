@@ -2,7 +2,8 @@
 --     sound, plan-is, is-bytes     it reads back as what was made
 --     results                      in a run apart a party's last call writes what the plan grants to it
 -- Assumes nothing.
-use Prim.Native.Nat.{ℕ, suc, ◌+◌, ◌*◌, ◌<◌, ◌≤◌}
+use Rattle.std.proofs.Common.{Option, Some, None, Ok}
+use Prim.Native.Nat.{ℕ, suc, ◌*◌, ◌<◌, ◌≤◌}
 use mathlib.Core.Path.{◌≡◌, refl, sym, ap, subst, ◌∙◌}
 use mathlib.Core.Bool.{true}
 use mathlib.Core.List.{List}
@@ -10,15 +11,12 @@ use native.Mathlib.Omega.{arith}
 use borrow.Author.Tests.{ltb-true}
 use lib.Dec.{T}
 use lib.ListN.{length}
-use Rattle.numbers.specs.declared.Found.{Found}
-use Rattle.numbers.specs.declared.Found.TheVariants.{At, Nothing}
 use Rattle.numbers.specs.Tables.{first_failing}
 use Rattle.numbers.specs.Bytes.{width, bytes_of, all_below}
 use Rattle.numbers.proofs.Tables.{length-tab}
 use Rattle.numbers.proofs.Searches.{nothing_passes}
 use Rattle.field.proofs.Primes.{prime_sound}
-use Rattle.plan.specs.declared.Checked.{Checked}
-use Rattle.plan.specs.declared.Checked.TheVariants.{Passed, Refused}
+use Rattle.plan.specs.Refusals.{Checked}
 use Rattle.plan.specs.declared.Refusal.TheVariants as refusal
 use Rattle.plan.specs.Refusals.{and_then, first_of, unless_found}
 use Rattle.plan.specs.Plans.{Plan, party_count, last_call, written_count}
@@ -32,13 +30,13 @@ use Rattle.run_protocol.specs.Settings.{Inputs, Coins}
 use Rattle.demands.specs.Apart as apart
 use Rattle.demands.proofs.Apart.{demand2}
 
-not_found : (f : Found) → unless_found refusal.OutputRule f ≡ Passed → f ≡ Nothing
+not_found : (f : Option ℕ) → unless_found refusal.OutputRule f ≡ Ok tt → f ≡ None
 unfolding unless_found
-not_found (At i) e = absurd (let z : ◌≡◌ {A = ℕ} 0 1 = cc in omega arith)
-not_found Nothing e = refl
+not_found (Some i) e = absurd (let z : ◌≡◌ {A = ℕ} 0 1 = cc in omega arith)
+not_found None e = refl
 
 module _ (n t p : ℕ) (b : Bodies) (few-gates : length b.gates ≤ 1024) (few_outs : length b.outs ≤ 64)
-    (wired : 1 ≤ n → 2 ≤ p → Wired n p b) (passes : plan_check (file_of_plan n t p b) ≡ Passed) where
+    (wired : 1 ≤ n → 2 ≤ p → Wired n p b) (passes : plan_check (file_of_plan n t p b) ≡ Ok tt) where
   checked : Passing (file_of_plan n t p b)
   checked = passing (file_of_plan n t p b) passes
 

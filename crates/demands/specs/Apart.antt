@@ -1,12 +1,11 @@
 -- Parties run apart: each call on the bytes that its caller lends, and as mail the parts that all parties' calls before wrote for it.
-use Rattle.std.specs.Prelude.{ℕ, zero, suc, ◌+◌, ◌-◌, ◌*◌, cond, leb, length, take, drop, get_or, replicate}
+use Rattle.std.specs.Prelude.{Ok, ℕ, zero, suc, ◌+◌, ◌-◌, ◌*◌, cond, leb, length, take, drop, get_or, replicate}
 use mathlib.Core.List.{List, [], ◌∷◌, ◌++◌, map, flat_map}
 use Rattle.numbers.specs.Tables.{tab}
 use Rattle.numbers.specs.Bytes.{width, bytes_of}
 use Rattle.plan.specs.declared.Step.{Step}
 use Rattle.plan.specs.declared.Step.TheVariants.{DealInputs, DealProduct, DealZero, DealMasked, SendTruncated, DealDraws, OpenSpent, SendOuts}
-use Rattle.plan.specs.declared.Checked.{Checked}
-use Rattle.plan.specs.declared.Checked.TheVariants.{Passed}
+use Rattle.plan.specs.Refusals.{Checked}
 use Rattle.plan.specs.Plans.{Plan, parties, dealer_count, input_wires, own_out_count, own_inputs, own_coins, step_at, last_call}
 use Rattle.plan.specs.File.{plan_of}
 use Rattle.seat_messages.specs.Calls.{call_answer, state_after, out_after}
@@ -41,7 +40,7 @@ pub record Answered : Type 0 where
   pub out : List ℕ
 
 unfoldable pub unanswered : Answered
-unanswered = record { answer = Passed; state = []; out = [] }
+unanswered = record { answer = Ok tt; state = []; out = [] }
 
 unfoldable pub answered : List ℕ → ℕ → List ℕ → List ℕ → List ℕ → List ℕ → List ℕ → Answered
 answered bytes i figures coins state mail out =

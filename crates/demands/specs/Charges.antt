@@ -1,9 +1,8 @@
--- What is claimed of the line charge (document 02, R-14): "Each pays in proportion to the elements it sends, rounded down; cents left over go
+-- What is claimed of the line charge: "Each pays in proportion to the elements it sends, rounded down; cents left over go
 -- to the greatest remainders, lower seats first among equals. The parts add up to the bill." And the worked bills, as one table.
-use Rattle.std.specs.Prelude.{ℕ, suc, ◌+◌, ◌*◌, ◌≤◌, ◌<◌, ◌≡◌, ◌⊎◌, List, [], ◌∷◌, length, get_or, replicate}
+use Rattle.std.specs.Prelude.{Ok, ℕ, suc, ◌+◌, ◌*◌, ◌≤◌, ◌<◌, ◌≡◌, ◌⊎◌, List, [], ◌∷◌, length, get_or, replicate}
 use Rattle.numbers.specs.Tables.{total}
 use Rattle.numbers.specs.Bytes.{limit, bytes_of}
-use Rattle.plan.specs.declared.Checked.TheVariants.{Passed}
 use Rattle.plan.specs.Refusals.{code_of}
 use Rattle.plan.specs.Plans.{Plan, party_count, sent_count}
 use Rattle.plan.specs.File.{plan_of}
@@ -45,7 +44,7 @@ pub record ChargedBytes (bytes : List ℕ) (price : ℕ) (out : List ℕ) : Type
   pub whole : (i : ℕ) → get_or (charge_of (plan_of bytes) price) i 0 < limit
 
 abbrev pub ChargedRight : Type 0
-ChargedRight = (bytes : List ℕ) (price : ℕ) (out : List ℕ) → charge_answer bytes price (length out) ≡ Passed → ChargedBytes bytes price out
+ChargedRight = (bytes : List ℕ) (price : ℕ) (out : List ℕ) → charge_answer bytes price (length out) ≡ Ok tt → ChargedBytes bytes price out
 
 -- ---- the worked bills, of plan K; and of K among five parties, of which two are no dealers
 abbrev pub charge_k : ℕ → List ℕ

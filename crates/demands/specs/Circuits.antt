@@ -1,13 +1,12 @@
--- What is claimed of an imported circuit (document 02, R-1): "For figures of 0 and 1 the plan's results equal the circuit's bits." And the
+-- What is claimed of an imported circuit: "For figures of 0 and 1 the plan's results equal the circuit's bits." And the
 -- worked example, as one table.
-use Rattle.std.specs.Prelude.{ℕ, suc, ◌*◌, ◌≡◌, true, List, [], ◌∷◌, length, get_or, take, drop}
+use Rattle.std.specs.Prelude.{Ok, ℕ, suc, ◌*◌, ◌≡◌, true, List, [], ◌∷◌, length, get_or, take, drop}
 use Prim.Native.Char.{code}
 use Prim.Native.String.{String}
 use Prim.Native.String as string
 use Rattle.numbers.specs.Bytes.{width, bytes_of, all_below}
 use Rattle.plan.specs.declared.Gate.{Gate}
 use Rattle.plan.specs.declared.Gate.TheVariants.{Input, Add, Scale, Multiply}
-use Rattle.plan.specs.declared.Checked.TheVariants.{Passed}
 use Rattle.plan.specs.Refusals.{code_of}
 use Rattle.plan.specs.Plans.{last_call, own_inputs, written_count}
 use Rattle.plan.specs.File.{plan_check, plan_of}
@@ -23,7 +22,7 @@ use Rattle.demands.specs.Apart as apart
 
 -- ---- the plan that was written for a circuit, with figures that are a bit for each input wire
 pub record SameBits (c : Circuit) (bytes xs : List ℕ) : Type 0 where
-  pub passes : plan_check bytes ≡ Passed
+  pub passes : plan_check bytes ≡ Ok tt
   pub file : all_below 256 bytes ≡ true
   pub inputs : Inputs (plan_of bytes) xs
   -- input value k, counted from 0, is what party k + 1 puts in
@@ -40,7 +39,7 @@ pub record SameBits (c : Circuit) (bytes xs : List ℕ) : Type 0 where
 -- for every text that imports, and every list of figures of 0 and 1 with its count
 abbrev pub Imported : Type 0
 Imported =
-    (n t p : ℕ) (text out xs : List ℕ) → import_answer n t p text (length out) ≡ Passed
+    (n t p : ℕ) (text out xs : List ℕ) → import_answer n t p text (length out) ≡ Ok tt
     → length xs ≡ input_wires (circuit_of text) → all_below 2 xs ≡ true
     → SameBits (circuit_of text) (import_after n t p text out) xs
 
@@ -89,9 +88,9 @@ pub record CircuitSums : Type 0 where
   pub more-values : code_of (import_answer 1 0 11 example 99) ≡ 23
   pub set_twice : answer_for 3 1 11 "2 3\n1 1\n1 1\n1 1 0 2 INV\n1 1 0 2 INV\n" 0 ≡ 23
   pub left_unset : answer_for 3 1 11 "1 3\n1 1\n1 1\n1 1 0 2 INV\n" 0 ≡ 23
-  pub not_yet-set : answer_for 3 1 11 "2 3\n1 1\n1 1\n1 1 1 2 INV\n1 1 0 1 INV\n" 0 ≡ 23
+  pub not_yet_set : answer_for 3 1 11 "2 3\n1 1\n1 1\n1 1 1 2 INV\n1 1 0 1 INV\n" 0 ≡ 23
   pub leading-zero : answer_for 3 1 11 "1 02\n1 1\n1 1\n1 1 0 1 INV\n" 0 ≡ 23
-  pub tab_no-blank : answer_for 3 1 11 "1 2\n1 1\n1 1\n1 1 0 1\tINV\n" 0 ≡ 23
+  pub tab_no_blank : answer_for 3 1 11 "1 2\n1 1\n1 1\n1 1 0 1\tINV\n" 0 ≡ 23
   pub too_large : answer_for 3 1 11 "0 65536\n1 1\n1 1\n" 0 ≡ 23
   pub too_many_outs : answer_for 3 1 11 "0 65\n1 65\n1 65\n" 0 ≡ 24
   pub parties_of_257 : code_of (import_answer 257 0 11 example 99) ≡ 3

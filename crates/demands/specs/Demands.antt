@@ -1,10 +1,9 @@
 -- The three demands, on what the C functions answer and write: the definitions are those that their contracts cite.
-use Rattle.std.specs.Prelude.{ℕ, ◌*◌, ◌/◌, ◌%◌, ◌≤◌, ◌<◌, ◌≡◌, true, length, get_or}
+use Rattle.std.specs.Prelude.{Ok, Err, ℕ, ◌*◌, ◌/◌, ◌%◌, ◌≤◌, ◌<◌, ◌≡◌, true, length, get_or}
 use mathlib.Core.List.{List, ◌++◌, map, flat_map}
 use Rattle.numbers.specs.Bytes.{width, bytes_of, all_below}
 use Rattle.plan.specs.declared.Refusal.{Refusal}
-use Rattle.plan.specs.declared.Checked.{Checked}
-use Rattle.plan.specs.declared.Checked.TheVariants.{Passed, Refused}
+use Rattle.plan.specs.Refusals.{Checked}
 use Rattle.plan.specs.Refusals.{number_of, place_of, code_of}
 use Rattle.plan.specs.Plans.{party_count, last_call, coin_count, own_inputs, own_coins, written_count, sent_count}
 use Rattle.plan.specs.File.{plan_checks, plan_check, plan_of}
@@ -29,13 +28,13 @@ use Rattle.demands.specs.Apart as apart
 -- ---- demand 1: the answer to a call on which these checks are made is the first refusal in checking order; C reads its number and its
 -- place, both whole; and where there is one, what is written stays as it was
 pub record Answers (checks : List Checked) (answer : Checked) (Kept : Type 0) : Type 0 where
-  pub passed : answer ≡ Passed → (k : ℕ) → get_or checks k Passed ≡ Passed
-  pub among : (r : Refusal) → answer ≡ Refused r → (k : ℕ) × (k < length checks) × (get_or checks k Passed ≡ Refused r)
-  pub first : (r : Refusal) → answer ≡ Refused r → (k : ℕ) (q : Refusal) → get_or checks k Passed ≡ Refused q → rank_of r ≤ rank_of q
-  pub none : code_of answer ≡ 0 → answer ≡ Passed
-  pub number : (r : Refusal) → answer ≡ Refused r → code_of answer % 256 ≡ number_of r
-  pub place : (r : Refusal) → answer ≡ Refused r → code_of answer / 256 ≡ place_of r
-  pub kept : (r : Refusal) → answer ≡ Refused r → Kept
+  pub passed : answer ≡ Ok tt → (k : ℕ) → get_or checks k (Ok tt) ≡ Ok tt
+  pub among : (r : Refusal) → answer ≡ Err r → (k : ℕ) × (k < length checks) × (get_or checks k (Ok tt) ≡ Err r)
+  pub first : (r : Refusal) → answer ≡ Err r → (k : ℕ) (q : Refusal) → get_or checks k (Ok tt) ≡ Err q → rank_of r ≤ rank_of q
+  pub none : code_of answer ≡ 0 → answer ≡ Ok tt
+  pub number : (r : Refusal) → answer ≡ Err r → code_of answer % 256 ≡ number_of r
+  pub place : (r : Refusal) → answer ≡ Err r → code_of answer / 256 ≡ place_of r
+  pub kept : (r : Refusal) → answer ≡ Err r → Kept
 
 pub record Demand1 : Type 0 where
   pub plan : (bs : List ℕ) → Answers (plan_checks bs) (plan_check bs) Unit
@@ -74,22 +73,22 @@ pub record Demand1 : Type 0 where
       → Answers (count_checks bs set xs coins (length out)) (count_answer bs set xs coins (length out)) (count_after bs set xs coins out ≡ out)
   -- the bench's answer is the refusal's, which counts no elements, or has the elements sent above its low byte, whole
   pub counted :
-      (bs : List ℕ) (set : ℕ) (xs coins : List ℕ) (room : ℕ) → bench_answer bs set xs coins room ≡ Passed
+      (bs : List ℕ) (set : ℕ) (xs coins : List ℕ) (room : ℕ) → bench_answer bs set xs coins room ≡ Ok tt
       → answer_of (benched_of (bench_answer bs set xs coins room) (sent_count (plan_of bs))) ≡ 256 * sent_count (plan_of bs)
   pub uncounted :
-      (bs : List ℕ) (set : ℕ) (xs coins : List ℕ) (room : ℕ) (r : Refusal) → bench_answer bs set xs coins room ≡ Refused r
-      → answer_of (benched_of (bench_answer bs set xs coins room) (sent_count (plan_of bs))) ≡ code_of (Refused r)
+      (bs : List ℕ) (set : ℕ) (xs coins : List ℕ) (room : ℕ) (r : Refusal) → bench_answer bs set xs coins room ≡ Err r
+      → answer_of (benched_of (bench_answer bs set xs coins room) (sent_count (plan_of bs))) ≡ code_of (Err r)
   -- and so with the charge's answer and the bill
   pub billed :
-      (bs : List ℕ) (price room : ℕ) → charge_answer bs price room ≡ Passed
+      (bs : List ℕ) (price room : ℕ) → charge_answer bs price room ≡ Ok tt
       → billed_of (charged_of (charge_answer bs price room) (bill_of (plan_of bs) price)) ≡ 256 * bill_of (plan_of bs) price
   pub unbilled :
-      (bs : List ℕ) (price room : ℕ) (r : Refusal) → charge_answer bs price room ≡ Refused r
-      → billed_of (charged_of (charge_answer bs price room) (bill_of (plan_of bs) price)) ≡ code_of (Refused r)
+      (bs : List ℕ) (price room : ℕ) (r : Refusal) → charge_answer bs price room ≡ Err r
+      → billed_of (charged_of (charge_answer bs price room) (bill_of (plan_of bs) price)) ≡ code_of (Err r)
 
 -- ---- demand 2: parties run apart, whatever the buffers held that their calls are lent
 pub record Given (bytes xs coins : List ℕ) : Type 0 where
-  pub passes : plan_check bytes ≡ Passed
+  pub passes : plan_check bytes ≡ Ok tt
   pub inputs : Inputs (plan_of bytes) xs
   pub settings : Coins (plan_of bytes) coins
 
@@ -97,7 +96,7 @@ pub record Right (bytes xs coins : List ℕ) (lent : ℕ → ℕ → List ℕ) :
   -- no call of a run is refused
   pub accepted :
       (k i : ℕ) → k ≤ last_call (plan_of bytes) → 1 ≤ i → i ≤ party_count (plan_of bytes)
-      → (apart.answer_of i (apart.run bytes xs coins lent k)).answer ≡ Passed
+      → (apart.answer_of i (apart.run bytes xs coins lent k)).answer ≡ Ok tt
   -- the last call's buffer has the results: the plan's own arithmetic
   pub results :
       (i : ℕ) → 1 ≤ i → i ≤ party_count (plan_of bytes)
@@ -105,7 +104,7 @@ pub record Right (bytes xs coins : List ℕ) (lent : ℕ → ℕ → List ℕ) :
   -- the bench answers, and writes byte for byte what the members of a coalition held and received apart
   pub bench :
       (set : ℕ) (view : List ℕ) → set_ok (plan_of bytes) set ≡ true → length view ≡ width * view_count (plan_of bytes) (members set)
-      → (bench_answer bytes set (bytes_of xs) (bytes_of coins) (length view) ≡ Passed)
+      → (bench_answer bytes set (bytes_of xs) (bytes_of coins) (length view) ≡ Ok tt)
       × (view_after bytes set (bytes_of xs) (bytes_of coins) view ≡ flat_map (apart.held_by bytes xs coins lent) (members set))
   -- the elements that it counts are those that the calls sent
   pub sent : apart.wrote_before (apart.run bytes xs coins lent) (last_call (plan_of bytes)) ≡ width * sent_count (plan_of bytes)
@@ -118,7 +117,7 @@ Demand2 =
 
 -- ---- demand 3: two lists of inputs that agree at the coalition's own inputs and grant it the same results
 pub record Alike (bytes : List ℕ) (set : ℕ) (xs ys : List ℕ) : Type 0 where
-  pub passes : plan_check bytes ≡ Passed
+  pub passes : plan_check bytes ≡ Ok tt
   pub set_passes : set_ok (plan_of bytes) set ≡ true
   pub first : Inputs (plan_of bytes) xs
   pub second : Inputs (plan_of bytes) ys
@@ -127,15 +126,15 @@ pub record Alike (bytes : List ℕ) (set : ℕ) (xs ys : List ℕ) : Type 0 wher
 
 -- the bench answers on both runs, the second with the coins that the matching wrote, and writes the same bytes
 pub record SameBytes (bytes : List ℕ) (set : ℕ) (xs ys coins out view view' : List ℕ) : Type 0 where
-  pub first_answers : bench_answer bytes set xs coins (length view) ≡ Passed
-  pub second_answers : bench_answer bytes set ys (matched_after bytes set xs ys coins out) (length view') ≡ Passed
+  pub first_answers : bench_answer bytes set xs coins (length view) ≡ Ok tt
+  pub second_answers : bench_answer bytes set ys (matched_after bytes set xs ys coins out) (length view') ≡ Ok tt
   pub same : view_after bytes set xs coins view ≡ view_after bytes set ys (matched_after bytes set xs ys coins out) view'
 
 pub record Private (bytes : List ℕ) (set : ℕ) (xs ys : List ℕ) : Type 0 where
   -- the matching answers for every setting of coins, and writes the matched coins, whatever its buffer held
   pub answers :
       (c out : List ℕ) → Coins (plan_of bytes) c → length out ≡ width * coin_count (plan_of bytes)
-      → match_answer bytes set (bytes_of xs) (bytes_of ys) (bytes_of c) (length out) ≡ Passed
+      → match_answer bytes set (bytes_of xs) (bytes_of ys) (bytes_of c) (length out) ≡ Ok tt
   pub writes :
       (c out : List ℕ) → Coins (plan_of bytes) c → length out ≡ width * coin_count (plan_of bytes)
       → matched_after bytes set (bytes_of xs) (bytes_of ys) (bytes_of c) out ≡ bytes_of (matched_coins (plan_of bytes) (members set) xs ys c)
@@ -144,7 +143,7 @@ pub record Private (bytes : List ℕ) (set : ℕ) (xs ys : List ℕ) : Type 0 wh
       (own : List (List ℕ)) (c : List ℕ) → Coins (plan_of bytes) c → map (λ i. own_coins (plan_of bytes) i c) (members set) ≡ own
       → Coins (plan_of bytes) (matched_coins (plan_of bytes) (members set) xs ys c)
       × (map (λ i. own_coins (plan_of bytes) i (matched_coins (plan_of bytes) (members set) xs ys c)) (members set) ≡ own)
-  pub one_to-one :
+  pub one_to_one :
       (c d : List ℕ) → Coins (plan_of bytes) c → Coins (plan_of bytes) d
       → matched_coins (plan_of bytes) (members set) xs ys c ≡ matched_coins (plan_of bytes) (members set) xs ys d → c ≡ d
   pub onto :

@@ -1,9 +1,8 @@
 -- What else is claimed beside the demands: of the matching from its calls alone, of a view piece by piece, of the sizes that a host cuts by, of
 -- the party that refusal 20 tells, and of a plan's file in another version.
-use Rattle.std.specs.Prelude.{ℕ, suc, ◌+◌, ◌*◌, ◌≤◌, ◌<◌, ◌≡◌, true, List, [], length}
+use Rattle.std.specs.Prelude.{Ok, Err, ℕ, suc, ◌+◌, ◌*◌, ◌≤◌, ◌<◌, ◌≡◌, true, List, [], length}
 use Rattle.numbers.specs.Bytes.{width, numbers, all_below}
 use Rattle.sharing_laws.specs.OffLine.{OnOne, OffAt}
-use Rattle.plan.specs.declared.Checked.TheVariants.{Passed, Refused}
 use Rattle.plan.specs.declared.Refusal.TheVariants as refusal
 use Rattle.plan.specs.Plans.{Plan, party_count, last_call, own_inputs, own_coins, own_out_count, mail_count, written_count}
 use Rattle.plan.specs.File.{between, version_at, p_at, plan_check, plan_of}
@@ -27,7 +26,7 @@ abbrev pub MatchedBytes : Type 0
 MatchedBytes =
     (bytes : List ℕ) (set : ℕ) (first second coins out view view' : List ℕ)
     → all_below 256 bytes ≡ true → all_below 256 first ≡ true → all_below 256 second ≡ true → all_below 256 coins ≡ true
-    → match_answer bytes set first second coins (length out) ≡ Passed
+    → match_answer bytes set first second coins (length out) ≡ Ok tt
     → length view ≡ width * view_count (plan_of bytes) (members set) → length view' ≡ width * view_count (plan_of bytes) (members set)
     → SameBytes bytes set first second coins out view view'
 
@@ -69,7 +68,7 @@ pub record Broken (plan : Plan) (i : ℕ) (mail : List ℕ) (party : ℕ) : Type
 abbrev pub FirstBroken : Type 0
 FirstBroken =
     (bytes : List ℕ) (i : ℕ) (inputs coins state mail : List ℕ) (room place : ℕ)
-    → call_answer bytes i inputs coins state mail room ≡ Refused (refusal.OffPolynomial place)
+    → call_answer bytes i inputs coins state mail room ≡ Err (refusal.OffPolynomial place)
     → Broken (plan_of bytes) i (numbers mail) place
 
 -- ---- a plan's file in another version
@@ -93,19 +92,19 @@ pub record SameCalls (first second : List ℕ) : Type 0 where
 
 -- a file that passes as another does, with the same plan: t, p, points, gates and outs, in order
 pub record Rewritten (first second : List ℕ) : Type 0 where
-  pub passes : plan_check second ≡ Passed
+  pub passes : plan_check second ≡ Ok tt
   pub plan : plan_of second ≡ plan_of first
   pub calls : SameCalls first second
 
 -- a plan may be written in every version that has points and room for its prime; so may that of a version 1 file, with its points 1 to n
 abbrev pub SameVersions : Type 0
-SameVersions = (bytes : List ℕ) (version : ℕ) → plan_check bytes ≡ Passed → between 2 3 version ≡ true → p_at bytes < field_limit version → Rewritten bytes (file_as version (plan_of bytes))
+SameVersions = (bytes : List ℕ) (version : ℕ) → plan_check bytes ≡ Ok tt → between 2 3 version ≡ true → p_at bytes < field_limit version → Rewritten bytes (file_as version (plan_of bytes))
 
--- ---- the converter (R-6): what it writes is a version 3 file of the same plan
+-- ---- the converter: what it writes is a version 3 file of the same plan
 pub record Converted (bytes out : List ℕ) : Type 0 where
   pub old : between 1 2 (version_at bytes) ≡ true
   pub new : version_at (convert_after bytes out) ≡ 3
   pub same : Rewritten bytes (convert_after bytes out)
 
 abbrev pub Converts : Type 0
-Converts = (bytes out : List ℕ) → convert_answer bytes (length out) ≡ Passed → Converted bytes out
+Converts = (bytes out : List ℕ) → convert_answer bytes (length out) ≡ Ok tt → Converted bytes out

@@ -1,7 +1,6 @@
 -- The demands on lists of numbers: the layer beneath those on lent bytes. A plan that is read from a file spends no triple.
-use Rattle.std.specs.Prelude.{ℕ, ◌*◌, ◌≤◌, ◌≡◌, true, List, []}
+use Rattle.std.specs.Prelude.{Ok, ℕ, ◌*◌, ◌≤◌, ◌≡◌, true, List, []}
 use Rattle.numbers.specs.Bytes.{width, bytes_of, all_below}
-use Rattle.plan.specs.declared.Checked.TheVariants.{Passed}
 use Rattle.plan.specs.Plans.{party_count, last_call, own_inputs, own_coins, written_count, sent_count}
 use Rattle.plan.specs.File.{plan_of}
 use Rattle.plan_coalition.specs.Coalitions.{members}
@@ -18,7 +17,7 @@ pub record RightRun (bytes xs coins : List ℕ) : Type 0 where
       → (room : ℕ) → room ≡ width * written_count (plan_of bytes) i k
       → call_answer bytes i (bytes_of (own_inputs (plan_of bytes) i xs)) (bytes_of (own_coins (plan_of bytes) i coins))
       (bytes_of (call_of i (after (plan_of bytes) xs coins [] k)).state) (bytes_of (mail_to i (after (plan_of bytes) xs coins [] k))) room
-      ≡ Passed
+      ≡ Ok tt
   pub correct : (i : ℕ) → 1 ≤ i → i ≤ party_count (plan_of bytes) → results (plan_of bytes) xs coins [] i ≡ granted (plan_of bytes) xs i
   pub sent : sent_all (plan_of bytes) xs coins [] ≡ sent_count (plan_of bytes)
 

@@ -1,7 +1,6 @@
--- R-12: parties that don't wait for each other. An order is a list of parties; each is called when all its mail for that call is there.
-use Rattle.std.specs.Prelude.{ℕ, suc, ◌*◌, ◌≤◌, ◌≡◌, true, List, []}
+-- Parties that don't wait for each other. An order is a list of parties; each is called when all its mail for that call is there.
+use Rattle.std.specs.Prelude.{Ok, ℕ, suc, ◌*◌, ◌≤◌, ◌≡◌, true, List, []}
 use Rattle.numbers.specs.Bytes.{width, bytes_of, all_below}
-use Rattle.plan.specs.declared.Checked.TheVariants.{Passed}
 use Rattle.plan.specs.Plans.{party_count, last_call, own_inputs, own_coins, written_count}
 use Rattle.plan.specs.File.{plan_of}
 use Rattle.seat_messages.specs.Calls.{call_answer}
@@ -19,7 +18,7 @@ pub record Ordered (bytes xs coins order : List ℕ) (P : Progress) : Type 0 whe
       (i room : ℕ) → ready (plan_of bytes) i P ≡ true → room ≡ width * written_count (plan_of bytes) i (made_by i P)
       → call_answer bytes i (bytes_of (own_inputs (plan_of bytes) i xs)) (bytes_of (own_coins (plan_of bytes) i coins))
       (bytes_of (latest i P).state) (bytes_of (mail_so_far i (made_by i P) P)) room
-      ≡ Passed
+      ≡ Ok tt
   -- a party that has finished has the run's shares, which are the bench's, and the results: the plan's own arithmetic
   pub shares :
       (i : ℕ) → 1 ≤ i → i ≤ party_count (plan_of bytes) → made_by i P ≡ suc (last_call (plan_of bytes))

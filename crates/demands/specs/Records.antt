@@ -1,11 +1,10 @@
--- What is claimed of the run record (document 02, R-8): "our bench reader with all bodies, a plant's reader with that of the seat number it takes,
+-- What is claimed of the run record: "our bench reader with all bodies, a plant's reader with that of the seat number it takes,
 -- which for a run is the plant's view. Over two runs that demand 3 matches for that plant alone, its reader shows the same." And a worked record,
 -- as one table.
-use Rattle.std.specs.Prelude.{ℕ, ◌-◌, ◌*◌, ◌^◌, ◌≤◌, ◌≡◌, true, length, take, replicate}
+use Rattle.std.specs.Prelude.{Ok, ℕ, ◌-◌, ◌*◌, ◌^◌, ◌≤◌, ◌≡◌, true, length, take, replicate}
 use mathlib.Core.List.{List, [], ◌∷◌, ◌++◌, flat_map}
 use Rattle.std.proofs.lemmas.List.Edits.{sets}
 use Rattle.numbers.specs.Bytes.{width, bytes_from, numbers, bytes_of, all_below}
-use Rattle.plan.specs.declared.Checked.TheVariants.{Passed}
 use Rattle.plan.specs.Refusals.{code_of}
 use Rattle.plan.specs.Plans.{party_count, parties, written_count}
 use Rattle.plan.specs.File.{plan_of}
@@ -22,17 +21,17 @@ pub record ReadBack (bytes figures coins stored : List ℕ) : Type 0 where
   pub long : length stored ≡ record_size (plan_of bytes)
   pub bench :
       (out : List ℕ) → length out ≡ width * view_count (plan_of bytes) (parties (plan_of bytes))
-      → (bench_read_answer bytes stored (length out) ≡ Passed)
+      → (bench_read_answer bytes stored (length out) ≡ Ok tt)
       × (bench_read_after bytes stored out ≡ bytes_of (view (plan_of bytes) (parties (plan_of bytes)) (numbers figures) (numbers coins) []))
   pub plant :
       (i : ℕ) (out : List ℕ) → 1 ≤ i → i ≤ party_count (plan_of bytes) → length out ≡ width * view_count_of (plan_of bytes) i
-      → (plant_read_answer bytes stored i (length out) ≡ Passed)
+      → (plant_read_answer bytes stored i (length out) ≡ Ok tt)
       × (plant_read_after bytes stored i out ≡ bytes_of (view_of (plan_of bytes) (numbers figures) (numbers coins) [] i))
 
 -- for all lent bytes, where the writer refuses nothing
 abbrev pub RoundTrip : Type 0
 RoundTrip =
-    (bytes figures coins out : List ℕ) → record_answer bytes figures coins (length out) ≡ Passed
+    (bytes figures coins out : List ℕ) → record_answer bytes figures coins (length out) ≡ Ok tt
     → ReadBack bytes figures coins (record_after bytes figures coins out)
 
 -- for all runs: the record is written, and a plant's reader gives byte for byte what that party held and received where the parties run apart
@@ -41,15 +40,15 @@ ShownApart =
     (bytes xs coins stored out : List ℕ) (i : ℕ) (lent : ℕ → ℕ → List ℕ) → all_below 256 bytes ≡ true → Given bytes xs coins
     → ((j k : ℕ) → length (lent j k) ≡ width * written_count (plan_of bytes) j k)
     → 1 ≤ i → i ≤ party_count (plan_of bytes) → length stored ≡ record_size (plan_of bytes) → length out ≡ body_size (plan_of bytes) i
-    → (record_answer bytes (bytes_of xs) (bytes_of coins) (length stored) ≡ Passed)
+    → (record_answer bytes (bytes_of xs) (bytes_of coins) (length stored) ≡ Ok tt)
     × (plant_read_after bytes (record_after bytes (bytes_of xs) (bytes_of coins) stored) i out ≡ apart.held_by bytes xs coins lent i)
 
 -- ---- two runs, the second with these coins, stored and read by party i: no call is refused, and its reader gives the same bytes
 pub record SameBody (bytes : List ℕ) (i : ℕ) (first coins second moved stored stored' out out' : List ℕ) : Type 0 where
-  pub first-stored : record_answer bytes first coins (length stored) ≡ Passed
-  pub second-stored : record_answer bytes second moved (length stored') ≡ Passed
-  pub first_read : plant_read_answer bytes (record_after bytes first coins stored) i (length out) ≡ Passed
-  pub second_read : plant_read_answer bytes (record_after bytes second moved stored') i (length out') ≡ Passed
+  pub first-stored : record_answer bytes first coins (length stored) ≡ Ok tt
+  pub second-stored : record_answer bytes second moved (length stored') ≡ Ok tt
+  pub first_read : plant_read_answer bytes (record_after bytes first coins stored) i (length out) ≡ Ok tt
+  pub second_read : plant_read_answer bytes (record_after bytes second moved stored') i (length out') ≡ Ok tt
   pub same : plant_read_after bytes (record_after bytes first coins stored) i out ≡ plant_read_after bytes (record_after bytes second moved stored') i out'
 
 -- the coalition of party i alone
@@ -62,7 +61,7 @@ SameShown =
     (bytes : List ℕ) (i : ℕ) (first second coins matched stored stored' out out' : List ℕ)
     → all_below 256 bytes ≡ true → all_below 256 first ≡ true → all_below 256 second ≡ true → all_below 256 coins ≡ true
     → 1 ≤ i → i ≤ party_count (plan_of bytes)
-    → match_answer bytes (only i) first second coins (length matched) ≡ Passed
+    → match_answer bytes (only i) first second coins (length matched) ≡ Ok tt
     → length stored ≡ record_size (plan_of bytes) → length stored' ≡ record_size (plan_of bytes)
     → length out ≡ body_size (plan_of bytes) i → length out' ≡ body_size (plan_of bytes) i
     → SameBody bytes i first coins second (matched_after bytes (only i) first second coins matched) stored stored' out out'
@@ -70,12 +69,12 @@ SameShown =
 -- ---- any record that the bench's reader takes, and a buffer for each party: every party's reader takes it, and the bench's gives what they give, one
 -- after the other
 pub record Bodies (bytes stored out : List ℕ) (lent : ℕ → List ℕ) : Type 0 where
-  pub each : (i : ℕ) → 1 ≤ i → i ≤ party_count (plan_of bytes) → plant_read_answer bytes stored i (length (lent i)) ≡ Passed
+  pub each : (i : ℕ) → 1 ≤ i → i ≤ party_count (plan_of bytes) → plant_read_answer bytes stored i (length (lent i)) ≡ Ok tt
   pub joined : bench_read_after bytes stored out ≡ flat_map (λ i. plant_read_after bytes stored i (lent i)) (parties (plan_of bytes))
 
 abbrev pub Tiled : Type 0
 Tiled =
-    (bytes stored out : List ℕ) (lent : ℕ → List ℕ) → bench_read_answer bytes stored (length out) ≡ Passed
+    (bytes stored out : List ℕ) (lent : ℕ → List ℕ) → bench_read_answer bytes stored (length out) ≡ Ok tt
     → ((i : ℕ) → length (lent i) ≡ body_size (plan_of bytes) i)
     → Bodies bytes stored out lent
 

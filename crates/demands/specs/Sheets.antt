@@ -1,14 +1,12 @@
--- What is claimed of a formula sheet (document 02, R-5): "The plan's value equals the formula's for all figures." And the worked examples, as
+-- What is claimed of a formula sheet: "The plan's value equals the formula's for all figures." And the worked examples, as
 -- one table.
-use Rattle.std.specs.Prelude.{ℕ, suc, ◌+◌, ◌*◌, ◌≡◌, true, cond, List, [], ◌∷◌, eqb, length, get_or, drop}
+use Rattle.std.specs.Prelude.{Ok, ℕ, ◌*◌, ◌≡◌, true, cond, List, [], ◌∷◌, eqb, length, get_or, drop}
 use Prim.Native.String.{String}
 use Rattle.numbers.specs.Bytes.{width, bytes_of, all_below}
 use Rattle.plan.specs.declared.Gate.{Gate}
 use Rattle.plan.specs.declared.Gate.TheVariants.{Input, Add, Scale, Offset, Multiply}
-use Rattle.plan.specs.declared.Output.{Output}
-use Rattle.plan.specs.declared.Checked.TheVariants.{Passed}
 use Rattle.plan.specs.Refusals.{code_of}
-use Rattle.plan.specs.Plans.{Plan, last_call, own_inputs, written_count}
+use Rattle.plan.specs.Plans.{last_call, own_inputs, written_count}
 use Rattle.plan.specs.File.{plan_check, plan_of}
 use Rattle.run_protocol.specs.Ideal.{granted}
 use Rattle.run_protocol.specs.Settings.{Inputs, Coins}
@@ -27,7 +25,7 @@ named_figures j (x ∷ names) xs =
 
 -- ---- the plan that was written for a formula, whose result goes to party i, with a figure for each name
 pub record SameValue (x : Tree) (p i : ℕ) (bytes xs : List ℕ) : Type 0 where
-  pub passes : plan_check bytes ≡ Passed
+  pub passes : plan_check bytes ≡ Ok tt
   pub file : all_below 256 bytes ≡ true
   pub inputs : Inputs (plan_of bytes) xs
   -- a name's figure is what its party puts in
@@ -44,7 +42,7 @@ pub record SameValue (x : Tree) (p i : ℕ) (bytes xs : List ℕ) : Type 0 where
 -- for every sheet that compiles, and all figures
 abbrev pub Compiled : Type 0
 Compiled =
-    (n t p i : ℕ) (text out xs : List ℕ) → sheet_answer n t p i text (length out) ≡ Passed
+    (n t p i : ℕ) (text out xs : List ℕ) → sheet_answer n t p i text (length out) ≡ Ok tt
     → length xs ≡ length (names_of (sheet_tree n p text)) → all_below p xs ≡ true
     → SameValue (sheet_tree n p text) p i (sheet_after n t p i text out) xs
 

@@ -1,4 +1,4 @@
--- The sums worked by hand of document 01, P1 to P10, as one table, with those of R-3, R-4 and R-9 of document 02; and that plan K with P5's lists meets the premises of the demands.
+-- The sums worked by hand, P1 to P10, as one table, with those of other thresholds, points and openings; and that plan K with P5's lists meets the premises of the demands.
 use Rattle.std.specs.Prelude.{ℕ, ◌+◌, ◌*◌, ◌≡◌, true, List, [], ◌∷◌, ◌++◌, map}
 use Rattle.numbers.specs.Bytes.{width, bytes_of, all_below}
 use Rattle.sharing_laws.specs.Interp.{weights, interpolate, delta}
@@ -100,12 +100,12 @@ pub record Sums : Type 0 where
   pub p3_result : results K inputs1 coins1 [] 3 ≡ 2 ∷ []
   pub p4 : delta 11 (3 ∷ []) ≡ 1 ∷ 7 ∷ []
   pub p5_coins : matched_coins K (3 ∷ []) inputs1 inputs5 coins1 ≡ 3 ∷ 8 ∷ 5 ∷ 2 ∷ 7 ∷ []
-  pub p5_first-view : view K (3 ∷ []) inputs1 coins1 [] ≡ 7 ∷ 10 ∷ 3 ∷ 7 ∷ 4 ∷ 7 ∷ 10 ∷ 7 ∷ 4 ∷ 2 ∷ []
+  pub p5_first_view : view K (3 ∷ []) inputs1 coins1 [] ≡ 7 ∷ 10 ∷ 3 ∷ 7 ∷ 4 ∷ 7 ∷ 10 ∷ 7 ∷ 4 ∷ 2 ∷ []
   pub p5-view : view K (3 ∷ []) inputs5 (3 ∷ 8 ∷ 5 ∷ 2 ∷ 7 ∷ []) [] ≡ view K (3 ∷ []) inputs1 coins1 []
-  -- P6 as R-3 has it: K's out names party 3
+  -- P6 with any threshold: K's out names party 3
   pub p6_first : code_of (plan_check (like_k 2 1 11 0)) ≡ 8
   pub p6_passes : code_of (plan_check (like_k 15 7 17 0)) ≡ 0
-  pub p7-not_above : code_of (plan_check (like_k 3 1 3 0)) ≡ 5
+  pub p7_not_above : code_of (plan_check (like_k 3 1 3 0)) ≡ 5
   pub p7_nine : code_of (plan_check (like_k 3 1 9 0)) ≡ 5
   pub p7_largest : code_of (plan_check (like_k 3 1 241 255)) ≡ 0
   pub p7_even_larger : code_of (plan_check (like_k 3 1 255 255)) ≡ 5
@@ -114,7 +114,7 @@ pub record Sums : Type 0 where
   pub p9_passes : code_of (plan_check single) ≡ 0
   pub p9_result : results (plan_of single) (1 ∷ []) [] [] 1 ≡ 1 ∷ []
   pub p10 : bench_of 3 inputs1 0 ≡ 9
-  -- R-3: t = n; a multiply gate at n = 2, t = 1; and source document 001's example, with the two matchings for parties 1 and 4
+  -- thresholds: t = n; a multiply gate at n = 2, t = 1; and an example over 5, with the two matchings for parties 1 and 4
   pub r3_threshold : code_of (plan_check (like_k 3 3 11 0)) ≡ 4
   pub r3_majority : code_of (plan_check (contents 2 1 11 0 ++ bodies 2)) ≡ 25
   pub r3_passes : code_of (plan_check addition) ≡ 0
@@ -125,7 +125,7 @@ pub record Sums : Type 0 where
   pub r3_other_coins : matched_coins (plan_of addition) (1 ∷ 4 ∷ []) inputs3 (2 ∷ 2 ∷ 0 ∷ 0 ∷ []) coins3 ≡ 0 ∷ 0 ∷ 0 ∷ 0 ∷ 2 ∷ 1 ∷ 3 ∷ 2 ∷ []
   pub r3-view :
       view (plan_of addition) (1 ∷ 4 ∷ []) (2 ∷ 0 ∷ 2 ∷ 0 ∷ []) (0 ∷ 0 ∷ 0 ∷ 2 ∷ 2 ∷ 4 ∷ 3 ∷ 2 ∷ []) [] ≡ view (plan_of addition) (1 ∷ 4 ∷ []) inputs3 coins3 []
-  -- R-4: K over 101 with the points 7, 40, 3, its run and its matching for party 3; 26 for 0, for p and for a point that stands twice
+  -- points: K over 101 with the points 7, 40, 3, its run and its matching for party 3; 26 for 0, for p and for a point that stands twice
   pub r4_passes : code_of (plan_check (pointed 7 40 3)) ≡ 0
   pub r4-weights : weights 101 0 Codes.points ≡ 45 ∷ 36 ∷ 21 ∷ []
   pub r4_shares :
@@ -139,7 +139,7 @@ pub record Sums : Type 0 where
   pub r4-zero : code_of (plan_check (pointed 7 0 3)) ≡ 26
   pub r4_prime : code_of (plan_check (pointed 7 40 101)) ≡ 26
   pub r4_twice : code_of (plan_check (pointed 7 40 7)) ≡ 26
-  -- R-9: seat 3's last call in P1's run, its shares 10 7 4 as they came and with the last wrong; and three openings of five shares, of which the
+  -- openings: seat 3's last call in P1's run, its shares 10 7 4 as they came and with the last wrong; and three openings of five shares, of which the
   -- second breaks at seats 4 and 5, the third at seat 3
   pub r9_right : last_call_of (10 ∷ 7 ∷ 4 ∷ []) ≡ 0
   pub r9_seat : last_call_of (10 ∷ 7 ∷ 5 ∷ []) ≡ 20 + 256 * 3

@@ -1,9 +1,8 @@
--- What is claimed of counting the views (document 02, R-13): "how many settings of the others' coins lead to each view. [..] Views reached stand
+-- What is claimed of counting the views: "how many settings of the others' coins lead to each view. [..] Views reached stand
 -- ascending, compared from their first number; rows left over are 0. For a set of exactly t members, under the version 1 to 3 multiply rule, no view has
 -- two settings, and the number of views is p to the power e, where e is t times the count of non-members' dealings." And worked lists, as one table.
-use Rattle.std.specs.Prelude.{ℕ, ◌+◌, ◌*◌, ◌^◌, ◌<◌, ◌≡◌, true, List, [], ◌∷◌, ◌++◌, length, get_or, replicate}
+use Rattle.std.specs.Prelude.{Ok, ℕ, ◌+◌, ◌*◌, ◌^◌, ◌<◌, ◌≡◌, true, List, [], ◌∷◌, length, get_or, replicate}
 use Rattle.numbers.specs.Bytes.{numbers, bytes_of, all_below}
-use Rattle.plan.specs.declared.Checked.TheVariants.{Passed}
 use Rattle.plan.specs.declared.Rule.TheVariants.{Reduction}
 use Rattle.plan.specs.Refusals.{code_of}
 use Rattle.plan.specs.Plans.{Plan}
@@ -33,7 +32,7 @@ pub record Counted (bytes : List ℕ) (set : ℕ) (figures coins out : List ℕ)
 
 abbrev pub ViewsCounted : Type 0
 ViewsCounted =
-    (bytes : List ℕ) (set : ℕ) (figures coins out : List ℕ) → count_answer bytes set figures coins (length out) ≡ Passed → Counted bytes set figures coins out
+    (bytes : List ℕ) (set : ℕ) (figures coins out : List ℕ) → count_answer bytes set figures coins (length out) ≡ Ok tt → Counted bytes set figures coins out
 
 -- ---- exactly t members, under the rule of versions 1 to 3: no view has two settings, and there are p to the power e views
 pub record Once (plan : Plan) (set : ℕ) (xs given : List ℕ) : Type 0 where
@@ -42,7 +41,7 @@ pub record Once (plan : Plan) (set : ℕ) (xs given : List ℕ) : Type 0 where
 
 abbrev pub ViewsOnce : Type 0
 ViewsOnce =
-    (bytes : List ℕ) (set : ℕ) (xs given : List ℕ) → plan_check bytes ≡ Passed → (plan_of bytes).rule ≡ Reduction
+    (bytes : List ℕ) (set : ℕ) (xs given : List ℕ) → plan_check bytes ≡ Ok tt → (plan_of bytes).rule ≡ Reduction
     → Exactly (plan_of bytes) set → all_below (plan_of bytes).p given ≡ true
     → Once (plan_of bytes) set xs given
 

@@ -1,6 +1,7 @@
 -- Trial division by 2, 3 and the candidates next to the multiples of 6: the others are multiples of 2 or of 3.
 --     Trying, trying      the loop of `least_divisor`
 -- Assumes nothing.
+use Rattle.std.proofs.Common.{Some, None}
 use mathlib.Core.Path.{◌≡◌, refl, sym, ap, ◌∙◌}
 use mathlib.Core.Logic.{◌≢◌}
 use Prim.Native.Nat.{ℕ, suc, ◌+◌, ◌-◌, ◌*◌, ◌/◌, ◌%◌, ◌^◌, ◌≤◌, ◌<◌}
@@ -9,7 +10,6 @@ use native.Mathlib.Numerals.{add-one}
 use native.Mathlib.Decide.{dec_le}
 use native.Mathlib.Omega.{arith}
 use borrow.Author.Rules.{rules}
-use Rattle.field.specs.declared.Divisor.TheVariants.{Found, Nothing}
 use Rattle.field.specs.Prime.{divisor_from, divisor_of}
 use Rattle.field.proofs.Primes.{divisor-past, divisor_here, divisor_later}
 
@@ -76,7 +76,7 @@ module _ (p d step : ℕ) (t : Trying p d step) where
   pub square_fits : d * d < 2 ^ 64
   square_fits = omega (arith, mul-le-mul t.word t.word)
 
-  pub trying-past : p < d * d → Nothing ≡ divisor_of p
+  pub trying-past : p < d * d → None ≡ divisor_of p
   trying-past h = sym (divisor-past (p + 2 - d) d p h) ∙ t.from.same
 
   pub step_under : step ≤ 6
@@ -86,7 +86,7 @@ module _ (p d step : ℕ) (t : Trying p d step) where
     twice : 2 * d ≤ p
     twice = omega (arith, mul-le-mul_right d t.least)
 
-    pub trying-found : p % d ≡ 0 → Found d ≡ divisor_of p
+    pub trying-found : p % d ≡ 0 → Some d ≡ divisor_of p
     trying-found e =
         let fuel : p + 2 - d ≡ suc (p + 2 - (d + 1)) = omega (arith, twice) in
         sym (rw fuel (divisor_here (p + 2 - (d + 1)) d p sq e)) ∙ t.from.same

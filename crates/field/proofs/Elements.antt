@@ -1,67 +1,55 @@
 -- The field's constructor and methods, in the code's terms.
+use Rattle.std.proofs.Common.{Option, Some, None, option_map}
 use mathlib.Core.Path.{◌≡◌, refl, sym, ap, ◌∙◌}
 use mathlib.Core.Bool.{Bool, true, false, ◌&&◌, cond}
 use Prim.Native.Nat.{ℕ, ◌+◌, ◌-◌, ◌*◌, ◌/◌, ◌%◌, ◌^◌, ◌≤◌, ◌<◌}
 use native.Mathlib.Nat.{mod-lt, div-lt_self, mod-eq_of_lt, add-mod_right}
 use native.Mathlib.Omega.{arith}
 use borrow.Author.Rules.{rules}
-use borrow.Author.Tests.{ltb-true, lt-ltb, le-ltb}
+use borrow.Author.Tests.{lt-ltb, le-ltb}
 use lib.Dec.{ltb}
 use Rattle.field.specs.declared.Field.{Field}
-use Rattle.field.specs.declared.Made.{Made}
-use Rattle.field.specs.declared.Made.TheVariants as made
 use Rattle.field.specs.Mod.{add, mul, sub}
-use Rattle.field.specs.Prime.{is_prime, Prime, inv}
-use Rattle.field.specs.Field.{field_limit, made_of, Is}
+use Rattle.field.specs.Prime.{is_prime, inv}
+use Rattle.field.specs.Field.{field_limit, made_of, Ready, Is}
 use Rattle.field.proofs.Solve.{sub_down, sub_over, #, quote, solve}
 use Rattle.field.proofs.Primes.{prime_sound}
 use Rattle.field.proofs.Inverse.{inv-canon, inv_step, inv_small}
 use Rattle.field.proofs.Products.{word}
 
 -- ---- the constructor
-pub made_above : (p : ℕ) → field_limit ≤ p → made.Refused ≡ made_of p
+pub made_ready : (p : ℕ) (b : Bool) → p < field_limit → b ≡ is_prime p → b ≡ true → Ready p
+made_ready p b h e t = record { prime = prime_sound p (rw (sym e ∙ t) tt); small = h }
+
+pub made_some : (p : ℕ) (b : Bool) → p < field_limit → b ≡ is_prime p → b ≡ true → Some p ≡ made_of p
+unfolding made_of
+made_some p b h e t = rw (lt-ltb p field_limit h, ← e, t)
+
+pub made_above : (p : ℕ) → field_limit ≤ p → None ≡ made_of p
 unfolding made_of
 made_above p h = rw (le-ltb p field_limit h)
 
-pub made-field : (p : ℕ) (b : Bool) → p < field_limit → b ≡ is_prime p → b ≡ true → made.Field (record { p = p }) ≡ made_of p
-unfolding made_of
-made-field p b h e t = rw (lt-ltb p field_limit h, ← e, t)
-
-pub made_refused : (p : ℕ) (b : Bool) → p < field_limit → b ≡ is_prime p → b ≡ false → made.Refused ≡ made_of p
+pub made_refused : (p : ℕ) (b : Bool) → p < field_limit → b ≡ is_prime p → b ≡ false → None ≡ made_of p
 unfolding made_of
 made_refused p b h e t = rw (lt-ltb p field_limit h, ← e, t)
 
--- a field that was made has a prime below the limit
-pub made_prime : (p : ℕ) (f : Field) → made_of p ≡ made.Field f → (f.p ≡ p) × Prime p × (p < field_limit)
-unfolding made_of
-made_prime p f h = pick (ltb p field_limit) (is_prime p) refl refl h
-  where
-    pick : (b c : Bool) → ltb p field_limit ≡ b → is_prime p ≡ c → cond (b && c) (made.Field (record { p = p })) made.Refused ≡ made.Field f → (f.p ≡ p) × Prime p × (p < field_limit)
-    pick true true e q h = let same : ◌≡◌ {A = Field} (record { p = p }) f = cc in (sym (ap (λ g. g.p) same), prime_sound p (rw q tt), ltb-true p field_limit e)
-    pick true false e q h = let z : ◌≡◌ {A = ℕ} 0 1 = cc in absurd (omega arith)
-    pick false c e q h = let z : ◌≡◌ {A = ℕ} 0 1 = cc in absurd (omega arith)
+pub ready_above : (p : ℕ) → Ready p → 1 < p
+ready_above p r = r.prime.above
 
--- the same for a caller of `Field::new`, whose answer is o
-module _ (p : ℕ) (f : Field) (o : Made) (new : o ≡ made_of p) (field : o ≡ made.Field f) where
-  facts : (f.p ≡ p) × Prime p × (p < field_limit)
-  facts = made_prime p f (sym new ∙ field)
+pub ready_positive : (p : ℕ) → Ready p → 0 < p
+ready_positive p r = let h : 1 < p = r.prime.above in omega arith
 
+-- for a caller of `Field::new`, whose answer is o
+module _ (p : ℕ) (f : Field) (o : Option Field) (new : option_map (λ (g : Field). g.p) o ≡ made_of p) (field : o ≡ Some f) where
   pub new_same : f.p ≡ p
-  new_same = facts.0
+  unfolding made_of
+  new_same = pick (ltb p field_limit && is_prime p) (ap (option_map (λ (g : Field). g.p)) (sym field) ∙ new)
+    where
+      pick : (b : Bool) → ◌≡◌ {A = Option ℕ} (Some f.p) (cond b (Some p) None) → f.p ≡ p
+      pick true e = cc
+      pick false e = let z : ◌≡◌ {A = ℕ} 0 1 = cc in absurd (omega arith)
 
-  pub new_prime : Prime f.p
-  new_prime = rw new_same facts.1
-
-  pub new_small : f.p < field_limit
-  new_small = rw new_same facts.2
-
-  pub new_above : 1 < f.p
-  new_above = new_prime.above
-
-  pub new_positive : 0 < f.p
-  new_positive = omega (arith, new_above)
-
-pub ruleset made_new = (rules, new_same, new_prime, new_small, new_above, new_positive)
+pub ruleset made_new = (rules, new_same, ready_above, ready_positive)
 
 -- ---- the methods
 pub is_element : (p x : ℕ) → 0 < p → Is p (x % p) (x % p)
@@ -91,7 +79,7 @@ is-sub_over p a b h k = record { eq = sym (sub_over p a b h k); lt = omega arith
 pub product_fits : (p a b : ℕ) → p < field_limit → a < p → b < p → a * b < 2 ^ 64
 product_fits p a b small l r = omega (arith, word a b (omega arith) (omega arith))
 
-pub ruleset methods = (rules, product_fits, is_element, is-add_down, is-add_over, is_mul, is-sub_down, is-sub_over, made_above, made-field, made_refused)
+pub ruleset methods = (rules, product_fits, is_element, is-add_down, is-add_over, is_mul, is-sub_down, is-sub_over, made_ready, made_some, made_above, made_refused, ready_above, ready_positive)
 
 -- for a caller: a method's result, where its arguments are results
 pub is_itself : (p a : ℕ) → a < p → Is p a a

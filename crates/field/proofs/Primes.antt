@@ -1,26 +1,24 @@
 -- What trial division shows.
+use Rattle.std.proofs.Common.{Option, Some, None}
 use mathlib.Core.Path.{◌≡◌, refl, sym, ap, ◌∙◌}
 use mathlib.Core.Logic.{◌≢◌, ◌⊎◌, inl, inr}
 use native.Mathlib.Decide.{dec_le}
 use mathlib.Core.Bool.{Bool, true, false, ◌&&◌}
-use Prim.Native.Nat.{ℕ, zero, suc, ◌+◌, ◌-◌, ◌*◌, ◌/◌, ◌%◌, ◌^◌, ◌≤◌, ◌<◌}
+use Prim.Native.Nat.{ℕ, zero, suc, ◌+◌, ◌*◌, ◌/◌, ◌%◌, ◌≤◌, ◌<◌}
 use native.Mathlib.Nat.{zero-mul, lt_of_mul-lt-mul_right, mul-le-mul_left, mul-le-mul_right, eq-or-lt_of_le, div-add-mod', mul-le-mul, mul-mod_left}
-use native.Mathlib.Numerals.{add-one}
 use native.Mathlib.Omega.{arith}
 use borrow.Author.Rules.{rules}
 use borrow.Author.Tests.{ltb-true, ltb-false, eqb-true, eqb-false, lt-ltb, le-ltb, eq-eqb, ne_eqb}
 use lib.Dec.{T, ltb, eqb, ltb→lt, lt→ltb}
-use Rattle.field.specs.declared.Divisor.{Divisor}
-use Rattle.field.specs.declared.Divisor.TheVariants.{Found, Nothing}
 use Rattle.field.specs.Prime.{divisor_from, divisor_of, is_nothing, is_prime, Prime}
 
 -- ---- one candidate: the square passes p, it divides p, or the search goes on
-pub divisor-past : (n d p : ℕ) → p < d * d → divisor_from n d p ≡ Nothing
+pub divisor-past : (n d p : ℕ) → p < d * d → divisor_from n d p ≡ None
 unfolding divisor_from
 divisor-past zero d p h = refl
 divisor-past (suc n) d p h = rw (lt-ltb p (d * d) h)
 
-pub divisor_here : (n d p : ℕ) → d * d ≤ p → p % d ≡ 0 → divisor_from (suc n) d p ≡ Found d
+pub divisor_here : (n d p : ℕ) → d * d ≤ p → p % d ≡ 0 → divisor_from (suc n) d p ≡ Some d
 unfolding divisor_from
 divisor_here n d p h e = rw (le-ltb p (d * d) h, eq-eqb (p % d) 0 e)
 
@@ -56,39 +54,39 @@ case n d p = pick (ltb p (d * d)) (eqb (p % d) 0) refl refl
     pick false true e q = here (ltb-false p (d * d) e) (eqb-true (p % d) 0 q)
     pick false false e q = later (ltb-false p (d * d) e) (eqb-false (p % d) 0 q)
 
-differ : {d : ℕ} {o : Divisor} → o ≡ Found d → o ≡ Nothing → ⊥
+differ : {d : ℕ} {o : Option ℕ} → o ≡ Some d → o ≡ None → ⊥
 differ p q = let z : ◌≡◌ {A = ℕ} 0 1 = cc in omega arith
 
-found_from : (n d p e : ℕ) → divisor_from n d p ≡ Found e → Least d p e
+found_from : (n d p e : ℕ) → divisor_from n d p ≡ Some e → Least d p e
 unfolding divisor_from
 found_from zero d p e h = absurd (differ h refl)
 found_from (suc n) d p e h = step (found_from n (suc d) p e) (case n d p)
   where
-    step : (divisor_from n (suc d) p ≡ Found e → Least (suc d) p e) → Case n d p → Least d p e
+    step : (divisor_from n (suc d) p ≡ Some e → Least (suc d) p e) → Case n d p → Least d p e
     step next (past l) = absurd (differ h (divisor-past (suc n) d p l))
     step next (here s z) =
-        let q : ◌≡◌ {A = Divisor} (Found d) (Found e) = sym (divisor_here n d p s z) ∙ h in
+        let q : ◌≡◌ {A = Option ℕ} (Some d) (Some e) = sym (divisor_here n d p s z) ∙ h in
         let same : d ≡ e = cc in
         rw (← same) (record { from = omega arith; square = s; divides = z; least = λ c lo hi. omega arith })
     step next (later s ne) = widen d p e ne (next (sym (divisor_later n d p s ne) ∙ h))
 
 -- none is found: none of the n candidates from d on whose square does not pass p divides p
-nothing_from : (n d p : ℕ) → divisor_from n d p ≡ Nothing → (e : ℕ) → d ≤ e → e < d + n → e * e ≤ p → p % e ≢ 0
+nothing_from : (n d p : ℕ) → divisor_from n d p ≡ None → (e : ℕ) → d ≤ e → e < d + n → e * e ≤ p → p % e ≢ 0
 nothing_from zero d p h e le lt sq z = omega arith
 nothing_from (suc n) d p h e le lt sq z = step (λ h' l. nothing_from n (suc d) p h' e l (omega arith) sq z) (case n d p) (eq-or-lt_of_le le)
   where
-    step : (divisor_from n (suc d) p ≡ Nothing → d < e → ⊥) → Case n d p → (d ≡ e) ⊎ (d < e) → ⊥
+    step : (divisor_from n (suc d) p ≡ None → d < e → ⊥) → Case n d p → (d ≡ e) ⊎ (d < e) → ⊥
     step next (past l) _ = omega (arith, mul-le-mul le le)
     step next (here s y) _ = differ (divisor_here n d p s y) h
     step next (later s ne) (inl q) = ne (ap (λ k. p % k) q ∙ z)
     step next (later s ne) (inr l) = next (sym (divisor_later n d p s ne) ∙ h) l
 
 -- what `divisor_of` says
-pub found_least : (p d : ℕ) → divisor_of p ≡ Found d → Least 2 p d
+pub found_least : (p d : ℕ) → divisor_of p ≡ Some d → Least 2 p d
 unfolding divisor_of
 found_least p d h = found_from p 2 p d h
 
-pub nothing_divides : (p : ℕ) → divisor_of p ≡ Nothing → (e : ℕ) → 1 < e → e * e ≤ p → p % e ≢ 0
+pub nothing_divides : (p : ℕ) → divisor_of p ≡ None → (e : ℕ) → 1 < e → e * e ≤ p → p % e ≢ 0
 unfolding divisor_of
 nothing_divides p h e lo sq = nothing_from p 2 p h e lo (omega (arith, mul-le-mul_right e lo)) sq
 
@@ -116,9 +114,9 @@ and_join : (a b : Bool) → T a → T b → T (a && b)
 and_join true b s t = t
 and_join false b s t = s
 
-is-nothing : (o : Divisor) → T (is_nothing o) → o ≡ Nothing
-is-nothing (Found d) t = absurd t
-is-nothing Nothing t = refl
+is-nothing : (o : Option ℕ) → T (is_nothing o) → o ≡ None
+is-nothing (Some d) t = absurd t
+is-nothing None t = refl
 
 pub prime_sound : (p : ℕ) → T (is_prime p) → Prime p
 unfolding is_prime
@@ -130,9 +128,9 @@ pub prime_complete : (p : ℕ) → Prime p → T (is_prime p)
 unfolding is_prime
 prime_complete p prime = and_join (ltb 1 p) (is_nothing (divisor_of p)) (lt→ltb 1 p prime.above) (none (divisor_of p) refl)
   where
-    none : (o : Divisor) → divisor_of p ≡ o → T (is_nothing o)
-    none Nothing e = tt
-    none (Found d) e =
+    none : (o : Option ℕ) → divisor_of p ≡ o → T (is_nothing o)
+    none None e = tt
+    none (Some d) e =
         let l : Least 2 p d = found_least p d e in
         absurd (prime.undivided_by d l.from (omega (arith, l.square, mul-le-mul_right d l.from)) l.divides)
 
@@ -141,7 +139,7 @@ pub small-not_prime : (p : ℕ) → p < 2 → false ≡ is_prime p
 unfolding is_prime
 small-not_prime p lt = rw (le-ltb 1 p (omega arith))
 
-pub found-not_prime : (p d : ℕ) (o : Divisor) → o ≡ divisor_of p → o ≡ Found d → false ≡ is_prime p
+pub found-not_prime : (p d : ℕ) (o : Option ℕ) → o ≡ divisor_of p → o ≡ Some d → false ≡ is_prime p
 unfolding is_prime
 found-not_prime p d o e f = rw (← e, f) (pick (ltb 1 p))
   where
@@ -149,7 +147,7 @@ found-not_prime p d o e f = rw (← e, f) (pick (ltb 1 p))
     pick true = refl
     pick false = refl
 
-pub nothing_prime : (p : ℕ) (o : Divisor) → 2 ≤ p → o ≡ divisor_of p → o ≡ Nothing → true ≡ is_prime p
+pub nothing_prime : (p : ℕ) (o : Option ℕ) → 2 ≤ p → o ≡ divisor_of p → o ≡ None → true ≡ is_prime p
 unfolding is_prime
 nothing_prime p o lo e f = rw (lt-ltb 1 p lo, ← e, f)
 

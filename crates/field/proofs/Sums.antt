@@ -13,7 +13,7 @@ use native.Mathlib.Omega.{arith}
 use borrow.Author.Rules.{rules}
 use borrow.Author.Tests.{leb-true, leb-false, le-leb, lt-leb, not-true, not-false}
 use lib.Dec.{leb}
-use Rattle.field.specs.Field.{field_limit, Is, is_wide, kept, sum_bound, reciprocal, Reducible}
+use Rattle.field.specs.Field.{field_limit, Ready, Is, is_wide, kept, sum_bound, reciprocal, Reducible}
 use Rattle.field.proofs.Products.{word}
 use Rattle.field.proofs.Solve.{Same, same, same_by}
 
@@ -115,7 +115,7 @@ unfolding reciprocal
 reciprocal_wide p w e t = rw (← e, t)
 
 -- two bytes: x is at most 2^36, and one quotient leaves less than 2·p
-module _ (p m x : ℕ) (r : Reducible p m x) (w : Bool) (e : w ≡ is_wide p) (f : w ≡ false) where
+module _ (p m x : ℕ) (ready : Ready p) (r : Reducible p m x) (w : Bool) (e : w ≡ is_wide p) (f : w ≡ false) where
   sum_low : x ≤ 16 * (p * p)
   unfolding sum_bound
   sum_low = rw (← e, f) at r.sum
@@ -136,7 +136,7 @@ module _ (p m x : ℕ) (r : Reducible p m x) (w : Bool) (e : w ≡ is_wide p) (f
   quotient-near =
       let left : x * m % 68719476736 * p ≤ 68719476735 * p = mul-le-mul_right p (omega (arith, mod-lt (x * m) {m = 68719476736} (omega arith))) in
       let right : x * (68719476736 % p) ≤ 68719476736 * (68719476736 % p) = mul-le-mul_right (68719476736 % p) sum-small in
-      omega (arith, parts, mod-lt 68719476736 {m = p} (omega (arith, r.above)), r.above)
+      omega (arith, parts, mod-lt 68719476736 {m = p} (omega (arith, ready.prime.above)), ready.prime.above)
 
   pub quotient_fits : x * m / 68719476736 * p < 2 ^ 64
   quotient_fits = omega (arith, quotient-low, sum-small)
@@ -155,7 +155,7 @@ module _ (p m x : ℕ) (r : Reducible p m x) (w : Bool) (e : w ≡ is_wide p) (f
 pub ruleset reducing = (rules, wide_by, reciprocal_narrow, reciprocal_wide, scaled_fits, quotient_fits, quotient-low, reduced-over, reduced-under)
 
 -- a wide prime: x is at most 2^32·p, and two quotients leave less than 2·p
-module _ (p m x : ℕ) (r : Reducible p m x) (w : is_wide p ≡ true) where
+module _ (p m x : ℕ) (ready : Ready p) (r : Reducible p m x) (w : is_wide p ≡ true) where
   upper : ℕ
   upper = x / 4294967296
 
@@ -178,7 +178,7 @@ module _ (p m x : ℕ) (r : Reducible p m x) (w : is_wide p ≡ true) where
 
   -- the first quotient, q, and what it leaves, y
   pub first-scaled-fits : x / 4294967296 * m < 2 ^ 64
-  first-scaled-fits = omega (arith, mul-le-mul {n₁ = x / 4294967296} {m₁ = m} {n₂ = 2147483648} {m₂ = 4294967296} (omega (arith, sum-high, r.small)) reciprocal-high)
+  first-scaled-fits = omega (arith, mul-le-mul {n₁ = x / 4294967296} {m₁ = m} {n₂ = 2147483648} {m₂ = 4294967296} (omega (arith, sum-high, ready.small)) reciprocal-high)
 
   q : ℕ
   q = x / 4294967296 * m / 65536
@@ -190,7 +190,7 @@ module _ (p m x : ℕ) (r : Reducible p m x) (w : is_wide p ≡ true) where
   first-low = omega (arith, first-parts)
 
   pub first_fits : x / 4294967296 * m / 65536 * p < 2 ^ 64
-  first_fits = omega (arith, first-low, sum-high, r.small)
+  first_fits = omega (arith, first-low, sum-high, ready.small)
 
   y : ℕ
   y = x - x / 4294967296 * m / 65536 * p
@@ -199,7 +199,7 @@ module _ (p m x : ℕ) (r : Reducible p m x) (w : is_wide p ≡ true) where
   unfolding y
   first-near =
       let a : x / 4294967296 * m % 65536 * p ≤ 65535 * p = mul-le-mul_right p (omega arith) in
-      let b : x / 4294967296 * (281474976710656 % p) ≤ 2147483648 * (281474976710656 % p) = mul-le-mul_right (281474976710656 % p) (omega (arith, sum-high, r.small)) in
+      let b : x / 4294967296 * (281474976710656 % p) ≤ 2147483648 * (281474976710656 % p) = mul-le-mul_right (281474976710656 % p) (omega (arith, sum-high, ready.small)) in
       omega (arith, first-parts, rest-2, mod-lt x {m = 4294967296} (omega arith))
 
   -- the second
@@ -217,7 +217,7 @@ module _ (p m x : ℕ) (r : Reducible p m x) (w : is_wide p ≡ true) where
   second-near : y < y / 16 * m / 17592186044416 * p + p + p
   second-near =
       let a : y / 16 * m % 17592186044416 * p ≤ 17592186044415 * p = mul-le-mul_right p (omega arith) in
-      let b : y / 16 * (281474976710656 % p) ≤ 8796093022208 * (281474976710656 % p) = mul-le-mul_right (281474976710656 % p) (omega (arith, first-near, r.small)) in
+      let b : y / 16 * (281474976710656 % p) ≤ 8796093022208 * (281474976710656 % p) = mul-le-mul_right (281474976710656 % p) (omega (arith, first-near, ready.small)) in
       omega (arith, second_parts, rest-2, from)
 
   pub second-within : (x - x / 4294967296 * m / 65536 * p) / 16 * m / 17592186044416 * p ≤ x - x / 4294967296 * m / 65536 * p
@@ -226,7 +226,7 @@ module _ (p m x : ℕ) (r : Reducible p m x) (w : is_wide p ≡ true) where
 
   pub second_fits : (x - x / 4294967296 * m / 65536 * p) / 16 * m / 17592186044416 * p < 2 ^ 64
   unfolding y
-  second_fits = omega (arith, second-low, first-near, r.small)
+  second_fits = omega (arith, second-low, first-near, ready.small)
 
   k : ℕ
   k = y / 16 * m / 17592186044416

@@ -1,4 +1,4 @@
--- The primes of document 01's worked sum P7, by computation.
+-- The primes of the worked sum P7, by computation.
 use mathlib.Core.Path.{◌≡◌, refl}
 use mathlib.Core.Bool.{true, false}
 use Rattle.field.specs.Prime.{divisor_from, divisor_of, is_prime}

@@ -1,31 +1,22 @@
 -- The field type: its constructor, and what its methods take and give.
-use Rattle.std.specs.Prelude.{◌≡◌, Bool, ◌&&◌, cond, ℕ, ◌-◌, ◌*◌, ◌/◌, ◌≤◌, ◌<◌, leb, ltb}
-use Rattle.field.specs.declared.Made.{Made}
-use Rattle.field.specs.declared.Made.TheVariants as made
+use Rattle.std.specs.Prelude.{Option, Some, None, ◌≡◌, Bool, ◌&&◌, cond, ℕ, ◌-◌, ◌*◌, ◌/◌, ◌≤◌, ◌<◌, leb, ltb}
 use Rattle.field.specs.Prime.{is_prime, Prime}
 
 -- a prime has at most 31 bits
 abbrev pub field_limit : ℕ
 field_limit = 2147483648
 
--- the field of p, which has to be a prime below the limit
-unfoldable pub made_of : ℕ → Made
-made_of p = cond (ltb p field_limit && is_prime p) (made.Field (record { p = p })) made.Refused
+-- the modulus of the field of p, which has to be a prime below the limit
+unfoldable pub made_of : ℕ → Option ℕ
+made_of p = cond (ltb p field_limit && is_prime p) (Some p) None
 
--- what the code takes: a prime below the limit. A list of its elements is a list xs with `all_below p xs ≡ true`
+-- what every field's modulus is: a prime below the limit. A list of its elements is a list xs with `all_below p xs ≡ true`
 pub record Ready (p : ℕ) : Type 0 where
   pub prime : Prime p
   pub small : p < field_limit
 
--- an element of the field of p, and two of them
-pub record Below1 (p a : ℕ) : Type 0 where
-  pub above : 1 < p
-  pub small : p < field_limit
-  pub only : a < p
-
+-- two elements of the field of p
 pub record Below2 (p a b : ℕ) : Type 0 where
-  pub above : 1 < p
-  pub small : p < field_limit
   pub left : a < p
   pub right : b < p
 
@@ -53,7 +44,5 @@ reciprocal p = cond (is_wide p) (281474976710656 / p) (68719476736 / p)
 
 -- a sum x of at most 16 products of elements, and the reciprocal m of p
 pub record Reducible (p m x : ℕ) : Type 0 where
-  pub above : 1 < p
-  pub small : p < field_limit
   pub by : m ≡ reciprocal p
   pub sum : x ≤ sum_bound p 16

@@ -1,20 +1,18 @@
 -- Primes by trial division, and inverses modulo a prime.
-use Rattle.std.specs.Prelude.{◌≢◌, Bool, true, false, ◌&&◌, cond, ℕ, zero, suc, ◌*◌, ◌/◌, ◌%◌, ◌<◌, ltb, eqb}
-use Rattle.field.specs.declared.Divisor.{Divisor}
-use Rattle.field.specs.declared.Divisor.TheVariants.{Found, Nothing}
+use Rattle.std.specs.Prelude.{Option, Some, None, ◌≢◌, Bool, true, false, ◌&&◌, cond, ℕ, zero, suc, ◌*◌, ◌/◌, ◌%◌, ◌<◌, ltb, eqb}
 use Rattle.field.specs.Mod.{mul, sub}
 
 -- trial division: the first of d, d + 1, .. that divides p, or none once the square passes p; at most n are tried
-unfoldable pub divisor_from : ℕ → ℕ → ℕ → Divisor
-divisor_from zero d p = Nothing
-divisor_from (suc n) d p = cond (ltb p (d * d)) Nothing (cond (eqb (p % d) 0) (Found d) (divisor_from n (suc d) p))
+unfoldable pub divisor_from : ℕ → ℕ → ℕ → Option ℕ
+divisor_from zero d p = None
+divisor_from (suc n) d p = cond (ltb p (d * d)) None (cond (eqb (p % d) 0) (Some d) (divisor_from n (suc d) p))
 
-unfoldable pub divisor_of : ℕ → Divisor
+unfoldable pub divisor_of : ℕ → Option ℕ
 divisor_of p = divisor_from p 2 p
 
-abbrev pub is_nothing : Divisor → Bool
-is_nothing (Found d) = false
-is_nothing Nothing = true
+abbrev pub is_nothing : Option ℕ → Bool
+is_nothing (Some d) = false
+is_nothing None = true
 
 unfoldable pub is_prime : ℕ → Bool
 is_prime p = ltb 1 p && is_nothing (divisor_of p)

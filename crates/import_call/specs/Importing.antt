@@ -1,7 +1,7 @@
--- The import of a circuit (document 02, R-1) as its caller sees it: the first refusal or none, and the lent buffer afterwards.
-use Rattle.std.specs.Prelude.{ℕ, ◌&&◌, List, [], ◌∷◌, ◌++◌, eqb, leb, length}
-use Rattle.plan.specs.declared.Checked.{Checked}
-use Rattle.plan.specs.declared.Checked.TheVariants.{Passed, Refused}
+-- The import of a circuit as its caller sees it: the first refusal or none, and the lent buffer afterwards.
+use Rattle.std.specs.Prelude.{Result, Ok, Err, ℕ, ◌&&◌, List, [], ◌∷◌, ◌++◌, eqb, leb, length}
+use Rattle.plan.specs.Refusals.{Checked}
+use Rattle.plan.specs.declared.Refusal.{Refusal}
 use Rattle.plan.specs.declared.Refusal.TheVariants as refusal
 use Rattle.plan.specs.Refusals.{first_of, need}
 use Rattle.plan.specs.File.{plan_checks}
@@ -10,8 +10,7 @@ use Rattle.seat_messages.specs.Calls.{unless_refused}
 use Rattle.import_text.specs.Circuits.{circuit_of}
 use Rattle.import_circuit.specs.Making.{circuit_bodies}
 use Rattle.import_check.specs.Surveying.{text_ok}
-use Rattle.import_call.specs.declared.Measured.{Measured}
-use Rattle.import_call.specs.declared.Measured.TheVariants as measured
+use Rattle.import_check.specs.declared.Counts.{Counts}
 
 -- the plan's gates and outs, and its file
 unfoldable pub import_bodies : ℕ → List ℕ → Bodies
@@ -39,14 +38,14 @@ unfoldable pub import_after : ℕ → ℕ → ℕ → List ℕ → List ℕ → 
 import_after n t p text out = unless_refused (import_answer n t p text (length out)) (import_file n t p text) out
 
 -- ---- what the call goes on with: the plan's gates and outs, or the refusal
-unfoldable pub measured_of : Checked → ℕ → ℕ → Measured
-measured_of Passed gates outs = measured.Counts gates outs
-measured_of (Refused r) gates outs = measured.Refused r
+unfoldable pub measured_of : Checked → ℕ → ℕ → Result Counts Refusal
+measured_of (Ok tt) gates outs = Ok (record { gates = gates; outs = outs })
+measured_of (Err r) gates outs = Err r
 
-unfoldable pub measure : ℕ → ℕ → ℕ → List ℕ → Measured
+unfoldable pub measure : ℕ → ℕ → ℕ → List ℕ → Result Counts Refusal
 measure n t p text = measured_of (first_of (text_checks n t p text)) (length (import_bodies p text).gates) (length (import_bodies p text).outs)
 
 -- a refusal, handed on
-unfoldable pub refusal_of : Measured → Checked
-refusal_of (measured.Counts gates outs) = Passed
-refusal_of (measured.Refused r) = Refused r
+unfoldable pub refusal_of : Result Counts Refusal → Checked
+refusal_of (Ok c) = (Ok tt)
+refusal_of (Err r) = Err r

@@ -1,18 +1,17 @@
-// The first pass over a circuit's text (document 02, R-1): refusal 23, and how many gates and outs the plan has.
-#![tactic(auto)]
+// The first pass over a circuit's text: refusal 23, and how many gates and outs the plan has.
+#![tactic(auto, using(crate::proofs::Marks::marking))]
 
-ghost use Rattle.std.specs.Prelude.{◌≡◌, ◌&&◌, ◌+◌, ◌*◌, ◌<◌, ◌≤◌, length, set};
+ghost use Rattle.std.specs.Prelude.{◌≡◌, ◌*◌, ◌<◌, ◌≤◌, length};
 ghost use Rattle.import_circuit.specs.Wires.{is_set, can_set, gate_fits};
 ghost use Rattle.import_check.specs.Surveying.{survey_of, head_ok, marks_of, sized_from, Surveyed};
 
-use import_text::{GateRead, Head, HeadRead, LogicGate};
-use numbers::Found;
+use import_text::{Head, LogicGate};
 
-// The plan's gates and outs, or that the text is refused.
+// The plan's gates and outs.
 #[derive(Clone, Copy)]
-pub enum Survey {
-    Counts(usize, usize),
-    Wrong,
+pub struct Counts {
+    pub gates: usize,
+    pub outs: usize,
 }
 
 // ---- marks: 1 for each wire that is set
@@ -20,40 +19,13 @@ pub enum Survey {
 fn is_set(marks: &[u8], w: usize) -> bool
     ensures { result ≡ is_set marks.now w }
 {
-    if marks.len() <= w {
-        return false;
-    }
-    marks[w] == 1
+    w < marks.len() && marks[w] == 1
 }
 
 fn can_set(marks: &[u8], w: usize) -> bool
     ensures { result ≡ can_set marks.now w }
 {
-    if marks.len() <= w {
-        return false;
-    }
-    marks[w] == 0
-}
-
-fn two_fit(marks: &[u8], a: usize, b: usize, c: usize) -> bool
-    ensures { result ≡ (is_set marks.now a && (is_set marks.now b && can_set marks.now c)) }
-{
-    if !is_set(marks, a) {
-        return false;
-    }
-    if !is_set(marks, b) {
-        return false;
-    }
-    can_set(marks, c)
-}
-
-fn one_fits(marks: &[u8], a: usize, c: usize) -> bool
-    ensures { result ≡ (is_set marks.now a && can_set marks.now c) }
-{
-    if !is_set(marks, a) {
-        return false;
-    }
-    can_set(marks, c)
+    w < marks.len() && marks[w] == 0
 }
 
 // Whether a gate reads wires that are set, and sets one that isn't.
@@ -61,17 +33,10 @@ fn fits(marks: &[u8], gate: LogicGate) -> bool
     ensures { result ≡ gate_fits marks.now gate }
 {
     match gate {
-        LogicGate::Xor(a, b, c) => two_fit(marks, a, b, c),
-        LogicGate::And(a, b, c) => two_fit(marks, a, b, c),
-        LogicGate::Inv(a, c) => one_fits(marks, a, c),
-    }
-}
-
-fn mark(marks: &mut [u8], w: usize)
-    ensures { marks.new ≡ set marks.old w 1 }
-{
-    if w < marks.len() {
-        marks[w] = 1;
+        LogicGate::Xor(a, b, c) | LogicGate::And(a, b, c) => is_set(marks, a)
+            && is_set(marks, b)
+            && can_set(marks, c),
+        LogicGate::Inv(a, c) => is_set(marks, a) && can_set(marks, c),
     }
 }
 
@@ -79,89 +44,69 @@ fn mark(marks: &mut [u8], w: usize)
 fn mark_inputs(marks: &mut [u8], inputs: usize)
     ensures { marks.new ≡ marks_of inputs (length marks.old) }
 {
-    let mut w: usize = 0;
-    while w < marks.len() {
-        marks[w] = numbers::one_if(w < inputs) as u8;
-        w += 1;
+    for (w, mark) in marks.iter_mut().enumerate() {
+        *mark = u8::from(w < inputs);
     }
 }
 
 // ---- the gates
 
 // The plan's gates that as many gates' lines take, where each fits and nothing more follows.
-fn sized(s: &[u8], at: usize, gates: usize, marks: &mut [u8]) -> Found
+#[tactic(auto, using(crate::proofs::Marks::sizing))]
+fn sized(s: &[u8], at: usize, gates: usize, marks: &mut [u8]) -> Option<usize>
     requires { gates < 65536 }
     ensures { result ≡ sized_from gates s.now at marks.old 0 }
 {
     let mut e: usize = at;
     let mut size: usize = 0;
-    let mut k: usize = 0;
-    while k < gates {
-        let GateRead::Read(g, next) = import_text::gate_at(s, import_lines::line_start(s, e)) else {
-            return Found::Nothing;
-        };
+    for k in 0..gates {
+        let (g, next) = import_text::gate_at(s, import_lines::line_start(s, e))?;
         if !fits(marks, g) {
-            return Found::Nothing;
+            return None;
         }
-        mark(marks, import_circuit::set_by(g));
+        marks[import_circuit::set_by(g)] = 1;
         size += import_circuit::gate_size(g);
         e = next;
-        k += 1;
     }
     if s.len() <= import_lines::line_start(s, e) {
-        return Found::At(size);
+        return Some(size);
     }
-    Found::Nothing
+    None
 }
 
-// The same with the inputs marked before them, on marks for all wires.
-fn sized_on(s: &[u8], h: Head, marks: &mut [u8]) -> Found
-    requires { h.gates < 65536 }
-    ensures { result ≡ sized_from h.gates s.now h.at (marks_of h.inputs (length marks.old)) 0 }
+// The same with the inputs marked before them, in a room for the marks of more wires.
+#[tactic(auto, using(crate::proofs::Counting::placing))]
+fn sized_in(s: &[u8], h: Head, room: &mut [u8]) -> Option<usize>
+    requires { record { gates : h.gates < 65536; wires : h.wires < 65536; room : length room.old ≡ 65536 } }
+    ensures { result ≡ sized_from h.gates s.now h.at (marks_of h.inputs h.wires) 0 }
 {
+    let marks = &mut room[..h.wires];
     mark_inputs(marks, h.inputs);
     sized(s, h.at, h.gates, marks)
 }
 
-// The same in a room for the marks of more wires.
-fn sized_in(s: &[u8], h: Head, room: &mut [u8]) -> Found
-    requires { record { gates : h.gates < 65536; wires : h.wires < 65536; room : length room.old ≡ 65536 } }
-    ensures { result ≡ sized_from h.gates s.now h.at (marks_of h.inputs h.wires) 0 }
-{
-    let wires = h.wires;
-    sized_on(s, h, &mut room[0..wires])
-}
-
 // What the lines before the gates decide.
+#[tactic(auto, using(crate::proofs::Counting::heading))]
 fn head_ok(n: usize, h: Head) -> bool
     requires { record { gates : h.gates < 65536; inputs : h.inputs ≤ 65535 * 65535 } }
     ensures { result ≡ head_ok n h }
 {
-    if n < h.values {
-        return false;
-    }
-    if h.wires < h.inputs {
-        return false;
-    }
-    if h.wires < h.outputs {
-        return false;
-    }
-    h.inputs + h.gates == h.wires
+    h.values <= n && h.inputs <= h.wires && h.outputs <= h.wires && h.inputs + h.gates == h.wires
 }
 
 // Reads a text to its end: the gates and outs of its plan, or that it is refused.
-pub fn survey_text(s: &[u8], n: usize) -> Survey
+#[tactic(auto, using(crate::proofs::Counting::surveying))]
+pub fn survey_text(s: &[u8], n: usize) -> Option<Counts>
     ensures { Surveyed (survey_of n s.now) result }
 {
-    let HeadRead::Read(h) = import_text::head_at(s) else {
-        return Survey::Wrong;
-    };
+    let h = import_text::head_at(s)?;
     if !head_ok(n, h) {
-        return Survey::Wrong;
+        return None;
     }
     let mut room = [0u8; 65536];
-    let Found::At(size) = sized_in(s, h, &mut room) else {
-        return Survey::Wrong;
-    };
-    Survey::Counts(h.inputs + size, h.outputs)
+    let size = sized_in(s, h, &mut room)?;
+    Some(Counts {
+        gates: h.inputs + size,
+        outs: h.outputs,
+    })
 }

@@ -1,6 +1,6 @@
--- The plan's gates and outs that a circuit makes (document 02, R-1): "Input gates come first, then the text's gates in order: XOR is a multiply,
+-- The plan's gates and outs that a circuit makes. Input gates come first, then the text's gates in order: XOR is a multiply,
 -- its scale by p − 2, an add of a and b, and an add of that sum and the scaled product (a + b − 2ab), AND a multiply, INV a scale by p − 1
--- and an offset of 1." Input value k, counted from 1, belongs to seat k, and every output bit goes to seat 1 in wire order.
+-- and an offset of 1. Input value k, counted from 1, belongs to seat k, and every output bit goes to seat 1 in wire order.
 use Rattle.std.specs.Prelude.{ℕ, suc, ◌+◌, ◌-◌, List, [], ◌∷◌, ◌++◌, get_or, set, replicate}
 use Rattle.numbers.specs.Tables.{tab}
 use Rattle.plan.specs.declared.Gate.{Gate}

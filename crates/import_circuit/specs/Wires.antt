@@ -1,4 +1,4 @@
--- The wires of a circuit (document 02, R-1): "Inputs are wires 0 up, outputs the last." Refusal 23 beside the format: more input values than
+-- The wires of a circuit: inputs are wires 0 up, outputs the last. Refusal 23 beside the format: more input values than
 -- seats, a wire that is read and not yet set, set twice or left unset.
 use Rattle.std.specs.Prelude.{ℕ, Bool, true, cond, ◌&&◌, List, [], ◌∷◌, eqb, leb, ltb, length, get_or, set}
 use Rattle.numbers.specs.Tables.{tab}

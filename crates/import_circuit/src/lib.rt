@@ -1,5 +1,5 @@
 // A gate of a circuit: the wire that it sets, and the plan's gates that it takes.
-#![tactic(auto)]
+#![tactic(auto, using(crate::proofs::Ways::sizing))]
 
 ghost use Rattle.std.specs.Prelude.{◌≡◌, ◌≤◌};
 ghost use Rattle.import_circuit.specs.Wires.{set_by};
@@ -11,9 +11,7 @@ pub fn set_by(gate: LogicGate) -> usize
     ensures { result ≡ set_by gate }
 {
     match gate {
-        LogicGate::Xor(_, _, c) => c,
-        LogicGate::And(_, _, c) => c,
-        LogicGate::Inv(_, c) => c,
+        LogicGate::Xor(_, _, c) | LogicGate::And(_, _, c) | LogicGate::Inv(_, c) => c,
     }
 }
 

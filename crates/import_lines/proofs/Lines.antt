@@ -4,6 +4,7 @@
 --     lines-start, blanks-stand    what the code skips
 --     number-field                 the number at a place is the field's
 -- Assumes nothing.
+use Rattle.std.proofs.Common.{Option, Some, None}
 use Prim.Native.Nat.{ℕ, suc, ◌+◌, ◌-◌, ◌*◌, ◌<◌, ◌≤◌}
 use mathlib.Core.Path.{◌≡◌, refl, sym, ap, ap₂, ◌∙◌}
 use mathlib.Core.Bool.{Bool, true, false, cond, ◌&&◌}
@@ -15,8 +16,6 @@ use lib.ListN.{length, get_or, drop, length-drop}
 use lib.Seq.{get_or-drop, drop-drop}
 use Rattle.import_lines.specs.Lines.{onto_first, parted, filled, fields_of, lines_of, every, value_after, decimal_of, unpadded, is_number}
 use Rattle.numbers.proofs.Ways.{byte-none}
-use Rattle.text_decimals.specs.declared.Numeral.{Numeral}
-use Rattle.text_decimals.specs.declared.Numeral.TheVariants as numeral
 use Rattle.text_decimals.specs.Reading.{is_digit, blanks_from, blanks_end, digits_from, digits_at, zero_at, decimal_at}
 use Rattle.import_lines.specs.Places.{is_gap, line_from, line_over, field_over, whole_field, number_at}
 
@@ -282,25 +281,25 @@ value_grows v [] = omega arith
 value_grows v (d ∷ ds) = omega (arith, value_grows (10 * v + (d - 48)) ds)
 
 -- what a field's number is, v being the value of the digits before it
-read : List ℕ → ℕ → ℕ → List ℕ → Numeral
-read s at v f = cond (every is_digit f && leb (value_after v f) 65535) (numeral.Value (value_after v f) (blanks_end s (at + length f))) numeral.Wrong
+read : List ℕ → ℕ → ℕ → List ℕ → Option (ℕ × ℕ)
+read s at v f = cond (every is_digit f && leb (value_after v f) 65535) (Some (value_after v f, blanks_end s (at + length f))) None
 
-read_none : (s : List ℕ) (at v : ℕ) → v ≤ 65535 → numeral.Value v (blanks_end s at) ≡ read s at v []
+read_none : (s : List ℕ) (at v : ℕ) → v ≤ 65535 → Some (v, blanks_end s at) ≡ read s at v []
 unfolding read every value_after
 read_none s at v l = let z : at + 0 ≡ at = omega arith in rw (le-leb v 65535 l, z)
 
 module _ (s : List ℕ) (at v x : ℕ) (f : List ℕ) where
   -- no digit
-  read_other : is_digit x ≡ false → read s at v (x ∷ f) ≡ numeral.Wrong
+  read_other : is_digit x ≡ false → read s at v (x ∷ f) ≡ None
   unfolding read every
   read_other e = rw e
 
   -- too large
-  read_large : 65536 ≤ 10 * v + (x - 48) → read s at v (x ∷ f) ≡ numeral.Wrong
+  read_large : 65536 ≤ 10 * v + (x - 48) → read s at v (x ∷ f) ≡ None
   unfolding read value_after
   read_large l = rw (lt-leb (value_after (10 * v + (x - 48)) f) 65535 (omega (arith, value_grows (10 * v + (x - 48)) f))) (by (every is_digit (x ∷ f)))
     where
-      by : (t : Bool) → cond (t && false) (numeral.Value (value_after (10 * v + (x - 48)) f) (blanks_end s (at + length (x ∷ f)))) numeral.Wrong ≡ numeral.Wrong
+      by : (t : Bool) → cond {A = Option (ℕ × ℕ)} (t && false) (Some (value_after (10 * v + (x - 48)) f, blanks_end s (at + length (x ∷ f)))) None ≡ None
       by true = refl
       by false = refl
 
@@ -324,21 +323,21 @@ digits-field s (x ∷ u) at v e l =
     next : ℕ
     next = blanks_end s (suc at + length (word u))
 
-    stops : is_gap x ≡ false → whole_field s (numeral.Value v at) ≡ numeral.Wrong
+    stops : is_gap x ≡ false → whole_field s (Some (v, at)) ≡ None
     stops g = unfold whole_field in rw (over_gap s at x u e, g)
 
     by : (t : Bool) → is_gap x ≡ t → (w ≤ 65535 → whole_field s (digits_from (length s - suc at) 65536 s (suc at) w) ≡ read s (suc at) w (word u))
-        → whole_field s (cond (ltb x 48) (numeral.Value v at) (cond (ltb 57 x) (numeral.Value v at) (cond (leb 65536 w) numeral.Wrong (digits_from (length s - suc at) 65536 s (suc at) w))))
+        → whole_field s (cond (ltb x 48) (Some (v, at)) (cond (ltb 57 x) (Some (v, at)) (cond (leb 65536 w) None (digits_from (length s - suc at) 65536 s (suc at) w))))
         ≡ read s at v (cond t [] (x ∷ word u))
     by true g h =
         unfold whole_field in rw (lt-ltb x 48 (gap_low x g), over_gap s at x u e, g) (read_none s at v l)
     by false g h = digit (ltb x 48) (ltb 57 x) (leb 65536 w) refl refl refl
       where
-        rest : Numeral
+        rest : Option (ℕ × ℕ)
         rest = digits_from (length s - suc at) 65536 s (suc at) w
 
         digit : (a b c : Bool) → ltb x 48 ≡ a → ltb 57 x ≡ b → leb 65536 w ≡ c
-            → whole_field s (cond a (numeral.Value v at) (cond b (numeral.Value v at) (cond c numeral.Wrong rest))) ≡ read s at v (x ∷ word u)
+            → whole_field s (cond a (Some (v, at)) (cond b (Some (v, at)) (cond c None rest))) ≡ read s at v (x ∷ word u)
         digit true b c p q r = stops g ∙ sym (read_other s at v x (word u) (unfold is_digit in rw (lt-leb 48 x (ltb-true x 48 p))))
         digit false true c p q r =
             stops g ∙ sym (read_other s at v x (word u) (unfold is_digit in rw (le-leb 48 x (ltb-false x 48 p), lt-leb x 57 (ltb-true 57 x q))))
@@ -349,14 +348,14 @@ digits-field s (x ∷ u) at v e l =
 
 -- the number at a place is that of the field there
 module _ (s : List ℕ) (at : ℕ) where
-  numbered : List ℕ → Numeral
-  numbered f = cond (is_number f) (numeral.Value (decimal_of f) (blanks_end s (at + length f))) numeral.Wrong
+  numbered : List ℕ → Option (ℕ × ℕ)
+  numbered f = cond (is_number f) (Some (decimal_of f, blanks_end s (at + length f))) None
 
-  none_numbered : numbered [] ≡ numeral.Wrong
+  none_numbered : numbered [] ≡ None
   unfolding numbered is_number every unpadded
   none_numbered = refl
 
-  other_numbered : (x : ℕ) (f : List ℕ) → is_digit x ≡ false → numbered (x ∷ f) ≡ numeral.Wrong
+  other_numbered : (x : ℕ) (f : List ℕ) → is_digit x ≡ false → numbered (x ∷ f) ≡ None
   unfolding numbered is_number every
   other_numbered x f e = rw e
 
@@ -366,21 +365,21 @@ module _ (s : List ℕ) (at : ℕ) where
   first_numbered x f e = by f
     where
       by : (f : List ℕ)
-          → cond (every is_digit (x ∷ f) && leb (value_after 0 (x ∷ f)) 65535) (numeral.Value (value_after 0 (x ∷ f)) (blanks_end s (at + length (x ∷ f)))) numeral.Wrong
-          ≡ cond (every is_digit (x ∷ f) && (unpadded (x ∷ f) && leb (value_after 0 (x ∷ f)) 65535)) (numeral.Value (value_after 0 (x ∷ f)) (blanks_end s (at + length (x ∷ f)))) numeral.Wrong
+          → cond {A = Option (ℕ × ℕ)} (every is_digit (x ∷ f) && leb (value_after 0 (x ∷ f)) 65535) (Some (value_after 0 (x ∷ f), blanks_end s (at + length (x ∷ f)))) None
+          ≡ cond {A = Option (ℕ × ℕ)} (every is_digit (x ∷ f) && (unpadded (x ∷ f) && leb (value_after 0 (x ∷ f)) 65535)) (Some (value_after 0 (x ∷ f), blanks_end s (at + length (x ∷ f)))) None
       by [] = unfold unpadded in refl
       by (y ∷ f) = unfold unpadded in rw e
 
   -- a 0
-  zero_alone : numeral.Value 0 (blanks_end s (suc at)) ≡ numbered (48 ∷ [])
+  zero_alone : Some (0, blanks_end s (suc at)) ≡ numbered (48 ∷ [])
   unfolding numbered is_number decimal_of every unpadded value_after is_digit
   zero_alone = let z : at + 1 ≡ suc at = omega arith in rw z
 
-  zero-padded : (y : ℕ) (f : List ℕ) → numbered (48 ∷ y ∷ f) ≡ numeral.Wrong
+  zero-padded : (y : ℕ) (f : List ℕ) → numbered (48 ∷ y ∷ f) ≡ None
   unfolding numbered is_number unpadded
   zero-padded y f = by (every is_digit (48 ∷ y ∷ f))
     where
-      by : (t : Bool) → cond (t && false) (numeral.Value (decimal_of (48 ∷ y ∷ f)) (blanks_end s (at + length (48 ∷ y ∷ f)))) numeral.Wrong ≡ numeral.Wrong
+      by : (t : Bool) → cond {A = Option (ℕ × ℕ)} (t && false) (Some (decimal_of (48 ∷ y ∷ f), blanks_end s (at + length (48 ∷ y ∷ f)))) None ≡ None
       by true = refl
       by false = refl
 
@@ -392,20 +391,20 @@ module _ (s : List ℕ) (at : ℕ) where
   zero_numbered (y ∷ u) e = rw (at_byte s (suc at) y u e) (by (is_digit y) (is_gap y) refl refl)
     where
       by : (d g : Bool) → is_digit y ≡ d → is_gap y ≡ g
-          → whole_field s (cond d numeral.Wrong (numeral.Value 0 (suc at))) ≡ numbered (48 ∷ cond g [] (y ∷ word u))
+          → whole_field s (cond d None (Some (0, suc at))) ≡ numbered (48 ∷ cond g [] (y ∷ word u))
       by true true p q = clash (sym p ∙ gap_digit y q)
       by true false p q = unfold whole_field in sym (zero-padded y (word u))
       by false true p q = unfold whole_field in rw (over_gap s (suc at) y u e, q) zero_alone
       by false false p q = unfold whole_field in rw (over_gap s (suc at) y u e, q) (sym (zero-padded y (word u)))
 
-  pub number-field : (u : List ℕ) → drop at s ≡ u → number_at s at ≡ cond (is_number (word u)) (numeral.Value (decimal_of (word u)) (blanks_end s (at + length (word u)))) numeral.Wrong
+  pub number-field : (u : List ℕ) → drop at s ≡ u → number_at s at ≡ cond (is_number (word u)) (Some (decimal_of (word u), blanks_end s (at + length (word u)))) None
   unfolding number_at decimal_at word
   number-field [] e = rw (byte_end s at (at_end s at e)) (unfold whole_field in unfold is_digit in unfold numbered in sym none_numbered)
   number-field (x ∷ u) e = rw (at_byte s at x u e) (by (is_digit x) (is_gap x) (eqb x 48) refl refl refl)
     where
       by : (d g z : Bool) → is_digit x ≡ d → is_gap x ≡ g → eqb x 48 ≡ z
-          → whole_field s (cond d (cond z (zero_at 65536 s at) (digits_at 65536 s at)) numeral.Wrong)
-          ≡ cond (is_number (cond g [] (x ∷ word u))) (numeral.Value (decimal_of (cond g [] (x ∷ word u))) (blanks_end s (at + length (cond g [] (x ∷ word u))))) numeral.Wrong
+          → whole_field s (cond d (cond z (zero_at 65536 s at) (digits_at 65536 s at)) None)
+          ≡ cond (is_number (cond g [] (x ∷ word u))) (Some (decimal_of (cond g [] (x ∷ word u)), blanks_end s (at + length (cond g [] (x ∷ word u))))) None
       by true true z p q r = clash (sym p ∙ gap_digit x q)
       by true false true p q r =
           let is : x ≡ 48 = eqb-true x 48 r in

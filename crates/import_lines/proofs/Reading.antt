@@ -1,25 +1,24 @@
 -- What each way through the readers says of their definitions.
 --     reading     what closes the needs of the functions
 -- Assumes nothing.
-use Prim.Native.Nat.{ℕ, suc, ◌+◌, ◌-◌, ◌*◌, ◌<◌, ◌≤◌}
-use mathlib.Core.Path.{◌≡◌, refl, sym, ◌∙◌}
-use mathlib.Core.Bool.{Bool, true, false}
+use Rattle.std.specs.List.{starts_with}
+use Rattle.std.proofs.Common.{Option, Some, None}
+use Prim.Native.Nat.{ℕ, suc, ◌+◌, ◌-◌, ◌*◌, ◌<◌, ◌≤◌, max}
+use mathlib.Core.Path.{◌≡◌, refl, sym, ap, ◌∙◌}
+use mathlib.Core.Bool.{Bool, true, false, cond, ◌&&◌}
 use mathlib.Core.List.{List}
 use native.Mathlib.Omega.{arith}
 use native.Mathlib.Numerals.{add-one}
 use borrow.Author.Rules.{rules}
 use borrow.Author.Tests.{not-true, not-false, le-leb, lt-leb, eq-eqb, ne_eqb}
-use lib.Dec.{eqb}
-use lib.ListN.{length, get_or}
+use lib.Dec.{eqb, leb}
+use lib.ListN.{length, get_or, take, drop, length-drop}
+use lib.Seq.{take_all}
 use mir.Syntax.{w64}
 use mir.Val.{Fits}
-use Rattle.numbers.specs.declared.Found.TheVariants.{At, Nothing}
-use Rattle.text_decimals.specs.declared.Numeral.{Numeral}
-use Rattle.text_decimals.specs.declared.Numeral.TheVariants as numeral
 use Rattle.text_decimals.specs.Reading.{blanks_end, decimal_at, Within, Ahead, Placed}
 use Rattle.import_lines.specs.declared.Values.{Values}
-use Rattle.import_lines.specs.declared.Values.TheVariants as values
-use Rattle.import_lines.specs.Places.{is_gap, line_from, line_start, line_over, field_over, whole_field, number_at, letters_at, word_past, with_number, NumbersRead, following, numbers_at, sum_of, summed, values_at, SmallNumeral, NumberRead, SmallValues, ValuesRead}
+use Rattle.import_lines.specs.Places.{is_gap, line_from, line_start, line_over, field_over, whole_field, number_at, word_past, with_number, NumbersRead, following, numbers_at, sum_of, summed, values_at, SmallNumeral, NumberRead, SmallValues, ValuesRead}
 
 -- ---- lines
 pub gap-blank : (b : ℕ) → b ≡ 32 → true ≡ is_gap b
@@ -31,28 +30,33 @@ unfolding is_gap
 gap_other b n = rw (ne_eqb b 32 n)
 
 pub record Skipping (s : List ℕ) (at i : ℕ) : Type 0 where
+  pub from : at ≤ i
+  pub upto : i ≤ at + (length s - at)
   pub rest : line_from (length s - i) s i ≡ line_start s at
 
 pub skip_begin : (s : List ℕ) (at : ℕ) → Skipping s at at
 unfolding line_start
-skip_begin s at = record { rest = refl }
+skip_begin s at = record { from = omega arith; upto = omega arith; rest = refl }
 
 module _ (s : List ℕ) (at i : ℕ) (h : Skipping s at i) where
-  pub skip_end : length s ≤ i → i ≡ line_start s at
+  pub skip_end : (r : ℕ) → length s ≤ i → r ≡ max at (length s) → r ≡ line_start s at
   unfolding line_from
-  skip_end l = let z : length s - i ≡ 0 = omega arith in rw (← h.rest, z)
+  skip_end r l q =
+      let z : length s - i ≡ 0 = omega arith in
+      let e : r ≡ i = omega (arith, h.from, h.upto) in
+      rw (← h.rest, z) e
 
-  module _ (b : ℕ) (g : Bool) (l : i < length s) (eb : b ≡ get_or s i 0) (eg : g ≡ is_gap b) where
+  module _ (g : Bool) (l : i < length s) (eg : g ≡ is_gap (get_or s i 0)) where
     one : length s - i ≡ suc (length s - (i + 1))
     one = omega arith
 
     pub skip_stop : g ≡ false → i ≡ line_start s at
     unfolding line_from
-    skip_stop e = rw (← h.rest, one, ← eb, ← eg, e)
+    skip_stop e = rw (← h.rest, one, ← eg, e)
 
     pub skip_on : g ≡ true → Skipping s at (i + 1)
     unfolding line_from
-    skip_on e = record { rest = rw (← h.rest, one, ← eb, ← eg, e, add-one) }
+    skip_on e = record { from = omega (arith, h.from); upto = omega (arith, h.from); rest = rw (← h.rest, one, ← eg, e, add-one) }
 
 pub over_end : (s : List ℕ) (at : ℕ) → length s ≤ at → true ≡ line_over s at
 unfolding line_over
@@ -72,13 +76,13 @@ module _ (s : List ℕ) (at b : ℕ) (eb : b ≡ get_or s at 0) where
   unfolding field_over
   field-line r n e = rw (← eb, ne_eqb b 32 n) e
 
-module _ (s : List ℕ) (at : ℕ) (d : Numeral) (h : Placed s at 65536 (decimal_at 65536 s at) d) where
-  pub number-none : d ≡ numeral.Wrong → NumberRead (number_at s at) numeral.Wrong
+module _ (s : List ℕ) (at : ℕ) (d : Option (ℕ × ℕ)) (h : Placed s at 65536 (decimal_at 65536 s at) d) where
+  pub number-none : (r : Option (ℕ × ℕ)) → d ≡ None → r ≡ None → NumberRead (number_at s at) r
   unfolding number_at whole_field SmallNumeral
-  number-none e = record { eq = rw (← h.eq, e); small = tt }
+  number-none r e q = rw q (record { eq = rw (← h.eq, e); small = tt })
 
-  module _ (v e : ℕ) (ed : d ≡ numeral.Value v e) (t : Bool) (et : t ≡ field_over s e) where
-    pub number_cut : t ≡ false → NumberRead (number_at s at) numeral.Wrong
+  module _ (v e : ℕ) (ed : d ≡ Some (v, e)) (t : Bool) (et : t ≡ field_over s e) where
+    pub number_cut : t ≡ false → NumberRead (number_at s at) None
     unfolding number_at whole_field SmallNumeral
     number_cut f = record { eq = rw (← h.eq, ed, ← et, f); small = tt }
 
@@ -86,56 +90,50 @@ module _ (s : List ℕ) (at : ℕ) (d : Numeral) (h : Placed s at 65536 (decimal
     unfolding Ahead
     below = (rw ed at h.ahead).small
 
-    pub number_is : (r : ℕ) → t ≡ true → Within s e (blanks_end s e) r → NumberRead (number_at s at) (numeral.Value v r)
+    pub number_is : (r : ℕ) → t ≡ true → Within s e (blanks_end s e) r → NumberRead (number_at s at) (Some (v, r))
     unfolding number_at whole_field SmallNumeral
     number_is r f w = record { eq = rw (← h.eq, ed, ← et, f, w.eq); small = below }
 
 -- a number's bound
-pub number_below : (d r : Numeral) (v e : ℕ) → NumberRead d r → r ≡ numeral.Value v e → v < 65536
+pub number_below : (d r : Option (ℕ × ℕ)) (v e : ℕ) → NumberRead d r → r ≡ Some (v, e) → v < 65536
 unfolding SmallNumeral
 number_below d r v e h q = rw q at h.small
 
-pub ruleset reading = (rules, not-true, not-false, gap-blank, gap_other, skip_begin, skip_end, skip_stop, skip_on, over_end, over_feed, field-blank, field-line, number-none, number_cut, number_is)
+pub ruleset reading = (rules, not-true, not-false, gap-blank, gap_other, skip_begin, skip_end, skip_stop, skip_on, over_end, over_feed, field-blank, field-line)
+
+pub ruleset fields = (rules, not-true, not-false, number-none, number_cut, number_is)
 
 -- ---- words
-module _ (a b c : ℕ) (s : List ℕ) (at : ℕ) where
-  pub letter_first : (get_or s at 0 ≡ a → ⊥) → false ≡ letters_at a b c s at
-  unfolding letters_at
-  letter_first n = rw (ne_eqb (get_or s at 0) a n)
-
-  pub letter_second : get_or s at 0 ≡ a → (get_or s (at + 1) 0 ≡ b → ⊥) → false ≡ letters_at a b c s at
-  unfolding letters_at
-  letter_second e n = rw (eq-eqb (get_or s at 0) a e, ne_eqb (get_or s (at + 1) 0) b n)
-
-  pub letter_third : get_or s at 0 ≡ a → get_or s (at + 1) 0 ≡ b → eqb (get_or s (at + 2) 0) c ≡ letters_at a b c s at
-  unfolding letters_at
-  letter_third e f = rw (eq-eqb (get_or s at 0) a e, eq-eqb (get_or s (at + 1) 0) b f)
-
-  word_short : length s < at + 3 → Nothing ≡ word_past a b c s at
+module _ (w s : List ℕ) (at : ℕ) where
+  pub word_beyond : length s < at → None ≡ word_past w s at
   unfolding word_past
-  word_short l = rw (lt-leb (at + 3) (length s) l)
+  word_beyond l = rw (lt-leb (at + length w) (length s) (omega arith))
 
-  pub word_none : length s < 3 → Nothing ≡ word_past a b c s at
-  word_none l = word_short (omega arith)
+  module _ (t : Bool) (within : at ≤ length s) (starts : t ≡ starts_with eqb (take (length s - at) (drop at s)) w) where
+    et : t ≡ starts_with eqb (drop at s) w
+    et = starts ∙ ap (λ (l : List ℕ). starts_with eqb l w) (take_all (length s - at) (drop at s) (omega (arith, length-drop at s)))
 
-  pub word_beyond : 3 ≤ length s → length s - 3 < at → Nothing ≡ word_past a b c s at
-  word_beyond l m = word_short (omega arith)
-
-  module _ (long : at + 3 ≤ length s) (t : Bool) (et : t ≡ letters_at a b c s at) where
-    pub word-other : t ≡ false → Nothing ≡ word_past a b c s at
+    pub word_other : t ≡ false → None ≡ word_past w s at
     unfolding word_past
-    word-other e = rw (le-leb (at + 3) (length s) long, ← et, e)
+    word_other e = rw (← et, e) (by (leb (at + length w) (length s)))
+      where
+        by : (l : Bool) → None ≡ cond (l && false) (Some (at + length w)) None
+        by true = refl
+        by false = refl
 
-    module _ (ht : t ≡ true) (r : ℕ) (er : Within s (at + 3) (blanks_end s (at + 3)) r) (o : Bool) (eo : o ≡ line_over s r) where
-      pub word_more : o ≡ false → Nothing ≡ word_past a b c s at
+    module _ (ht : t ≡ true) (n : ℕ) (en : length w ≡ n) (long : length w ≤ length (take (length s - at) (drop at s))) (r : ℕ) (er : Within s (at + n) (blanks_end s (at + n)) r) (o : Bool) (eo : o ≡ line_over s r) where
+      fits : at + n ≤ length s
+      fits = omega (arith, long, ap length (take_all (length s - at) (drop at s) (omega (arith, length-drop at s))), length-drop at s)
+
+      pub word_more : o ≡ false → None ≡ word_past w s at
       unfolding word_past
-      word_more e = rw (le-leb (at + 3) (length s) long, ← et, ht, ← er.eq, ← eo, e)
+      word_more e = rw (← et, en, le-leb (at + n) (length s) fits, ht, ← er.eq, ← eo, e)
 
-      pub word-is : o ≡ true → At (at + 3) ≡ word_past a b c s at
+      pub word_is : o ≡ true → Some (at + n) ≡ word_past w s at
       unfolding word_past
-      word-is e = rw (le-leb (at + 3) (length s) long, ← et, ht, ← er.eq, ← eo, e)
+      word_is e = rw (← et, en, le-leb (at + n) (length s) fits, ht, ← er.eq, ← eo, e)
 
-pub ruleset wording = (rules, not-true, not-false, letter_first, letter_second, letter_third, word_none, word_beyond, word-other, word_more, word-is)
+pub ruleset wording = (rules, not-true, not-false, word_beyond, word_other, word_more, word_is)
 
 -- ---- sums
 following_sum : (k at x v : ℕ) (r : NumbersRead) → summed k at x (following v r) ≡ summed k at (x + v) r
@@ -152,15 +150,15 @@ pub sum_begin : (s : List ℕ) (at count : ℕ) → Summing s at count 0 at 0
 sum_begin s at count = let q : count - 0 ≡ count = omega arith in record { within = omega arith; small = omega arith; rest = rw q }
 
 module _ (s : List ℕ) (at count x e k : ℕ) (h : Summing s at count x e k) where
-  module _ (l : k < count) (d : Numeral) (hd : NumberRead (number_at s e) d) where
+  module _ (l : k < count) (d : Option (ℕ × ℕ)) (hd : NumberRead (number_at s e) d) where
     step : count - k ≡ suc (count - (k + 1))
     step = omega arith
 
-    pub sum-none : d ≡ numeral.Wrong → ValuesRead (summed count at 0 (numbers_at count s at)) values.Wrong
+    pub sum-none : (r : Option Values) → d ≡ None → r ≡ None → ValuesRead (summed count at 0 (numbers_at count s at)) r
     unfolding numbers_at with_number summed SmallValues
-    sum-none q = record { eq = sym (sym h.rest ∙ rw (step, ← hd.eq, q)); small = tt }
+    sum-none r q e = rw e (record { eq = sym (sym h.rest ∙ rw (step, ← hd.eq, q)); small = tt })
 
-    module _ (v f : ℕ) (q : d ≡ numeral.Value v f) where
+    module _ (v f : ℕ) (q : d ≡ Some (v, f)) where
       sum-small : x + v ≤ 65535 * (k + 1)
       sum-small = omega (arith, number_below (number_at s e) d v f hd q, h.small)
 
@@ -179,26 +177,26 @@ module _ (s : List ℕ) (at count x e k : ℕ) (h : Summing s at count x e k) wh
     none : count - k ≡ 0
     none = omega arith
 
-    pub sum_more : o ≡ false → ValuesRead (summed count at 0 (numbers_at count s at)) values.Wrong
+    pub sum_more : o ≡ false → ValuesRead (summed count at 0 (numbers_at count s at)) None
     unfolding numbers_at summed SmallValues
     sum_more q = record { eq = sym (sym h.rest ∙ rw (none, ← eo, q)); small = tt }
 
-    pub sum_is : o ≡ true → ValuesRead (summed count at 0 (numbers_at count s at)) (values.Read count at x e)
+    pub sum_is : o ≡ true → ValuesRead (summed count at 0 (numbers_at count s at)) (Some (record { count = count; first = at; total = x; past = e }))
     unfolding numbers_at summed sum_of SmallValues
     sum_is q =
         let z : x + 0 ≡ x = omega arith in
         record { eq = sym (sym h.rest ∙ rw (none, ← eo, q, z)); small = record { few = c; small = omega (arith, h.small, h.within) } }
 
-module _ (s : List ℕ) (at : ℕ) (d : Numeral) (hd : NumberRead (number_at s at) d) where
-  pub values-none : d ≡ numeral.Wrong → ValuesRead (values_at s at) values.Wrong
+module _ (s : List ℕ) (at : ℕ) (d : Option (ℕ × ℕ)) (hd : NumberRead (number_at s at) d) where
+  pub values-none : (r : Option Values) → d ≡ None → r ≡ None → ValuesRead (values_at s at) r
   unfolding values_at with_number SmallValues
-  values-none q = record { eq = rw (← hd.eq, q); small = tt }
+  values-none r q e = rw e (record { eq = rw (← hd.eq, q); small = tt })
 
-  module _ (k e : ℕ) (q : d ≡ numeral.Value k e) where
+  module _ (k e : ℕ) (q : d ≡ Some (k, e)) where
     pub values_few : k < 65536
     values_few = number_below (number_at s at) d k e hd q
 
-    pub values-are : (r : Values) → ValuesRead (summed k e 0 (numbers_at k s e)) r → ValuesRead (values_at s at) r
+    pub values-are : (r : Option Values) → ValuesRead (summed k e 0 (numbers_at k s e)) r → ValuesRead (values_at s at) r
     unfolding values_at with_number
     values-are r h = record { eq = h.eq ∙ rw (← hd.eq, q); small = h.small }
 

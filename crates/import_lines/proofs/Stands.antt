@@ -4,7 +4,8 @@
 --     number-none .. number-next           a number, and the next place
 --     over_none, over-some                 whether the line is over
 -- Assumes nothing.
-use Prim.Native.Nat.{ℕ, ◌+◌, ◌-◌, ◌<◌, ◌≤◌}
+use Rattle.std.proofs.Common.{Some, None}
+use Prim.Native.Nat.{ℕ, ◌+◌, ◌<◌, ◌≤◌}
 use mathlib.Core.Path.{◌≡◌, refl, sym, ap, ◌∙◌}
 use mathlib.Core.Logic.{◌⊎◌, inl, inr}
 use mathlib.Core.Bool.{Bool, true, false, cond}
@@ -15,7 +16,6 @@ use lib.Dec.{eqb, leb}
 use lib.ListN.{length, get_or, drop, drop_of_length-le}
 use lib.Seq.{get_or-drop, drop-drop}
 use Rattle.numbers.proofs.Ways.{byte-none}
-use Rattle.text_decimals.specs.declared.Numeral.TheVariants as numeral
 use Rattle.text_decimals.specs.Reading.{blanks_end}
 use Rattle.import_lines.specs.Lines.{lines_of, every, decimal_of, unpadded, is_number}
 use Rattle.import_lines.specs.Places.{is_gap, line_start, line_over, number_at}
@@ -141,7 +141,7 @@ module _ (s : List ℕ) (at : ℕ) where
 
 -- ---- a number
 module _ (s : List ℕ) (at : ℕ) (ls : List (List (List ℕ))) where
-  pub number-none : Stands s at [] ls → number_at s at ≡ numeral.Wrong
+  pub number-none : Stands s at [] ls → number_at s at ≡ None
   number-none h = number-field s at (drop at s) refl ∙ rw (word_gone (drop at s) h.line) (unfold is_number in unfold every in unfold unpadded in refl)
 
   module _ (f : List ℕ) (fs : List (List ℕ)) (h : Stands s at (f ∷ fs) ls) where
@@ -151,10 +151,10 @@ module _ (s : List ℕ) (at : ℕ) (ls : List (List (List ℕ))) where
     pub field-here : word (drop at s) ≡ f
     field-here = parts.0
 
-    pub number-wrong : is_number f ≡ false → number_at s at ≡ numeral.Wrong
+    pub number-wrong : is_number f ≡ false → number_at s at ≡ None
     number-wrong n = number-field s at (drop at s) refl ∙ rw (parts.0, n)
 
-    pub number-some : is_number f ≡ true → number_at s at ≡ numeral.Value (decimal_of f) (blanks_end s (at + length f))
+    pub number-some : is_number f ≡ true → number_at s at ≡ Some (decimal_of f, blanks_end s (at + length f))
     number-some n = number-field s at (drop at s) refl ∙ rw (parts.0, n)
 
     gone : drop (at + length f) s ≡ past (drop at s)

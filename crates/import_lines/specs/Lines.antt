@@ -1,4 +1,4 @@
--- A text as lines of fields (document 02, R-1): "Fields are parted by blanks (spaces), lines by line feeds, and lines with nothing but blanks
+-- A text as lines of fields: "Fields are parted by blanks (spaces), lines by line feeds, and lines with nothing but blanks
 -- are skipped. Numbers are decimal, at most 65,535 and without leading zeros."
 use Rattle.std.specs.Prelude.{ℕ, ◌+◌, ◌-◌, ◌*◌, Bool, true, false, cond, not, ◌&&◌, List, [], ◌∷◌, map, eqb, leb}
 use Rattle.text_decimals.specs.Reading.{is_digit}

@@ -1,13 +1,9 @@
 -- A text as the code reads it: field by field, from a place on. Between fields a place never stands at a blank: the blanks after a field are
 -- skipped with it, so that it stands at the next field, at the line feed or at the text's end. proofs/Lines.antt joins this to Lines.antt.
-use Rattle.std.specs.Prelude.{ℕ, zero, suc, ◌+◌, ◌-◌, ◌*◌, ◌<◌, ◌≤◌, ◌≡◌, Bool, true, cond, ◌&&◌, List, [], ◌∷◌, eqb, leb, length, get_or}
-use Rattle.numbers.specs.declared.Found.{Found}
-use Rattle.numbers.specs.declared.Found.TheVariants.{At, Nothing}
-use Rattle.text_decimals.specs.declared.Numeral.{Numeral}
-use Rattle.text_decimals.specs.declared.Numeral.TheVariants as numeral
+use Rattle.std.specs.Prelude.{Option, Some, None, ℕ, zero, suc, ◌+◌, ◌-◌, ◌*◌, ◌<◌, ◌≤◌, ◌≡◌, Bool, true, cond, ◌&&◌, List, [], ◌∷◌, eqb, leb, length, get_or, drop}
+use Rattle.std.specs.List.{starts_with}
 use Rattle.text_decimals.specs.Reading.{blanks_end, decimal_at}
 use Rattle.import_lines.specs.declared.Values.{Values}
-use Rattle.import_lines.specs.declared.Values.TheVariants as values
 
 -- ---- lines
 unfoldable pub is_gap : ℕ → Bool
@@ -30,26 +26,23 @@ line_over s at = cond (leb (length s) at) true (eqb (get_or s at 0) 10)
 unfoldable pub field_over : List ℕ → ℕ → Bool
 field_over s at = cond (eqb (get_or s at 0) 32) true (line_over s at)
 
-unfoldable pub whole_field : List ℕ → Numeral → Numeral
-whole_field s (numeral.Value v e) = cond (field_over s e) (numeral.Value v (blanks_end s e)) numeral.Wrong
-whole_field s numeral.Wrong = numeral.Wrong
+unfoldable pub whole_field : List ℕ → Option (ℕ × ℕ) → Option (ℕ × ℕ)
+whole_field s (Some (v, e)) = cond (field_over s e) (Some (v, blanks_end s e)) None
+whole_field s None = None
 
 -- the number that is the field at a place, at most 65,535
-unfoldable pub number_at : List ℕ → ℕ → Numeral
+unfoldable pub number_at : List ℕ → ℕ → Option (ℕ × ℕ)
 number_at s at = whole_field s (decimal_at 65536 s at)
 
--- the field at a place is this word of three letters, and the line's last: the place past it
-unfoldable pub letters_at : ℕ → ℕ → ℕ → List ℕ → ℕ → Bool
-letters_at a b c s at = eqb (get_or s at 0) a && (eqb (get_or s (at + 1) 0) b && eqb (get_or s (at + 2) 0) c)
-
-unfoldable pub word_past : ℕ → ℕ → ℕ → List ℕ → ℕ → Found
-word_past a b c s at =
-    cond (leb (at + 3) (length s) && (letters_at a b c s at && line_over s (blanks_end s (at + 3)))) (At (at + 3)) Nothing
+-- the field at a place is this word, and the line's last: the place past it
+unfoldable pub word_past : List ℕ → List ℕ → ℕ → Option ℕ
+word_past w s at =
+    cond (leb (at + length w) (length s) && (starts_with eqb (drop at s) w && line_over s (blanks_end s (at + length w)))) (Some (at + length w)) None
 
 -- what goes on after a number, with its value and the next field's place
-unfoldable pub with_number : {A : Type 0} → A → (ℕ → ℕ → A) → Numeral → A
-with_number other f (numeral.Value v e) = f v e
-with_number other f numeral.Wrong = other
+unfoldable pub with_number : {A : Type 0} → A → (ℕ → ℕ → A) → Option (ℕ × ℕ) → A
+with_number other f (Some (v, e)) = f v e
+with_number other f None = other
 
 -- ---- lines of numbers
 pub data NumbersRead : Type 0 where
@@ -70,28 +63,28 @@ sum_of [] = 0
 sum_of (x ∷ xs) = x + sum_of xs
 
 -- their sum, after a sum x
-unfoldable pub summed : ℕ → ℕ → ℕ → NumbersRead → Values
-summed k at x (Read vs e) = values.Read k at (x + sum_of vs) e
-summed k at x Wrong = values.Wrong
+unfoldable pub summed : ℕ → ℕ → ℕ → NumbersRead → Option Values
+summed k at x (Read vs e) = Some (record { count = k; first = at; total = x + sum_of vs; past = e })
+summed k at x Wrong = None
 
 -- a line that says how many numbers follow, then these: the count, the first one's place, their sum, and the place past them
-unfoldable pub values_at : List ℕ → ℕ → Values
-values_at s at = with_number values.Wrong (λ k e. summed k e 0 (numbers_at k s e)) (number_at s at)
+unfoldable pub values_at : List ℕ → ℕ → Option Values
+values_at s at = with_number None (λ k e. summed k e 0 (numbers_at k s e)) (number_at s at)
 
 -- ---- what the code says beside the value
-unfoldable pub SmallNumeral : Numeral → Type 0
-SmallNumeral (numeral.Value v e) = v < 65536
-SmallNumeral numeral.Wrong = Unit
+unfoldable pub SmallNumeral : Option (ℕ × ℕ) → Type 0
+SmallNumeral (Some (v, e)) = v < 65536
+SmallNumeral None = Unit
 
 -- a number read as the definition says, below 65,536
-pub record NumberRead (d r : Numeral) : Type 0 where
+pub record NumberRead (d r : Option (ℕ × ℕ)) : Type 0 where
   pub eq : r ≡ d
   pub small : SmallNumeral r
 
-unfoldable pub SmallValues : Values → Type 0
-SmallValues (values.Read k at x e) = record { few : k < 65536; small : x ≤ 65535 * 65535 }
-SmallValues values.Wrong = Unit
+unfoldable pub SmallValues : Option Values → Type 0
+SmallValues (Some v) = record { few : v.count < 65536; small : v.total ≤ 65535 * 65535 }
+SmallValues None = Unit
 
-pub record ValuesRead (d r : Values) : Type 0 where
+pub record ValuesRead (d r : Option Values) : Type 0 where
   pub eq : r ≡ d
   pub small : SmallValues r

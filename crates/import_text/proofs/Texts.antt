@@ -2,6 +2,7 @@
 --     numbers-line, values-line, gate-line, gates_lines      a line, and the lines of the gates
 --     Reads, text_reads                                      the whole text
 -- Assumes nothing.
+use Rattle.std.proofs.Common.{Option, Some, None}
 use Prim.Native.Nat.{ℕ, zero, suc, ◌+◌}
 use mathlib.Core.Path.{◌≡◌, refl, sym, ap, ◌∙◌}
 use mathlib.Core.Logic.{◌⊎◌, inl, inr}
@@ -12,18 +13,14 @@ use borrow.Author.Tests.{eq-eqb, ne_eqb, eqb-true, eqb-false, le-leb, lt-leb, le
 use lib.Dec.{eqb, leb}
 use lib.ListN.{length, get_or, take, drop, length-map}
 use Rattle.numbers.proofs.Truth.{both_true}
-use Rattle.text_decimals.specs.declared.Numeral.TheVariants as numeral
 use Rattle.text_decimals.specs.Reading.{blanks_end}
 use Rattle.plan.specs.File.{same_bytes}
-use Rattle.import_lines.specs.declared.Values.TheVariants as values
 use Rattle.import_lines.specs.Lines.{lines_of, every, decimal_of, is_number}
 use Rattle.import_lines.specs.Places.{is_gap, line_start, number_at, with_number, NumbersRead, following, numbers_at, sum_of, summed, values_at}
 use Rattle.import_lines.proofs.Lines.{clash}
 use Rattle.import_lines.proofs.Stands.{Stands, start_none, start-some, number-none, number-wrong, number-some, number-next, over_none, over-some, end_stands, over_lines}
-use Rattle.import_text.specs.declared.GateRead.{GateRead}
-use Rattle.import_text.specs.declared.GateRead.TheVariants as gate
+use Rattle.import_text.specs.declared.LogicGate.{LogicGate}
 use Rattle.import_text.specs.declared.Head.{Head}
-use Rattle.import_text.specs.declared.HeadRead.TheVariants as head
 use Rattle.import_text.specs.Circuits.{number_in, xor_word, and_word, inv_word, gate_in, circuit_in, contents_line, values_line, reads_line, gate_line, format_ok, circuit_of}
 use Rattle.import_text.specs.Scanning.{ended, first_ended, two_named, one_named, two_wires, one_wire, wires_at, gate_at, GatesRead, gate_then, with_gate, gates_at, with_values, values_head, head_at}
 use Rattle.import_text.proofs.Words.{word_over, word-other, word_more, word-is, word-lines}
@@ -90,13 +87,13 @@ numbers-line s (suc k) at (f ∷ fs) ls h = by (is_number f) refl (numbers-line 
 record ValuesThere (s : List ℕ) (at : ℕ) (fs : List (List ℕ)) (ls : List (List (List ℕ))) : Type 0 where
   first : ℕ
   end : ℕ
-  is : values_at s at ≡ values.Read (number_in fs 0) first (sum_of (map decimal_of (drop 1 fs))) end
+  is : values_at s at ≡ Some (record { count = number_in fs 0; first = first; total = sum_of (map decimal_of (drop 1 fs)); past = end })
   each : numbers_at (number_in fs 0) s first ≡ NumbersRead.Read (map decimal_of (drop 1 fs)) end
   next : Stands s end [] ls
   ok : values_line fs ≡ true
 
 record NoValues (s : List ℕ) (at : ℕ) (fs : List (List ℕ)) : Type 0 where
-  is : values_at s at ≡ values.Wrong
+  is : values_at s at ≡ None
   not : values_line fs ≡ false
 
 values-line : (s : List ℕ) (at : ℕ) (fs : List (List ℕ)) (ls : List (List (List ℕ))) → Stands s at fs ls → ValuesThere s at fs ls ⊎ NoValues s at fs
@@ -159,14 +156,14 @@ module _ (fs : List (List ℕ)) where
   gate-one b = rw b
 
 -- what a reader of a gate's line, or of its rest, answers where the whole line is fs
-record GateThere (r : GateRead) (s : List ℕ) (fs : List (List ℕ)) (ls : List (List (List ℕ))) : Type 0 where
+record GateThere (r : Option (LogicGate × ℕ)) (s : List ℕ) (fs : List (List ℕ)) (ls : List (List (List ℕ))) : Type 0 where
   end : ℕ
-  is : r ≡ gate.Read (gate_in fs) end
+  is : r ≡ Some (gate_in fs, end)
   next : lines_of (drop end s) ≡ ls
   ok : gate_line fs ≡ true
 
-record NoGate (r : GateRead) (fs : List (List ℕ)) : Type 0 where
-  is : r ≡ gate.Wrong
+record NoGate (r : Option (LogicGate × ℕ)) (fs : List (List ℕ)) : Type 0 where
+  is : r ≡ None
   not : gate_line fs ≡ false
 
 module _ (s : List ℕ) (ls : List (List (List ℕ))) (r w : List ℕ) (is-r : is_number r ≡ true) (is-w : is_number w ≡ true) (one : decimal_of w ≡ 1) where
@@ -221,15 +218,15 @@ module _ (s : List ℕ) (ls : List (List (List ℕ))) (r w : List ℕ) (is-r : i
     bad fs e = none fs (reads-numbers 2 (r ∷ w ∷ fs) e)
 
     two-third : (a b : List ℕ) (fs : List (List ℕ)) (at : ℕ) → is_number a ≡ true → is_number b ≡ true → Stands s at fs ls
-        → GateThere (with_number gate.Wrong (λ c i. two_named (decimal_of a) (decimal_of b) c s i) (number_at s at)) s (r ∷ w ∷ a ∷ b ∷ fs) ls
-        ⊎ NoGate (with_number gate.Wrong (λ c i. two_named (decimal_of a) (decimal_of b) c s i) (number_at s at)) (r ∷ w ∷ a ∷ b ∷ fs)
+        → GateThere (with_number None (λ c i. two_named (decimal_of a) (decimal_of b) c s i) (number_at s at)) s (r ∷ w ∷ a ∷ b ∷ fs) ls
+        ⊎ NoGate (with_number None (λ c i. two_named (decimal_of a) (decimal_of b) c s i) (number_at s at)) (r ∷ w ∷ a ∷ b ∷ fs)
     unfolding with_number
     two-third a b [] at ia ib h = inr (record { is = rw (number-none s at ls h); not = short (a ∷ b ∷ []) refl })
     two-third a b (c ∷ fs) at ia ib h = by (is_number c) refl
       where
         by : (t : Bool) → is_number c ≡ t
-            → GateThere (with_number gate.Wrong (λ c i. two_named (decimal_of a) (decimal_of b) c s i) (number_at s at)) s (r ∷ w ∷ a ∷ b ∷ c ∷ fs) ls
-            ⊎ NoGate (with_number gate.Wrong (λ c i. two_named (decimal_of a) (decimal_of b) c s i) (number_at s at)) (r ∷ w ∷ a ∷ b ∷ c ∷ fs)
+            → GateThere (with_number None (λ c i. two_named (decimal_of a) (decimal_of b) c s i) (number_at s at)) s (r ∷ w ∷ a ∷ b ∷ c ∷ fs) ls
+            ⊎ NoGate (with_number None (λ c i. two_named (decimal_of a) (decimal_of b) c s i) (number_at s at)) (r ∷ w ∷ a ∷ b ∷ c ∷ fs)
         by false e = inr (record {
           is = unfold with_number in rw (number-wrong s at ls c fs h e);
           not = bad (a ∷ b ∷ c ∷ fs) (unfold every in rw (is-r, is-w, ia, ib, e));
@@ -237,15 +234,15 @@ module _ (s : List ℕ) (ls : List (List (List ℕ))) (r w : List ℕ) (is-r : i
         by true e = rw (number-some s at ls c fs h e) (two-named a b c fs (blanks_end s (at + length c)) ia ib e (number-next s at ls c fs h))
 
     two-second : (a : List ℕ) (fs : List (List ℕ)) (at : ℕ) → is_number a ≡ true → Stands s at fs ls
-        → GateThere (with_number gate.Wrong (λ b f. with_number gate.Wrong (λ c i. two_named (decimal_of a) b c s i) (number_at s f)) (number_at s at)) s (r ∷ w ∷ a ∷ fs) ls
-        ⊎ NoGate (with_number gate.Wrong (λ b f. with_number gate.Wrong (λ c i. two_named (decimal_of a) b c s i) (number_at s f)) (number_at s at)) (r ∷ w ∷ a ∷ fs)
+        → GateThere (with_number None (λ b f. with_number None (λ c i. two_named (decimal_of a) b c s i) (number_at s f)) (number_at s at)) s (r ∷ w ∷ a ∷ fs) ls
+        ⊎ NoGate (with_number None (λ b f. with_number None (λ c i. two_named (decimal_of a) b c s i) (number_at s f)) (number_at s at)) (r ∷ w ∷ a ∷ fs)
     unfolding with_number
     two-second a [] at ia h = inr (record { is = rw (number-none s at ls h); not = short (a ∷ []) refl })
     two-second a (b ∷ fs) at ia h = by (is_number b) refl
       where
         by : (t : Bool) → is_number b ≡ t
-            → GateThere (with_number gate.Wrong (λ b f. with_number gate.Wrong (λ c i. two_named (decimal_of a) b c s i) (number_at s f)) (number_at s at)) s (r ∷ w ∷ a ∷ b ∷ fs) ls
-            ⊎ NoGate (with_number gate.Wrong (λ b f. with_number gate.Wrong (λ c i. two_named (decimal_of a) b c s i) (number_at s f)) (number_at s at)) (r ∷ w ∷ a ∷ b ∷ fs)
+            → GateThere (with_number None (λ b f. with_number None (λ c i. two_named (decimal_of a) b c s i) (number_at s f)) (number_at s at)) s (r ∷ w ∷ a ∷ b ∷ fs) ls
+            ⊎ NoGate (with_number None (λ b f. with_number None (λ c i. two_named (decimal_of a) b c s i) (number_at s f)) (number_at s at)) (r ∷ w ∷ a ∷ b ∷ fs)
         by false e = inr (record {
           is = unfold with_number in rw (number-wrong s at ls b fs h e);
           not = bad (a ∷ b ∷ fs) (unfold every in rw (is-r, is-w, ia, e));
@@ -308,15 +305,15 @@ module _ (s : List ℕ) (ls : List (List (List ℕ))) (r w : List ℕ) (is-r : i
         })
 
     one-second : (a : List ℕ) (fs : List (List ℕ)) (at : ℕ) → is_number a ≡ true → Stands s at fs ls
-        → GateThere (with_number gate.Wrong (λ c f. one_named (decimal_of a) c s f) (number_at s at)) s (r ∷ w ∷ a ∷ fs) ls
-        ⊎ NoGate (with_number gate.Wrong (λ c f. one_named (decimal_of a) c s f) (number_at s at)) (r ∷ w ∷ a ∷ fs)
+        → GateThere (with_number None (λ c f. one_named (decimal_of a) c s f) (number_at s at)) s (r ∷ w ∷ a ∷ fs) ls
+        ⊎ NoGate (with_number None (λ c f. one_named (decimal_of a) c s f) (number_at s at)) (r ∷ w ∷ a ∷ fs)
     unfolding with_number
     one-second a [] at ia h = inr (record { is = rw (number-none s at ls h); not = one-short (a ∷ []) refl })
     one-second a (c ∷ fs) at ia h = by (is_number c) refl
       where
         by : (t : Bool) → is_number c ≡ t
-            → GateThere (with_number gate.Wrong (λ c f. one_named (decimal_of a) c s f) (number_at s at)) s (r ∷ w ∷ a ∷ c ∷ fs) ls
-            ⊎ NoGate (with_number gate.Wrong (λ c f. one_named (decimal_of a) c s f) (number_at s at)) (r ∷ w ∷ a ∷ c ∷ fs)
+            → GateThere (with_number None (λ c f. one_named (decimal_of a) c s f) (number_at s at)) s (r ∷ w ∷ a ∷ c ∷ fs) ls
+            ⊎ NoGate (with_number None (λ c f. one_named (decimal_of a) c s f) (number_at s at)) (r ∷ w ∷ a ∷ c ∷ fs)
         by false e = inr (record {
           is = unfold with_number in rw (number-wrong s at ls c fs h e);
           not = one-bad (a ∷ c ∷ fs) (unfold every in rw (is-r, is-w, ia, e));
@@ -342,8 +339,8 @@ unfolding wires_at
 wires-line s ls r w fs at ir iw h = by (eqb (decimal_of w) 1) (eqb (decimal_of r) 2) (eqb (decimal_of r) 1) refl refl refl
   where
     by : (x y z : Bool) → eqb (decimal_of w) 1 ≡ x → eqb (decimal_of r) 2 ≡ y → eqb (decimal_of r) 1 ≡ z
-        → GateThere (cond x (cond y (two_wires s at) (cond z (one_wire s at) gate.Wrong)) gate.Wrong) s (r ∷ w ∷ fs) ls
-        ⊎ NoGate (cond x (cond y (two_wires s at) (cond z (one_wire s at) gate.Wrong)) gate.Wrong) (r ∷ w ∷ fs)
+        → GateThere (cond x (cond y (two_wires s at) (cond z (one_wire s at) None)) None) s (r ∷ w ∷ fs) ls
+        ⊎ NoGate (cond x (cond y (two_wires s at) (cond z (one_wire s at) None)) None) (r ∷ w ∷ fs)
     by false y z e f g = inr (record { is = refl; not = gate-not (r ∷ w ∷ fs) (reads-set 2 (r ∷ w ∷ fs) e) (reads-set 1 (r ∷ w ∷ fs) e) })
     by true true z e f g = two-line s ls r w ir iw (eqb-true (decimal_of w) 1 e) (eqb-true (decimal_of r) 2 f) fs at h
     by true false true e f g = one_line s ls r w ir iw (eqb-true (decimal_of w) 1 e) (eqb-true (decimal_of r) 1 g) fs at h
@@ -356,15 +353,15 @@ bad-line : (fs : List (List ℕ)) → every is_number (take 5 fs) ≡ false → 
 bad-line fs e f = gate-not fs (reads-numbers 2 fs e) (reads-numbers 1 fs f)
 
 gate_second : (s : List ℕ) (ls : List (List (List ℕ))) (r : List ℕ) (fs : List (List ℕ)) (at : ℕ) → is_number r ≡ true → Stands s at fs ls
-    → GateThere (with_number gate.Wrong (λ w f. wires_at (decimal_of r) w s f) (number_at s at)) s (r ∷ fs) ls
-    ⊎ NoGate (with_number gate.Wrong (λ w f. wires_at (decimal_of r) w s f) (number_at s at)) (r ∷ fs)
+    → GateThere (with_number None (λ w f. wires_at (decimal_of r) w s f) (number_at s at)) s (r ∷ fs) ls
+    ⊎ NoGate (with_number None (λ w f. wires_at (decimal_of r) w s f) (number_at s at)) (r ∷ fs)
 unfolding with_number
 gate_second s ls r [] at ir h = inr (record { is = rw (number-none s at ls h); not = short-line (r ∷ []) refl refl })
 gate_second s ls r (w ∷ fs) at ir h = by (is_number w) refl
   where
     by : (t : Bool) → is_number w ≡ t
-        → GateThere (with_number gate.Wrong (λ w f. wires_at (decimal_of r) w s f) (number_at s at)) s (r ∷ w ∷ fs) ls
-        ⊎ NoGate (with_number gate.Wrong (λ w f. wires_at (decimal_of r) w s f) (number_at s at)) (r ∷ w ∷ fs)
+        → GateThere (with_number None (λ w f. wires_at (decimal_of r) w s f) (number_at s at)) s (r ∷ w ∷ fs) ls
+        ⊎ NoGate (with_number None (λ w f. wires_at (decimal_of r) w s f) (number_at s at)) (r ∷ w ∷ fs)
     by false e = inr (record {
       is = unfold with_number in rw (number-wrong s at ls w fs h e);
       not = bad-line (r ∷ w ∷ fs) (unfold every in rw (ir, e)) (unfold every in rw (ir, e));
@@ -427,7 +424,7 @@ gates_lines s (suc k) at (l ∷ ls) h = by (gate-line s (line_start s at) l ls (
 
 -- ---- the whole text
 pub record Reads (s : List ℕ) (h : Head) : Type 0 where
-  pub head : head_at s ≡ head.Read h
+  pub head : head_at s ≡ Some h
   pub gates : gates_at h.gates s h.at ≡ GatesRead.Read (circuit_of s).gates
   pub count : h.gates ≡ length (circuit_of s).gates
   pub wires : h.wires ≡ (circuit_of s).wires
@@ -439,17 +436,17 @@ pub record Reads (s : List ℕ) (h : Head) : Type 0 where
 
 pub record NoRead (s : List ℕ) : Type 0 where
   pub not : format_ok (lines_of s) ≡ false
-  pub wrong : (h : Head) → head_at s ≡ head.Read h → gates_at h.gates s h.at ≡ GatesRead.Wrong
+  pub wrong : (h : Head) → head_at s ≡ Some h → gates_at h.gates s h.at ≡ GatesRead.Wrong
 
 pub record GoodRead (s : List ℕ) : Type 0 where
   pub ok : format_ok (lines_of s) ≡ true
   pub found : Head
   pub reads : Reads s found
 
-no_head : {A : Type 0} (h : Head) → head.Wrong ≡ head.Read h → A
+no_head : {A : Type 0} (h : Head) → None ≡ Some h → A
 no_head h e = absurd (let z : ◌≡◌ {A = ℕ} 0 1 = cc in omega arith)
 
-headless : (s : List ℕ) → format_ok (lines_of s) ≡ false → head_at s ≡ head.Wrong → NoRead s
+headless : (s : List ℕ) → format_ok (lines_of s) ≡ false → head_at s ≡ None → NoRead s
 headless s n e = record { not = n; wrong = λ h q. no_head h (sym e ∙ q) }
 
 -- the format, line by line
@@ -477,7 +474,7 @@ record ContentsThere (s : List ℕ) (l0 : List (List ℕ)) (ls : List (List (Lis
   ok : contents_line l0 ≡ true
 
 record NoContents (s : List ℕ) (l0 : List (List ℕ)) : Type 0 where
-  is : head_at s ≡ head.Wrong
+  is : head_at s ≡ None
   not : contents_line l0 ≡ false
 
 contents-line : (s : List ℕ) (l0 : List (List ℕ)) (ls : List (List (List ℕ))) → Stands s (line_start s 0) l0 ls → ContentsThere s l0 ls ⊎ NoContents s l0
@@ -493,7 +490,7 @@ contents-line s (f ∷ fs) ls h = by (is_number f) refl
     by true e = second fs (number-next s (line_start s 0) ls f fs h) (number-some s (line_start s 0) ls f fs h e)
       where
         second : (fs : List (List ℕ)) → Stands s (blanks_end s (line_start s 0 + length f)) fs ls
-            → number_at s (line_start s 0) ≡ numeral.Value (decimal_of f) (blanks_end s (line_start s 0 + length f)) → ContentsThere s (f ∷ fs) ls ⊎ NoContents s (f ∷ fs)
+            → number_at s (line_start s 0) ≡ Some (decimal_of f, blanks_end s (line_start s 0 + length f)) → ContentsThere s (f ∷ fs) ls ⊎ NoContents s (f ∷ fs)
         second [] k n = inr (record {
           is = unfold head_at in unfold with_number in rw (n, number-none s (blanks_end s (line_start s 0 + length f)) ls k);
           not = unfold contents_line in refl;
@@ -508,7 +505,7 @@ contents-line s (f ∷ fs) ls h = by (is_number f) refl
             third true q = last gs (number-next s (blanks_end s (line_start s 0 + length f)) ls g gs k) (number-some s (blanks_end s (line_start s 0 + length f)) ls g gs k q)
               where
                 last : (gs : List (List ℕ)) → Stands s (blanks_end s (blanks_end s (line_start s 0 + length f) + length g)) gs ls
-                    → number_at s (blanks_end s (line_start s 0 + length f)) ≡ numeral.Value (decimal_of g) (blanks_end s (blanks_end s (line_start s 0 + length f) + length g))
+                    → number_at s (blanks_end s (line_start s 0 + length f)) ≡ Some (decimal_of g, blanks_end s (blanks_end s (line_start s 0 + length f) + length g))
                     → ContentsThere s (f ∷ g ∷ gs) ls ⊎ NoContents s (f ∷ g ∷ gs)
                 last [] m o = inl (record {
                   end = blanks_end s (blanks_end s (line_start s 0 + length f) + length g);
@@ -525,10 +522,10 @@ contents-line s (f ∷ fs) ls h = by (is_number f) refl
 next-values : (s : List ℕ) (at : ℕ) (l : List (List ℕ)) (ls : List (List (List ℕ))) → Stands s at [] (l ∷ ls) → ValuesThere s (line_start s at) l ls ⊎ NoValues s (line_start s at) l
 next-values s at l ls h = values-line s (line_start s at) l ls (start-some s at l ls (over_lines s at (l ∷ ls) h)).0
 
-no-values : (s : List ℕ) (at : ℕ) → Stands s at [] [] → values_at s (line_start s at) ≡ values.Wrong
+no-values : (s : List ℕ) (at : ℕ) → Stands s at [] [] → values_at s (line_start s at) ≡ None
 no-values s at h = by (values-line s (line_start s at) [] [] (end_stands s (line_start s at) (start_none s at (over_lines s at [] h))))
   where
-    by : ValuesThere s (line_start s at) [] [] ⊎ NoValues s (line_start s at) [] → values_at s (line_start s at) ≡ values.Wrong
+    by : ValuesThere s (line_start s at) [] [] ⊎ NoValues s (line_start s at) [] → values_at s (line_start s at) ≡ None
     by (inl r) = clash (sym r.ok ∙ (unfold values_line in unfold every in ne_eqb 0 (suc (number_in [] 0)) (λ e. omega (arith, e))))
     by (inr r) = r.is
 
@@ -539,7 +536,7 @@ values_count (f ∷ fs) e =
     omega (arith, eqb-true (length (f ∷ fs)) (suc (decimal_of f)) (both_true (every is_number (f ∷ fs)) (eqb (length (f ∷ fs)) (suc (decimal_of f))) e).1, length-map fs decimal_of)
 
 module _ (s : List ℕ) (l0 : List (List ℕ)) (ls : List (List (List ℕ))) (lines : lines_of s ≡ l0 ∷ ls) (c : ContentsThere s l0 ls) where
-  wrong : format_ok (l0 ∷ ls) ≡ false → values_head (number_in l0 0) (number_in l0 1) s c.end ≡ head.Wrong → NoRead s
+  wrong : format_ok (l0 ∷ ls) ≡ false → values_head (number_in l0 0) (number_in l0 1) s c.end ≡ None → NoRead s
   wrong n e = headless s (ap format_ok lines ∙ n) (c.is ∙ e)
 
 abbrev head_from : List (List ℕ) → List (List ℕ) → List (List ℕ) → ℕ → ℕ → Head
@@ -559,7 +556,7 @@ whole : (s : List ℕ) (l0 l1 l2 : List (List ℕ)) (rest : List (List (List ℕ
     → GatesThere s (number_in l0 0) q.end rest ⊎ NoGates s (number_in l0 0) q.end rest → GoodRead s ⊎ NoRead s
 whole s l0 l1 l2 rest lines c r q g = by g
   where
-    reads : head_at s ≡ head.Read (head_from l0 l1 l2 r.first q.end)
+    reads : head_at s ≡ Some (head_from l0 l1 l2 r.first q.end)
     reads = c.is ∙ (unfold values_head in unfold with_values in rw (r.is, q.is))
 
     it : circuit_of s ≡ circuit_in (l0 ∷ l1 ∷ l2 ∷ rest)
@@ -588,7 +585,7 @@ whole s l0 l1 l2 rest lines c r q g = by g
           ap (λ (x : Head). gates_at x.gates s x.at) (sym f) ∙ k.is;
     })
       where
-        only : (x y : Head) → head.Read x ≡ head.Read y → x ≡ y
+        only : (x y : Head) → Some x ≡ Some y → x ≡ y
         only x y e = cc
 
 after_second : (s : List ℕ) (l0 l1 : List (List ℕ)) (ls : List (List (List ℕ))) → lines_of s ≡ l0 ∷ l1 ∷ ls → (c : ContentsThere s l0 (l1 ∷ ls))
@@ -620,7 +617,7 @@ text_reads s = lines (lines_of s) refl
     lines : (ls : List (List (List ℕ))) → lines_of s ≡ ls → GoodRead s ⊎ NoRead s
     lines [] e = inr (headless s (ap format_ok e ∙ (unfold format_ok in refl)) none)
       where
-        none : head_at s ≡ head.Wrong
+        none : head_at s ≡ None
         none = unfold head_at in unfold with_number in rw (number-none s (line_start s 0) [] (end_stands s (line_start s 0) (start_none s 0 e)))
     lines (l0 ∷ ls) e = first (contents-line s l0 ls (start-some s 0 l0 ls e).0)
       where

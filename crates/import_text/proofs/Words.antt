@@ -2,22 +2,25 @@
 --     word_gone, word-other, word_more     where the line's last field isn't this word
 --     word-is, word-lines                  where it is: the place past it, and the lines from there
 -- Assumes nothing.
+use Rattle.std.specs.List.{starts_with}
+use Rattle.std.proofs.lemmas.Slice.Eq.{starts_is}
+use Rattle.std.proofs.lemmas.Bool.Decides.{Decides-eqb}
+use Rattle.std.proofs.Common.{Some, None}
 use Prim.Native.Nat.{ℕ, zero, suc, ◌+◌, ◌-◌, ◌≤◌}
 use mathlib.Core.Path.{◌≡◌, refl, sym, ap, ◌∙◌}
 use mathlib.Core.Bool.{Bool, true, false, cond, ◌&&◌}
 use mathlib.Core.List.{List, [], ◌∷◌}
 use native.Mathlib.Omega.{arith}
-use borrow.Author.Tests.{eqb-true, eq-eqb, leb-true, le-leb}
+use borrow.Author.Tests.{eqb-true, eq-eqb, le-leb}
 use lib.Dec.{eqb, leb}
-use lib.ListN.{length, get_or, drop}
-use lib.Seq.{drop-cons}
-use Rattle.numbers.specs.declared.Found.TheVariants.{At, Nothing}
+use lib.ListN.{length, get_or, drop, length-drop}
+use lib.Seq.{drop-drop}
 use Rattle.numbers.proofs.Truth.{both_true}
 use Rattle.text_decimals.specs.Reading.{blanks_from, blanks_end}
 use Rattle.plan.specs.File.{same_bytes}
 use Rattle.import_lines.specs.Lines.{lines_of}
-use Rattle.import_lines.specs.Places.{is_gap, line_over, letters_at, word_past}
-use Rattle.import_lines.proofs.Lines.{word, at_byte, at_rest, at-inside, clash}
+use Rattle.import_lines.specs.Places.{is_gap, line_over, word_past}
+use Rattle.import_lines.proofs.Lines.{word, at_byte, clash}
 use Rattle.import_lines.proofs.Stands.{Stands, absent, word_gone, field-here, over_byte, over_none, over-some, number-next, last-lines}
 
 -- ---- equal bytes
@@ -71,21 +74,16 @@ module _ (a b c : ℕ) (ga : is_gap a ≡ false) (gb : is_gap b ≡ false) (gc :
   abbrev three : List ℕ
   three = a ∷ b ∷ c ∷ []
 
-  -- the letters stand there
-  letters-drop : at + 3 ≤ length s → letters_at a b c s at ≡ true → drop at s ≡ a ∷ b ∷ c ∷ drop (at + 3) s
-  unfolding letters_at
-  letters-drop l e =
-      let t = both_true (eqb (get_or s at 0) a) (eqb (get_or s (at + 1) 0) b && eqb (get_or s (at + 2) 0) c) e in
-      let u = both_true (eqb (get_or s (at + 1) 0) b) (eqb (get_or s (at + 2) 0) c) t.1 in
-      let one : suc at ≡ at + 1 = omega arith in
-      let two : suc (at + 1) ≡ at + 2 = omega arith in
-      let more : suc (at + 2) ≡ at + 3 = omega arith in
-      drop-cons s at 0 (omega arith)
-      ∙ rw (eqb-true (get_or s at 0) a t.0, one, drop-cons s (at + 1) 0 (omega arith), eqb-true (get_or s (at + 1) 0) b u.0, two, drop-cons s (at + 2) 0 (omega arith), eqb-true (get_or s (at + 2) 0) c u.1, more)
+  abbrev stand : Bool
+  stand = starts_with eqb (drop at s) three
 
-  letters-word : at + 3 ≤ length s → letters_at a b c s at ≡ true → word (drop at s) ≡ a ∷ b ∷ c ∷ word (drop (at + 3) s)
+  -- the letters stand there
+  letters-drop : stand ≡ true → drop at s ≡ a ∷ b ∷ c ∷ drop (at + 3) s
+  letters-drop e = (starts_is Decides-eqb (drop at s) three stand refl).0 e ∙ ap (λ (l : List ℕ). a ∷ b ∷ c ∷ l) (drop-drop 3 at s)
+
+  letters-word : stand ≡ true → word (drop at s) ≡ a ∷ b ∷ c ∷ word (drop (at + 3) s)
   unfolding word
-  letters-word l e = rw (letters-drop l e, ga, gb, gc)
+  letters-word e = rw (letters-drop e, ga, gb, gc)
 
   -- the line is over right after them, so that they are the whole field
   over_word : line_over s (blanks_end s (at + 3)) ≡ true → word (drop (at + 3) s) ≡ []
@@ -100,45 +98,39 @@ module _ (a b c : ℕ) (ga : is_gap a ≡ false) (gb : is_gap b ≡ false) (gc :
           clash (sym e ∙ ap (line_over s) still ∙ over_byte s (at + 3) x k.0 k.1 ∙ g.1)
 
   -- a field that is the word
-  word-letters : word (drop at s) ≡ three → (at + 3 ≤ length s) × (letters_at a b c s at ≡ true)
-  unfolding letters_at
+  word-letters : word (drop at s) ≡ three → (at + 3 ≤ length s) × (stand ≡ true)
   word-letters e =
-      let one : suc at ≡ at + 1 = omega arith in
-      let two : suc (at + 1) ≡ at + 2 = omega arith in
       let i = word-cons (drop at s) (b ∷ c ∷ []) a e in
       let j = word-cons i.0 (c ∷ []) b i.3 in
       let k = word-cons j.0 [] c j.3 in
-      let d1 : drop (at + 1) s ≡ b ∷ j.0 = ap (λ (m : ℕ). drop m s) (sym one) ∙ at_rest s at a i.0 i.1 ∙ j.1 in
-      let d2 : drop (at + 2) s ≡ c ∷ k.0 = ap (λ (m : ℕ). drop m s) (sym two) ∙ at_rest s (at + 1) b j.0 d1 ∙ k.1 in (
-        omega (arith, at-inside s (at + 2) c k.0 d2),
-        rw (at_byte s at a i.0 i.1, at_byte s (at + 1) b j.0 d1, at_byte s (at + 2) c k.0 d2, eq-eqb a a refl, eq-eqb b b refl, eq-eqb c c refl),
-      )
+      let q : drop at s ≡ a ∷ b ∷ c ∷ k.0 = i.1 ∙ ap (λ (l : List ℕ). a ∷ l) (j.1 ∙ ap (λ (l : List ℕ). b ∷ l) k.1) in
+      (omega (arith, ap length q, length-drop at s), (starts_is Decides-eqb (drop at s) three stand refl).1 k.0 q)
 
   -- found only where the field is the word and the line is over
-  found_word : {A : Type 0} → (leb (at + 3) (length s) && (letters_at a b c s at && line_over s (blanks_end s (at + 3)))) ≡ true
+  found_word : {A : Type 0} → (leb (at + 3) (length s) && (stand && line_over s (blanks_end s (at + 3)))) ≡ true
       → (word (drop at s) ≡ three → line_over s (blanks_end s (at + 3)) ≡ true → A) → A
   found_word e k =
-      let t = both_true (leb (at + 3) (length s)) (letters_at a b c s at && line_over s (blanks_end s (at + 3))) e in
-      let u = both_true (letters_at a b c s at) (line_over s (blanks_end s (at + 3))) t.1 in
-      k (letters-word (leb-true (at + 3) (length s) t.0) u.0 ∙ ap (λ (w : List ℕ). a ∷ b ∷ c ∷ w) (over_word u.1)) u.1
+      let t = both_true (leb (at + 3) (length s)) (stand && line_over s (blanks_end s (at + 3))) e in
+      let u = both_true (stand) (line_over s (blanks_end s (at + 3))) t.1 in
+      k (letters-word u.0 ∙ ap (λ (w : List ℕ). a ∷ b ∷ c ∷ w) (over_word u.1)) u.1
 
-  not_found : ((word (drop at s) ≡ three → line_over s (blanks_end s (at + 3)) ≡ true → ⊥)) → word_past a b c s at ≡ Nothing
+  not_found : ((word (drop at s) ≡ three → line_over s (blanks_end s (at + 3)) ≡ true → ⊥)) → word_past three s at ≡ None
   unfolding word_past
-  not_found n = by (leb (at + 3) (length s) && (letters_at a b c s at && line_over s (blanks_end s (at + 3)))) refl
+  not_found n = by (leb (at + 3) (length s) && (stand && line_over s (blanks_end s (at + 3)))) refl
     where
-      by : (t : Bool) → (leb (at + 3) (length s) && (letters_at a b c s at && line_over s (blanks_end s (at + 3)))) ≡ t → cond t (At (at + 3)) Nothing ≡ Nothing
+      by : (t : Bool) → (leb (at + 3) (length s) && (stand && line_over s (blanks_end s (at + 3)))) ≡ t → cond t (Some (at + 3)) None ≡ None
       by true e = found_word e (λ w o. absurd (n w o))
       by false e = refl
 
   module _ (ls : List (List (List ℕ))) where
-    pub word_over : Stands s at [] ls → word_past a b c s at ≡ Nothing
+    pub word_over : Stands s at [] ls → word_past three s at ≡ None
     word_over h = not_found (λ w o. absent a (b ∷ c ∷ []) (sym (word_gone (drop at s) h.line) ∙ w))
 
-    pub word-other : (f : List ℕ) (fs : List (List ℕ)) → Stands s at (f ∷ fs) ls → same_bytes f three ≡ false → word_past a b c s at ≡ Nothing
+    pub word-other : (f : List ℕ) (fs : List (List ℕ)) → Stands s at (f ∷ fs) ls → same_bytes f three ≡ false → word_past three s at ≡ None
     word-other f fs h e =
         not_found (λ w o. clash (sym (same_self three) ∙ ap (λ (l : List ℕ). same_bytes l three) (sym w ∙ field-here s at ls f fs h) ∙ e))
 
-    pub word_more : (f g : List ℕ) (fs : List (List ℕ)) → Stands s at (f ∷ g ∷ fs) ls → word_past a b c s at ≡ Nothing
+    pub word_more : (f g : List ℕ) (fs : List (List ℕ)) → Stands s at (f ∷ g ∷ fs) ls → word_past three s at ≡ None
     word_more f g fs h =
         not_found (λ w o.
         let is : three ≡ f = sym w ∙ field-here s at ls f (g ∷ fs) h in
@@ -149,7 +141,7 @@ module _ (a b c : ℕ) (ga : is_gap a ≡ false) (gb : is_gap b ≡ false) (gc :
       is-three : f ≡ three
       is-three = same_true f three e
 
-      pub word-is : word_past a b c s at ≡ At (at + 3)
+      pub word-is : word_past three s at ≡ Some (at + 3)
       unfolding word_past
       word-is =
           let k = word-letters (field-here s at ls f [] h ∙ is-three) in

@@ -1,5 +1,5 @@
--- A circuit in Bristol Fashion, as its lines have it (document 02, R-1): "gates, wires; input values, each one's wires; output values likewise;
--- then a gate's counts of wires read and set, these wires, its operation."
+-- A circuit in Bristol Fashion, as its lines have it: gates, wires; input values, each one's wires; output values likewise;
+-- then a gate's counts of wires read and set, these wires, its operation.
 use Rattle.std.specs.Prelude.{ℕ, suc, ◌+◌, Bool, cond, ◌&&◌, ◌||◌, List, [], ◌∷◌, map, eqb, leb, length, get_or, take, drop}
 use Rattle.plan.specs.File.{same_bytes}
 use Rattle.import_lines.specs.Lines.{lines_of, every, decimal_of, is_number}

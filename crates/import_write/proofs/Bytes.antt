@@ -2,9 +2,10 @@
 --     putting                      what closes the needs of the functions that put a gate of the circuit
 --     gating, naming, outing       those of the loops over gates' lines, input values and outs
 -- Assumes nothing.
+use Rattle.std.proofs.Common.{Option, Some, None}
 use Prim.Native.Nat.{ℕ, suc, ◌+◌, ◌-◌, ◌*◌, ◌<◌, ◌≤◌}
 use mathlib.Core.Path.{◌≡◌, refl, sym, ap, ◌∙◌}
-use mathlib.Core.List.{List, [], ◌∷◌, ◌++◌, flat_map}
+use mathlib.Core.List.{List, [], ◌∷◌, flat_map}
 use native.Mathlib.Omega.{arith}
 use borrow.Author.Rules.{rules}
 use lib.ListN.{length, get_or, set, replicate, length-set, length-replicate, get_or-eq_default}
@@ -14,8 +15,6 @@ use mir.Val.{Fits}
 use Rattle.numbers.specs.Tables.{tab}
 use Rattle.numbers.proofs.Tables.{tab-cons, tab-ext}
 use Rattle.numbers.proofs.Fills.{fill_none, fill_next, filled}
-use Rattle.text_decimals.specs.declared.Numeral.{Numeral}
-use Rattle.text_decimals.specs.declared.Numeral.TheVariants as numeral
 use Rattle.plan.specs.declared.Gate.{Gate}
 use Rattle.plan.specs.declared.Gate.TheVariants.{Input, Add, Scale, Offset, Multiply}
 use Rattle.plan.specs.declared.Output.{Output}
@@ -27,8 +26,6 @@ use Rattle.import_lines.specs.Places.{line_start, number_at, with_number, Number
 use Rattle.import_lines.proofs.Reading.{number_below}
 use Rattle.import_text.specs.declared.LogicGate.{LogicGate}
 use Rattle.import_text.specs.declared.LogicGate.TheVariants.{Xor, And, Inv}
-use Rattle.import_text.specs.declared.GateRead.{GateRead}
-use Rattle.import_text.specs.declared.GateRead.TheVariants as gate
 use Rattle.import_text.specs.Scanning.{gate_at, with_gate}
 use Rattle.import_circuit.specs.Wires.{set_by}
 use Rattle.import_circuit.specs.Making.{input_gates, gate_size, xor_gates, made_by, held_by, gates_from, held_after, outs_of}
@@ -107,21 +104,21 @@ module _ (s : List ℕ) (at gates version p start : ℕ) (held₀ out₀ : List 
     pub gates-out : gates ≤ k → out ≡ written out₀ (place_in version start) (gates_bytes version (gates_from p start held₀ (gates_in gates s at)))
     gates-out l = (stopped (ended l)).1
 
-    module _ (from : ℕ) (ef : from ≡ line_start s e) (l : k < gates) (r : GateRead) (er : r ≡ gate_at s from) where
+    module _ (from : ℕ) (ef : from ≡ line_start s e) (l : k < gates) (r : Option (LogicGate × ℕ)) (er : r ≡ gate_at s from) where
       one : gates - k ≡ suc (gates - (k + 1))
       one = omega arith
 
-      broken : r ≡ gate.Wrong → gates_in (gates - k) s e ≡ []
+      broken : r ≡ None → gates_in (gates - k) s e ≡ []
       unfolding gates_in with_gate
       broken q = rw (one, ← ef, ← er, q)
 
-      pub broken-held : r ≡ gate.Wrong → held ≡ held_after start held₀ (gates_in gates s at)
+      pub broken-held : r ≡ None → held ≡ held_after start held₀ (gates_in gates s at)
       broken-held q = (stopped (broken q)).0
 
-      pub broken-out : r ≡ gate.Wrong → out ≡ written out₀ (place_in version start) (gates_bytes version (gates_from p start held₀ (gates_in gates s at)))
+      pub broken-out : r ≡ None → out ≡ written out₀ (place_in version start) (gates_bytes version (gates_from p start held₀ (gates_in gates s at)))
       broken-out q = (stopped (broken q)).1
 
-      module _ (x : LogicGate) (next : ℕ) (qr : r ≡ gate.Read x next) where
+      module _ (x : LogicGate) (next : ℕ) (qr : r ≡ Some (x, next)) where
         more : gates_in (gates - k) s e ≡ x ∷ gates_in (gates - (k + 1)) s next
         unfolding gates_in with_gate
         more = rw (one, ← ef, ← er, qr)
@@ -195,14 +192,14 @@ module _ (s : List ℕ) (at values version : ℕ) (out₀ : List ℕ) where
     pub take-end : values ≤ k → out ≡ written out₀ (place_in version 0) (gates_bytes version (input_gates 1 (numbers_in values s at)))
     take-end l = over (let z : values - k ≡ 0 = omega arith in rw z (unfold numbers_in in refl))
 
-    module _ (l : k < values) (d : Numeral) (hd : NumberRead (number_at s e) d) where
+    module _ (l : k < values) (d : Option (ℕ × ℕ)) (hd : NumberRead (number_at s e) d) where
       left : values - k ≡ suc (values - (k + 1))
       left = omega arith
 
-      pub take_none : d ≡ numeral.Wrong → out ≡ written out₀ (place_in version 0) (gates_bytes version (input_gates 1 (numbers_in values s at)))
+      pub take_none : d ≡ None → out ≡ written out₀ (place_in version 0) (gates_bytes version (input_gates 1 (numbers_in values s at)))
       take_none q = over (unfold numbers_in in unfold with_number in rw (left, ← hd.eq, q))
 
-      module _ (v next : ℕ) (qd : d ≡ numeral.Value v next) where
+      module _ (v next : ℕ) (qd : d ≡ Some (v, next)) where
         v-small : v < 65536
         v-small = number_below (number_at s e) d v next hd qd
 

@@ -2,20 +2,18 @@
 --     numbers_in_lem, gates_in_lem       what it reads is what the first pass read
 --     filing                     what closes the needs of the functions
 -- Assumes nothing.
-use Prim.Native.Nat.{ℕ, zero, suc, ◌+◌, ◌-◌, ◌*◌, ◌<◌, ◌≤◌}
+use Rattle.std.proofs.Common.{Option, Some, None}
+use Prim.Native.Nat.{ℕ, zero, suc, ◌-◌, ◌<◌, ◌≤◌}
 use mathlib.Core.Path.{◌≡◌, refl, sym, ap, ap₂, ◌∙◌}
 use mathlib.Core.Logic.{◌⊎◌, inl, inr}
 use mathlib.Core.Bool.{Bool, true, false, cond}
-use mathlib.Core.List.{List, [], ◌∷◌, ◌++◌, flat_map}
+use mathlib.Core.List.{List, [], ◌∷◌, flat_map}
 use native.Mathlib.Omega.{arith}
 use borrow.Author.Rules.{rules}
 use lib.Dec.{leb, ltb}
-use lib.ListN.{length, take}
-use lib.Seq.{length-take-le}
+use lib.ListN.{length}
 use Rattle.numbers.specs.Tables.{tab}
 use Rattle.numbers.proofs.Tables.{length-tab}
-use Rattle.text_decimals.specs.declared.Numeral.{Numeral}
-use Rattle.text_decimals.specs.declared.Numeral.TheVariants as numeral
 use Rattle.plan.specs.declared.Gate.{Gate}
 use Rattle.plan.specs.Plans.{party_count}
 use Rattle.plan_file.specs.Bodies.{plan_with, written, gates_bytes, out_bytes, points_bytes, place_in, out_start, contents, file_size, file_as, version_for, file_of_plan, field_limit}
@@ -25,11 +23,7 @@ use Rattle.import_lines.specs.Lines.{lines_of}
 use Rattle.import_lines.specs.Places.{line_start, line_over, number_at, with_number, NumbersRead, following, numbers_at, sum_of}
 use Rattle.import_lines.proofs.Lines.{clash}
 use Rattle.import_text.specs.declared.LogicGate.{LogicGate}
-use Rattle.import_text.specs.declared.GateRead.{GateRead}
-use Rattle.import_text.specs.declared.GateRead.TheVariants as gate
 use Rattle.import_text.specs.declared.Head.{Head}
-use Rattle.import_text.specs.declared.HeadRead.{HeadRead}
-use Rattle.import_text.specs.declared.HeadRead.TheVariants as head
 use Rattle.import_text.specs.Circuits.{format_ok, circuit_of}
 use Rattle.import_text.specs.Scanning.{gate_at, GatesRead, gate_then, with_gate, gates_at, head_at, SmallHead, HeadIs}
 use Rattle.import_text.proofs.Texts.{Reads, NoRead, GoodRead, text_reads}
@@ -59,10 +53,10 @@ numbers_in_lem zero s at vs e q = by (line_over s at) q
     by false q = absurd (let z : ◌≡◌ {A = ℕ} 0 1 = cc in omega arith)
 numbers_in_lem (suc k) s at vs e q = by (number_at s at) (λ f ws h. numbers_in_lem k s f ws e h) q
   where
-    by : (d : Numeral) → ((f : ℕ) (ws : List ℕ) → numbers_at k s f ≡ NumbersRead.Read ws e → numbers_in k s f ≡ ws)
+    by : (d : Option (ℕ × ℕ)) → ((f : ℕ) (ws : List ℕ) → numbers_at k s f ≡ NumbersRead.Read ws e → numbers_in k s f ≡ ws)
         → with_number NumbersRead.Wrong (λ v f. following v (numbers_at k s f)) d ≡ NumbersRead.Read vs e → with_number [] (λ v f. v ∷ numbers_in k s f) d ≡ vs
-    by numeral.Wrong more q = absurd (unfold with_number in (let z : ◌≡◌ {A = ℕ} 0 1 = cc in omega arith))
-    by (numeral.Value v f) more q = unfold with_number in rest (numbers_at k s f) refl q
+    by None more q = absurd (unfold with_number in (let z : ◌≡◌ {A = ℕ} 0 1 = cc in omega arith))
+    by (Some (v, f)) more q = unfold with_number in rest (numbers_at k s f) refl q
       where
         rest : (r : NumbersRead) → numbers_at k s f ≡ r → following v r ≡ NumbersRead.Read vs e → v ∷ numbers_in k s f ≡ vs
         rest NumbersRead.Wrong p h = absurd (unfold following in (let z : ◌≡◌ {A = ℕ} 0 1 = cc in omega arith))
@@ -77,10 +71,10 @@ gates_in_lem zero s at gs q = by (leb (length s) (line_start s at)) q
     by false q = absurd (let z : ◌≡◌ {A = ℕ} 0 1 = cc in omega arith)
 gates_in_lem (suc k) s at gs q = by (gate_at s (line_start s at)) (λ f hs h. gates_in_lem k s f hs h) q
   where
-    by : (r : GateRead) → ((f : ℕ) (hs : List LogicGate) → gates_at k s f ≡ GatesRead.Read hs → gates_in k s f ≡ hs)
+    by : (r : Option (LogicGate × ℕ)) → ((f : ℕ) (hs : List LogicGate) → gates_at k s f ≡ GatesRead.Read hs → gates_in k s f ≡ hs)
         → with_gate GatesRead.Wrong (λ x f. gate_then x (gates_at k s f)) r ≡ GatesRead.Read gs → with_gate [] (λ x f. x ∷ gates_in k s f) r ≡ gs
-    by gate.Wrong more q = absurd (unfold with_gate in (let z : ◌≡◌ {A = ℕ} 0 1 = cc in omega arith))
-    by (gate.Read x f) more q = unfold with_gate in rest (gates_at k s f) refl q
+    by None more q = absurd (unfold with_gate in (let z : ◌≡◌ {A = ℕ} 0 1 = cc in omega arith))
+    by (Some (x, f)) more q = unfold with_gate in rest (gates_at k s f) refl q
       where
         rest : (r : GatesRead) → gates_at k s f ≡ r → gate_then x r ≡ GatesRead.Read gs → x ∷ gates_in k s f ≡ gs
         rest GatesRead.Wrong p h = absurd (unfold gate_then in (let z : ◌≡◌ {A = ℕ} 0 1 = cc in omega arith))
@@ -103,14 +97,14 @@ all_held s h held own new e f = f ∙ ap (λ (l : List ℕ). held_after h.inputs
 pub ruleset filling = (rules, all_put, all_held)
 
 -- ---- the file
-reads_of : (s : List ℕ) (h : Head) → format_ok (lines_of s) ≡ true → head_at s ≡ head.Read h → Reads s h
+reads_of : (s : List ℕ) (h : Head) → format_ok (lines_of s) ≡ true → head_at s ≡ Some h → Reads s h
 reads_of s h ok e = by (text_reads s)
   where
     by : GoodRead s ⊎ NoRead s → Reads s h
     by (inr w) = clash (sym ok ∙ w.not)
     by (inl g) = let same : h ≡ g.found = only (sym e ∙ g.reads.head) in rw same g.reads
       where
-        only : head.Read h ≡ head.Read g.found → h ≡ g.found
+        only : Some h ≡ Some g.found → h ≡ g.found
         only q = cc
 
 module _ (s : List ℕ) (h : Head) (n t p gates room : ℕ) (k : Filing s h n t p gates room) where
@@ -193,31 +187,19 @@ module _ (s : List ℕ) (h : Head) (n t p gates room : ℕ) (k : Filing s h n t 
 
 pub ruleset filing = (rules, few-outputs, outs_few, file-putting, last-wire, low_version, file-fits, parties-few, few-parties, file-written)
 
--- a part of a room
-module _ (s : List ℕ) (h : Head) (n t p gates : ℕ) (room : List ℕ) (k : Filing s h n t p gates h.wires) (r : length room ≡ 1024) where
-  pub part-fits : h.wires ≤ length room
-  part-fits = omega (arith, room-few s h n t p gates h.wires k)
-
-  pub part-filing : Filing s h n t p gates (length (take (h.wires - 0) room))
-  part-filing =
-      let z : h.wires - 0 ≡ h.wires = omega arith in
-      rw (z, length-take-le h.wires room part-fits) k
-
-pub ruleset placing = (rules, part-fits, part-filing)
-
 -- a text that was checked has lines before its gates
-module _ (s : List ℕ) (n t p gates : ℕ) (k : Importable s n t p gates) (r : HeadRead) (i : HeadIs (head_at s) r) where
-  pub import-none : (out : List ℕ) → r ≡ head.Wrong → out ≡ file_of_plan n t p (circuit_bodies p (circuit_of s))
+module _ (s : List ℕ) (n t p gates : ℕ) (k : Importable s n t p gates) (r : Option Head) (i : HeadIs (head_at s) r) where
+  pub import-none : (out : List ℕ) → r ≡ None → out ≡ file_of_plan n t p (circuit_bodies p (circuit_of s))
   import-none out q = by (text_reads s)
     where
       by : GoodRead s ⊎ NoRead s → out ≡ file_of_plan n t p (circuit_bodies p (circuit_of s))
       by (inr w) = clash (sym k.format ∙ w.not)
       by (inl g) = absurd (none (sym (sym i.eq ∙ q) ∙ g.reads.head))
         where
-          none : head.Wrong ≡ head.Read g.found → ⊥
+          none : None ≡ Some g.found → ⊥
           none e = let z : ◌≡◌ {A = ℕ} 0 1 = cc in omega arith
 
-  module _ (h : Head) (q : r ≡ head.Read h) where
+  module _ (h : Head) (q : r ≡ Some h) where
     pub import-filing : Filing s h n t p gates h.wires
     unfolding SmallHead
     import-filing =
@@ -233,4 +215,7 @@ module _ (s : List ℕ) (n t p gates : ℕ) (k : Importable s n t p gates) (r : 
             made_long n t p (circuit_bodies p (circuit_of s))
             ∙ (unfold circuit_bodies in ap₂ (file_size (version_for p) n) (sym k.count) (outs_long n p (circuit_of s) k.rules))
 
-pub ruleset importing = (rules, import-none, import-filing, import-whole)
+    pub import-wires : h.wires ≤ 1024
+    import-wires = room-few s h n t p gates h.wires import-filing
+
+pub ruleset importing = (rules, import-none, import-filing, import-wires, import-whole)

@@ -1,13 +1,12 @@
 -- The second pass over a circuit's text, as the code reads it: the numbers and the gates that stand from a place on, up to a line that breaks
 -- the format (after the first pass there is none).
-use Rattle.std.specs.Prelude.{ℕ, zero, suc, ◌+◌, ◌<◌, ◌≤◌, ◌≡◌, true, List, [], ◌∷◌, ◌++◌, length}
+use Rattle.std.specs.Prelude.{Some, ℕ, zero, suc, ◌<◌, ◌≤◌, ◌≡◌, true, List, [], ◌∷◌, ◌++◌, length}
 use Rattle.numbers.specs.Tables.{tab}
 use Rattle.plan.specs.declared.Gate.{Gate}
 use Rattle.import_lines.specs.Lines.{lines_of}
 use Rattle.import_lines.specs.Places.{line_start, number_at, with_number, sum_of}
 use Rattle.import_text.specs.declared.LogicGate.{LogicGate}
 use Rattle.import_text.specs.declared.Head.{Head}
-use Rattle.import_text.specs.declared.HeadRead.TheVariants as head
 use Rattle.import_text.specs.Circuits.{format_ok, circuit_of}
 use Rattle.import_text.specs.Scanning.{gate_at, with_gate, head_at}
 use Rattle.import_circuit.specs.Wires.{output_wires, circuit_ok}
@@ -48,7 +47,7 @@ pub record Importable (s : List ℕ) (n t p gates : ℕ) : Type 0 where
   pub small : p < 2147483648
 
 pub record Filing (s : List ℕ) (h : Head) (n t p gates room : ℕ) : Type 0 where
-  pub is : head_at s ≡ head.Read h
+  pub is : head_at s ≡ Some h
   pub text : Importable s n t p gates
   pub gates_small : h.gates < 65536
   pub values_small : h.values < 65536

@@ -1,5 +1,5 @@
-// The second pass over a circuit's text (document 02, R-1): the plan's file is written.
-#![tactic(auto)]
+// The second pass over a circuit's text: the plan's file is written.
+#![tactic(auto, using(crate::proofs::Bytes::putting))]
 
 ghost use Rattle.std.specs.Prelude.{◌≡◌, ◌+◌, ◌*◌, ◌<◌, ◌≤◌, length, get_or, set, replicate};
 ghost use mathlib.Core.List.{[], ◌∷◌, ◌++◌, flat_map};
@@ -11,19 +11,15 @@ ghost use Rattle.import_circuit.specs.Wires.{output_wires};
 ghost use Rattle.import_circuit.specs.Making.{input_gates, xor_gates, made_by, gates_from, held_after, outs_of, circuit_bodies};
 ghost use Rattle.import_write.specs.Second.{numbers_in, gates_in, all_gates, Putting, Filing, Importable};
 
-use import_text::{GateRead, Head, HeadRead, LogicGate};
+use import_text::{Head, LogicGate};
 use plan::{Gate, Output};
-use text_decimals::Numeral;
 
 // ---- the plan's wire that holds each wire
 
 fn held_at(held: &[usize], w: usize) -> usize
     ensures { result ≡ get_or held.now w 0 }
 {
-    if held.len() <= w {
-        return 0;
-    }
-    held[w]
+    if w < held.len() { held[w] } else { 0 }
 }
 
 fn hold(held: &mut [usize], w: usize, v: usize)
@@ -38,10 +34,8 @@ fn hold(held: &mut [usize], w: usize, v: usize)
 fn hold_own(held: &mut [usize])
     ensures { held.new ≡ tab (λ w. w) (length held.old) }
 {
-    let mut w: usize = 0;
-    while w < held.len() {
-        held[w] = w;
-        w += 1;
+    for (w, wire) in held.iter_mut().enumerate() {
+        *wire = w;
     }
 }
 
@@ -96,6 +90,7 @@ fn put_made(out: &mut [u8], version: usize, g: usize, p: u64, held: &[usize], x:
 // ---- the gates
 
 // The gates of as many gates' lines, from gate `start` on.
+#[tactic(auto, using(crate::proofs::Bytes::gating))]
 fn put_gates(
     s: &[u8],
     at: usize,
@@ -112,9 +107,8 @@ fn put_gates(
 {
     let mut e: usize = at;
     let mut g: usize = start;
-    let mut k: usize = 0;
-    while k < gates {
-        let GateRead::Read(x, next) = import_text::gate_at(s, import_lines::line_start(s, e)) else {
+    for k in 0..gates {
+        let Some((x, next)) = import_text::gate_at(s, import_lines::line_start(s, e)) else {
             return;
         };
         put_made(out, version, g, p, held, x);
@@ -122,61 +116,58 @@ fn put_gates(
         hold(held, import_circuit::set_by(x), g + size - 1);
         g += size;
         e = next;
-        k += 1;
     }
 }
 
 // ---- the input gates
 
 // As many inputs of a party, from gate `start` on.
+#[tactic(auto, using(crate::proofs::Bytes::naming))]
 fn put_party(out: &mut [u8], version: usize, start: usize, party: usize, count: usize)
     requires { record { start : start ≤ 65535 * 65535; count : count < 65536 } }
     ensures { out.new ≡ written out.old (place_in version start) (gates_bytes version (replicate count (Input party))) }
 {
-    let mut i: usize = 0;
-    while i < count {
+    for i in 0..count {
         plan_file::put_gate(out, version, start + i, Gate::Input(party));
-        i += 1;
     }
 }
 
 // The inputs of as many values, the first of which belongs to party 1.
+#[tactic(auto, using(crate::proofs::Bytes::naming))]
 fn put_inputs(s: &[u8], at: usize, values: usize, version: usize, out: &mut [u8])
     requires { values < 65536 }
     ensures { out.new ≡ written out.old (place_in version 0) (gates_bytes version (input_gates 1 (numbers_in values s.now at))) }
 {
     let mut e: usize = at;
     let mut g: usize = 0;
-    let mut k: usize = 0;
-    while k < values {
-        let Numeral::Value(v, next) = import_lines::number(s, e) else {
+    for k in 0..values {
+        let Some((v, next)) = import_lines::number(s, e) else {
             return;
         };
         put_party(out, version, g, k + 1, v as usize);
         g += v as usize;
         e = next;
-        k += 1;
     }
 }
 
 // ---- the outs
 
 // As many outs after the gates, the first of which is of wire w: they go to party 1.
+#[tactic(auto, using(crate::proofs::Bytes::outing))]
 fn put_outs(out: &mut [u8], version: usize, gates: usize, held: &[usize], w: usize, count: usize)
     requires { record { gates : gates ≤ 1024; wire : w < 65536; count : count ≤ 64 } }
     ensures { out.new ≡ written out.old (out_start version gates 0) (flat_map out_bytes (outs_of held.now w count)) }
 {
-    let mut o: usize = 0;
-    while o < count {
+    for o in 0..count {
         let wire = held_at(held, w + o);
         plan_file::put_out(out, version, gates, o, Output { party: 1, wire });
-        o += 1;
     }
 }
 
 // ---- the file
 
 // All gates: the inputs, then the circuit's.
+#[tactic(auto, using(crate::proofs::Whole::filling))]
 fn put_all(s: &[u8], h: Head, version: usize, p: u64, held: &mut [usize], out: &mut [u8])
     requires { Putting s.now h p }
     ensures held { held.new ≡ held_after h.inputs (tab (λ w. w) (length held.old)) (gates_in h.gates s.now h.at) }
@@ -188,6 +179,7 @@ fn put_all(s: &[u8], h: Head, version: usize, p: u64, held: &mut [usize], out: &
 }
 
 // The contents, the gates, the outs and the points, with room for what holds each wire.
+#[tactic(auto, using(crate::proofs::Whole::filing))]
 fn put_file(
     s: &[u8],
     h: Head,
@@ -209,32 +201,16 @@ fn put_file(
     plan_file::put_first_points(out, version, points, n as usize);
 }
 
-// The same in a room for what holds each of more wires.
-fn write_in(
-    s: &[u8],
-    h: Head,
-    n: u32,
-    t: u32,
-    p: u32,
-    gates: usize,
-    room: &mut [usize],
-    out: &mut [u8],
-)
-    requires { record { text : Filing s.now h n t p gates h.wires; room : length room.old ≡ 1024 } }
-    ensures { out.new ≡ written out.old 0 (file_of_plan n t p (circuit_bodies p (circuit_of s.now))) }
-{
-    let wires = h.wires;
-    put_file(s, h, n, t, p, gates, &mut room[0..wires], out);
-}
-
 // Writes the plan of a text that was checked: a plan of so many gates.
+// As it is: n, t and p come one by one from the C interface, and what holds each wire stands in fixed memory, for there is no heap.
+#[tactic(auto, using(crate::proofs::Whole::importing))]
 pub fn write_text(s: &[u8], n: u32, t: u32, p: u32, gates: usize, out: &mut [u8])
     requires { record { text : Importable s.now n t p gates; room : length out.old ≡ file_size (version_for p) n gates (output_wires (circuit_of s.now)) } }
     ensures { out.new ≡ file_of_plan n t p (circuit_bodies p (circuit_of s.now)) }
 {
-    let HeadRead::Read(h) = import_text::head_at(s) else {
+    let Some(h) = import_text::head_at(s) else {
         return;
     };
     let mut room = [0usize; 1024];
-    write_in(s, h, n, t, p, gates, &mut room, out);
+    put_file(s, h, n, t, p, gates, &mut room[..h.wires], out);
 }

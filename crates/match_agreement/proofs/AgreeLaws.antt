@@ -5,6 +5,7 @@
 --     pairing                  all checks
 --     matchable                what a pair that passes is
 -- Assumes nothing.
+use Rattle.std.proofs.Common.{Option, Some, None, Ok, Err}
 use mathlib.Core.Path.{◌≡◌, refl, sym, ap, ap₂, ◌∙◌}
 use mathlib.Core.Bool.{Bool, true, false, not, ◌||◌}
 use mathlib.Core.List.{List, ◌∷◌, ◌++◌, flat_map}
@@ -16,8 +17,6 @@ use borrow.Author.Tests.{not-true, not-false, eq-eqb, ne_eqb, eqb-true}
 use lib.Dec.{eqb}
 use lib.ListN.{length, get_or, take, drop, length-append, take-append-drop}
 use lib.Seq.{take_all, drop-cons, get_or-append_seam}
-use Rattle.numbers.specs.declared.Found.{Found}
-use Rattle.numbers.specs.declared.Found.TheVariants.{At, Nothing}
 use Rattle.numbers.specs.Tables.{first_failing}
 use Rattle.numbers.specs.Bytes.{width, numbers, holds_count, first_over, all_below}
 use Rattle.numbers.proofs.Bytes.{holds-length}
@@ -28,8 +27,7 @@ use Rattle.plan.specs.declared.Gate.{Gate}
 use Rattle.plan.specs.declared.Gate.TheVariants.{Input, Add, Scale, Offset, Multiply, Random, Spend}
 use Rattle.plan.specs.declared.Output.{Output}
 use Rattle.plan.specs.declared.Header.{Header}
-use Rattle.plan.specs.declared.Checked.{Checked}
-use Rattle.plan.specs.declared.Checked.TheVariants.{Passed, Refused}
+use Rattle.plan.specs.Refusals.{Checked}
 use Rattle.plan.specs.declared.Refusal.{Refusal}
 use Rattle.plan.specs.declared.Refusal.TheVariants as refusal
 use Rattle.plan.specs.Refusals.{and_then, first_of, need, unless_found}
@@ -51,31 +49,31 @@ module _ (bs : List ℕ) (h : Header) (set : ℕ) (xs ys : List ℕ) (k : Planne
   unfolding set_ok
   set_is = rw (plan_n k, plan_t k) (sym es)
 
-  pub pair_set : s ≡ false → Refused refusal.Coalition ≡ first_of (input_checks (plan_of bs) set xs ys)
+  pub pair_set : s ≡ false → Err refusal.Coalition ≡ first_of (input_checks (plan_of bs) set xs ys)
   unfolding input_checks first_of and_then need
   pair_set hs = rw (set_is, hs)
 
   module _ (hs : s ≡ true) (count : ℕ) (ec : count ≡ input_count (plan_of bs)) (a : Bool) (ea : a ≡ holds_count count xs) where
-    pub pair-first : a ≡ false → Refused refusal.InputCount ≡ first_of (input_checks (plan_of bs) set xs ys)
+    pub pair-first : a ≡ false → Err refusal.InputCount ≡ first_of (input_checks (plan_of bs) set xs ys)
     unfolding input_checks first_of and_then need
     pair-first ha = rw (set_is, hs, ← ec, ← ea, ha)
 
     module _ (ha : a ≡ true) (b : Bool) (eb : b ≡ holds_count count ys) where
-      pub pair-second : b ≡ false → Refused refusal.InputCount ≡ first_of (input_checks (plan_of bs) set xs ys)
+      pub pair-second : b ≡ false → Err refusal.InputCount ≡ first_of (input_checks (plan_of bs) set xs ys)
       unfolding input_checks first_of and_then need
       pair-second hb = rw (set_is, hs, ← ec, ← ea, ha, ← eb, hb)
 
-      module _ (hb : b ≡ true) (f : Found) (ef : f ≡ first_over h.field.p (numbers xs)) where
-        pub pair-first-over : (i : ℕ) → f ≡ At i → Refused (refusal.InputValue i) ≡ first_of (input_checks (plan_of bs) set xs ys)
+      module _ (hb : b ≡ true) (f : Option ℕ) (ef : f ≡ first_over h.field.p (numbers xs)) where
+        pub pair-first-over : (i : ℕ) → f ≡ Some i → Err (refusal.InputValue i) ≡ first_of (input_checks (plan_of bs) set xs ys)
         unfolding input_checks first_of and_then need unless_found
         pair-first-over i hf = rw (set_is, hs, ← ec, ← ea, ha, ← eb, hb, plan_p k, ← ef, hf)
 
-        module _ (hf : f ≡ Nothing) (e : Found) (ee : e ≡ first_over h.field.p (numbers ys)) where
-          pub pair-second-over : (i : ℕ) → e ≡ At i → Refused (refusal.InputValue i) ≡ first_of (input_checks (plan_of bs) set xs ys)
+        module _ (hf : f ≡ None) (e : Option ℕ) (ee : e ≡ first_over h.field.p (numbers ys)) where
+          pub pair-second-over : (i : ℕ) → e ≡ Some i → Err (refusal.InputValue i) ≡ first_of (input_checks (plan_of bs) set xs ys)
           unfolding input_checks first_of and_then need unless_found
           pair-second-over i he = rw (set_is, hs, ← ec, ← ea, ha, ← eb, hb, plan_p k, ← ef, hf, ← ee, he)
 
-          pub pair-inputs : e ≡ Nothing → Passed ≡ first_of (input_checks (plan_of bs) set xs ys)
+          pub pair-inputs : e ≡ None → Ok tt ≡ first_of (input_checks (plan_of bs) set xs ys)
           unfolding input_checks first_of and_then need unless_found
           pair-inputs he = rw (set_is, hs, ← ec, ← ea, ha, ← eb, hb, plan_p k, ← ef, hf, ← ee, he)
 
@@ -84,20 +82,20 @@ pub ruleset inputting = (rules, not-true, not-false, pair_set, pair-first, pair-
 -- ---- the coins and the buffer
 module _ (bs : List ℕ) (h : Header) (coins : List ℕ) (room : ℕ) (k : Planned bs h) (d : ℕ) (ed : d ≡ coin_count (plan_of bs)) where
   module _ (a : Bool) (ea : a ≡ holds_count d coins) where
-    pub pair-coins : a ≡ false → Refused refusal.CoinCount ≡ first_of (coin_checks (plan_of bs) coins room)
+    pub pair-coins : a ≡ false → Err refusal.CoinCount ≡ first_of (coin_checks (plan_of bs) coins room)
     unfolding coin_checks first_of and_then need
     pair-coins ha = rw (← ed, ← ea, ha)
 
-    module _ (ha : a ≡ true) (f : Found) (ef : f ≡ first_over h.field.p (numbers coins)) where
-      pub pair-coins-over : (i : ℕ) → f ≡ At i → Refused (refusal.CoinValue i) ≡ first_of (coin_checks (plan_of bs) coins room)
+    module _ (ha : a ≡ true) (f : Option ℕ) (ef : f ≡ first_over h.field.p (numbers coins)) where
+      pub pair-coins-over : (i : ℕ) → f ≡ Some i → Err (refusal.CoinValue i) ≡ first_of (coin_checks (plan_of bs) coins room)
       unfolding coin_checks first_of and_then need unless_found
       pair-coins-over i hf = rw (← ed, ← ea, ha, plan_p k, ← ef, hf)
 
-      pub pair-room : f ≡ Nothing → (room ≡ width * d → ⊥) → Refused refusal.BufferLength ≡ first_of (coin_checks (plan_of bs) coins room)
+      pub pair-room : f ≡ None → (room ≡ width * d → ⊥) → Err refusal.BufferLength ≡ first_of (coin_checks (plan_of bs) coins room)
       unfolding coin_checks first_of and_then need unless_found
       pair-room hf hr = rw (← ed, ← ea, ha, plan_p k, ← ef, hf, ne_eqb room (width * d) hr)
 
-      pub pair-buffer : f ≡ Nothing → room ≡ width * d → Passed ≡ first_of (coin_checks (plan_of bs) coins room)
+      pub pair-buffer : f ≡ None → room ≡ width * d → Ok tt ≡ first_of (coin_checks (plan_of bs) coins room)
       unfolding coin_checks first_of and_then need unless_found
       pair-buffer hf hr = rw (← ed, ← ea, ha, plan_p k, ← ef, hf, eq-eqb room (width * d) hr)
 
@@ -111,43 +109,26 @@ not_in : (a b : Bool) → a ≡ false → (not a || b) ≡ true
 not_in a b e = rw e
 
 module _ (set : ℕ) (gate : Gate) (x y : ℕ) where
-  pub agrees-add : (a b : ℕ) → gate ≡ Add a b → true ≡ gate_agrees set gate x y
+  pub agrees_member : (s : ℕ) (m : Bool) → gate ≡ Input s → m ≡ in_set set s → m ≡ true → eqb x y ≡ gate_agrees set gate x y
   unfolding gate_agrees
-  agrees-add a b e = rw e
+  agrees_member s m e em hm = rw e (sym (not_or (in_set set s) (eqb x y) (sym em ∙ hm)))
 
-  pub agrees-scale : (a c : ℕ) → gate ≡ Scale a c → true ≡ gate_agrees set gate x y
+  pub agrees_other : (s : ℕ) (m : Bool) → gate ≡ Input s → m ≡ in_set set s → m ≡ false → true ≡ gate_agrees set gate x y
   unfolding gate_agrees
-  agrees-scale a c e = rw e
+  agrees_other s m e em hm = rw e (sym (not_in (in_set set s) (eqb x y) (sym em ∙ hm)))
 
-  pub agrees_offset : (a c : ℕ) → gate ≡ Offset a c → true ≡ gate_agrees set gate x y
-  unfolding gate_agrees
-  agrees_offset a c e = rw e
+-- a gate that takes no input
+pub agrees_none : (set : ℕ) (gate : Gate) (x y : ℕ) → ((s : ℕ) → gate ≡ Input s → ⊥) → true ≡ gate_agrees set gate x y
+unfolding gate_agrees
+agrees_none set (Input s) x y n = absurd (n s refl)
+agrees_none set (Add a b) x y n = refl
+agrees_none set (Scale a c) x y n = refl
+agrees_none set (Offset a c) x y n = refl
+agrees_none set (Multiply a b) x y n = refl
+agrees_none set Random x y n = refl
+agrees_none set (Spend a b) x y n = refl
 
-  pub agrees_multiply : (a b : ℕ) → gate ≡ Multiply a b → true ≡ gate_agrees set gate x y
-  unfolding gate_agrees
-  agrees_multiply a b e = rw e
-
-  pub agrees_random : gate ≡ Random → true ≡ gate_agrees set gate x y
-  unfolding gate_agrees
-  agrees_random e = rw e
-
-  pub agrees-spend : (a b : ℕ) → gate ≡ Spend a b → true ≡ gate_agrees set gate x y
-  unfolding gate_agrees
-  agrees-spend a b e = rw e
-
-  pub agrees_input : (s : ℕ) (r : Bool) → gate ≡ Input s → r ≡ gate_agrees set (Input s) x y → r ≡ gate_agrees set gate x y
-  agrees_input s r e h = rw e h
-
-module _ (set s x y : ℕ) (m : Bool) (em : m ≡ in_set set s) where
-  pub agrees_member : m ≡ true → eqb x y ≡ gate_agrees set (Input s) x y
-  unfolding gate_agrees
-  agrees_member hm = sym (not_or (in_set set s) (eqb x y) (sym em ∙ hm))
-
-  pub agrees_other : m ≡ false → true ≡ gate_agrees set (Input s) x y
-  unfolding gate_agrees
-  agrees_other hm = sym (not_in (in_set set s) (eqb x y) (sym em ∙ hm))
-
-pub ruleset agreeing = (rules, agrees-add, agrees-scale, agrees_offset, agrees_multiply, agrees_random, agrees-spend, agrees_input, agrees_member, agrees_other)
+pub ruleset agreeing = (rules, not-true, not-false, agrees_member, agrees_other, agrees_none)
 
 -- ---- the search for an input that differs
 -- the inputs that gates below gate g take
@@ -212,7 +193,7 @@ module _ (bs : List ℕ) (set : ℕ) (xs ys : List ℕ) where
       test-is = rw (ap (λ (i : ℕ). get_or (input_owners (plan_of bs)) i 0) w.taken ∙ owner_at (plan_of bs) g s gate_in_lem gate-is)
 
     compare-off-at : (gate : Gate) → g < h.gates → gate_at bs g ≡ gate → gate_agrees set gate (get_or xs next 0) (get_or ys next 0) ≡ false
-        → At next ≡ first_failing (input_agrees (plan_of bs) set xs ys) (input_count (plan_of bs))
+        → Some next ≡ first_failing (input_agrees (plan_of bs) set xs ys) (input_count (plan_of bs))
     unfolding gate_agrees
     compare-off-at (Input s) l e f = found (input_agrees (plan_of bs) set xs ys) (input_count (plan_of bs)) next w.seek (next-in s l e) (sym (test-is s l e) ∙ f)
     compare-off-at (Add a b) l e f = let z : ◌≡◌ {A = ℕ} 0 1 = cc in absurd (omega arith)
@@ -240,7 +221,7 @@ module _ (bs : List ℕ) (set : ℕ) (xs ys : List ℕ) where
       test_at : gate_agrees set gate (get_or xs next 0) (get_or ys next 0) ≡ t
       test_at = ap₂ (gate_agrees set gate) (sym ex) (sym ey) ∙ sym et
 
-      pub compare-off : t ≡ false → At next ≡ first_failing (input_agrees (plan_of bs) set xs ys) (input_count (plan_of bs))
+      pub compare-off : t ≡ false → Some next ≡ first_failing (input_agrees (plan_of bs) set xs ys) (input_count (plan_of bs))
       compare-off f = compare-off-at gate l (sym eg) (test_at ∙ f)
 
       pub compare_on : (n : ℕ) → t ≡ true → n ≡ inputs_taken (plan_of bs) (gate_at bs g) → n ≤ 15 → Comparing bs h.gates set xs ys (next + n) (g + 1)
@@ -251,7 +232,7 @@ module _ (bs : List ℕ) (set : ℕ) (xs ys : List ℕ) where
         seek = rw (en, ← eg) (compare-on-at gate l (sym eg) (test_at ∙ f));
       }
 
-    pub compare-done : h.gates ≤ g → Nothing ≡ first_failing (input_agrees (plan_of bs) set xs ys) (input_count (plan_of bs))
+    pub compare-done : h.gates ≤ g → None ≡ first_failing (input_agrees (plan_of bs) set xs ys) (input_count (plan_of bs))
     unfolding input_count input_owners
     compare-done l =
         let all : take g (plan_of bs).gates ≡ (plan_of bs).gates = take_all g (plan_of bs).gates (rw (plan_gates k) l) in
@@ -281,48 +262,48 @@ module _ (bs : List ℕ) (h : Header) (set : ℕ) (vs ws : List ℕ) (k : Planne
     unfolding out_agrees_at
     out-is = rw (plan_out k o l, ← eo) (sym et)
 
-    pub outs-off : t ≡ false → At o ≡ first_failing (out_agrees_at (plan_of bs) set vs ws) (length (plan_of bs).outs)
+    pub outs-off : t ≡ false → Some o ≡ first_failing (out_agrees_at (plan_of bs) set vs ws) (length (plan_of bs).outs)
     outs-off f = rw (← outs_are) (found (out_agrees_at (plan_of bs) set vs ws) h.outs o s l (out-is ∙ f))
 
     pub outs-on : t ≡ true → Seeking (out_agrees_at (plan_of bs) set vs ws) h.outs (o + 1)
     outs-on f = passed (out_agrees_at (plan_of bs) set vs ws) h.outs o s l (out-is ∙ f)
 
-  pub outs_same : h.outs ≤ o → Nothing ≡ first_failing (out_agrees_at (plan_of bs) set vs ws) (length (plan_of bs).outs)
+  pub outs_same : h.outs ≤ o → None ≡ first_failing (out_agrees_at (plan_of bs) set vs ws) (length (plan_of bs).outs)
   outs_same l = rw (← outs_are) (nothing (out_agrees_at (plan_of bs) set vs ws) h.outs o s l)
 
 pub ruleset finding_outs = (rules, not-true, not-false, begin, outs-off, outs-on, outs_same)
 
 -- of the values that two runs of the plan have
-pub outs_of-values :
-    (plan : Plan) (set : ℕ) (vs ws vs' ws' : List ℕ) (r : Found) → vs ≡ vs' → ws ≡ ws' → r ≡ first_failing (out_agrees_at plan set vs ws) (length plan.outs)
+pub outs_of_values :
+    (plan : Plan) (set : ℕ) (vs ws vs' ws' : List ℕ) (r : Option ℕ) → vs ≡ vs' → ws ≡ ws' → r ≡ first_failing (out_agrees_at plan set vs ws) (length plan.outs)
     → r ≡ first_failing (out_agrees_at plan set vs' ws') (length plan.outs)
-outs_of-values plan set vs ws vs' ws' r ev ew e = rw (← ev, ← ew) e
+outs_of_values plan set vs ws vs' ws' r ev ew e = rw (← ev, ← ew) e
 
 pub values_count : (bs : List ℕ) (h : Header) (xs d : List ℕ) → Planned bs h → take h.gates d ≡ values (plan_of bs) xs → h.gates ≡ length (take h.gates d)
 values_count bs h xs d k e = sym (ap length e ∙ values_length (plan_of bs) xs ∙ plan_gates k)
 
-pub ruleset outs_by-values = (rules, values_count, outs_of-values)
+pub ruleset outs_by_values = (rules, values_count, outs_of_values)
 
 -- ---- refusals 21 and 22
-module _ (plan : Plan) (set : ℕ) (xs ys : List ℕ) (f : Found) (ef : f ≡ first_failing (input_agrees plan set xs ys) (input_count plan)) where
+module _ (plan : Plan) (set : ℕ) (xs ys : List ℕ) (f : Option ℕ) (ef : f ≡ first_failing (input_agrees plan set xs ys) (input_count plan)) where
   inputs_are : inputs_agree plan set xs ys ≡ unless_found refusal.InputsDiffer f
   unfolding inputs_agree input_agrees
   inputs_are = ap (unless_found refusal.InputsDiffer) (sym ef)
 
-  pub agree_inputs : (i : ℕ) → f ≡ At i → Refused (refusal.InputsDiffer i) ≡ first_of (agree_checks plan set xs ys)
+  pub agree_inputs : (i : ℕ) → f ≡ Some i → Err (refusal.InputsDiffer i) ≡ first_of (agree_checks plan set xs ys)
   unfolding agree_checks first_of and_then unless_found
   agree_inputs i hf = rw (inputs_are, hf)
 
-  module _ (hf : f ≡ Nothing) (e : Found) (ee : e ≡ first_failing (out_agrees_at plan set (values plan xs) (values plan ys)) (length plan.outs)) where
+  module _ (hf : f ≡ None) (e : Option ℕ) (ee : e ≡ first_failing (out_agrees_at plan set (values plan xs) (values plan ys)) (length plan.outs)) where
     outs-agree : outs_agree plan set (values plan xs) (values plan ys) ≡ unless_found refusal.OutputsDiffer e
     unfolding outs_agree out_agrees_at out_agrees
     outs-agree = ap (unless_found refusal.OutputsDiffer) (sym ee)
 
-    pub agree-outs : (o : ℕ) → e ≡ At o → Refused (refusal.OutputsDiffer o) ≡ first_of (agree_checks plan set xs ys)
+    pub agree-outs : (o : ℕ) → e ≡ Some o → Err (refusal.OutputsDiffer o) ≡ first_of (agree_checks plan set xs ys)
     unfolding agree_checks first_of and_then unless_found
     agree-outs o he = rw (inputs_are, hf, outs-agree, he)
 
-    pub agree-all : e ≡ Nothing → Passed ≡ first_of (agree_checks plan set xs ys)
+    pub agree-all : e ≡ None → Ok tt ≡ first_of (agree_checks plan set xs ys)
     unfolding agree_checks first_of and_then unless_found
     agree-all he = rw (inputs_are, hf, outs-agree, he)
 
@@ -343,14 +324,14 @@ module _ (plan : Plan) (set : ℕ) (xs ys coins : List ℕ) (room : ℕ) where
       ∙ ap (and_then (first_of (input_checks plan set xs ys))) (first_of-append (coin_checks plan coins room) (agree_checks plan set (numbers xs) (numbers ys)))
 
   module _ (a : Checked) (ea : a ≡ first_of (input_checks plan set xs ys)) where
-    pub refused-inputs : (r : Refusal) → a ≡ Refused r → a ≡ first_of (pair_checks plan set xs ys coins room)
-    refused-inputs r ha = ha ∙ sym (pair_first_of ∙ and_then_refused _ _ r (sym ea ∙ ha))
+    pub refused-inputs : (r : Refusal) → a ≡ Err r → Err r ≡ first_of (pair_checks plan set xs ys coins room)
+    refused-inputs r ha = sym (pair_first_of ∙ and_then_refused _ _ r (sym ea ∙ ha))
 
-    module _ (ha : a ≡ Passed) (b : Checked) (eb : b ≡ first_of (coin_checks plan coins room)) where
-      pub refused-coins : (r : Refusal) → b ≡ Refused r → b ≡ first_of (pair_checks plan set xs ys coins room)
-      refused-coins r hb = hb ∙ sym (pair_first_of ∙ and_then_passed _ _ (sym ea ∙ ha) ∙ and_then_refused _ _ r (sym eb ∙ hb))
+    module _ (ha : a ≡ Ok tt) (b : Checked) (eb : b ≡ first_of (coin_checks plan coins room)) where
+      pub refused-coins : (r : Refusal) → b ≡ Err r → Err r ≡ first_of (pair_checks plan set xs ys coins room)
+      refused-coins r hb = sym (pair_first_of ∙ and_then_passed _ _ (sym ea ∙ ha) ∙ and_then_refused _ _ r (sym eb ∙ hb))
 
-      pub passed_on : (c : Checked) → b ≡ Passed → c ≡ first_of (agree_checks plan set (numbers xs) (numbers ys)) → c ≡ first_of (pair_checks plan set xs ys coins room)
+      pub passed_on : (c : Checked) → b ≡ Ok tt → c ≡ first_of (agree_checks plan set (numbers xs) (numbers ys)) → c ≡ first_of (pair_checks plan set xs ys coins room)
       passed_on c hb ec = ec ∙ sym (pair_first_of ∙ and_then_passed _ _ (sym ea ∙ ha) ∙ and_then_passed _ _ (sym eb ∙ hb))
 
 -- ---- what a pair that passes is
@@ -359,7 +340,7 @@ pub record Listed (plan : Plan) (set : ℕ) (xs ys : List ℕ) : Type 0 where
   pub first_below : all_below plan.p (numbers xs) ≡ true
   pub second_below : all_below plan.p (numbers ys) ≡ true
 
-pub listed : (plan : Plan) (set : ℕ) (xs ys : List ℕ) → first_of (input_checks plan set xs ys) ≡ Passed → Listed plan set xs ys
+pub listed : (plan : Plan) (set : ℕ) (xs ys : List ℕ) → first_of (input_checks plan set xs ys) ≡ Ok tt → Listed plan set xs ys
 unfolding input_checks first_of
 listed plan set xs ys h =
     let a = passed_both _ _ h in
@@ -373,7 +354,7 @@ listed plan set xs ys h =
       second_below = first_over-nothing plan.p (numbers ys) (passed_found refusal.InputValue _ e.0);
     }
 
-module _ (bs : List ℕ) (h : Header) (set : ℕ) (xs ys : List ℕ) (k : Planned bs h) (a : Checked) (ea : a ≡ first_of (input_checks (plan_of bs) set xs ys)) (ha : a ≡ Passed) where
+module _ (bs : List ℕ) (h : Header) (set : ℕ) (xs ys : List ℕ) (k : Planned bs h) (a : Checked) (ea : a ≡ first_of (input_checks (plan_of bs) set xs ys)) (ha : a ≡ Ok tt) where
   pub listed_first : all_below h.field.p (numbers xs) ≡ true
   listed_first = rw (← plan_p k) (listed (plan_of bs) set xs ys (sym ea ∙ ha)).first_below
 
@@ -383,7 +364,7 @@ module _ (bs : List ℕ) (h : Header) (set : ℕ) (xs ys : List ℕ) (k : Planne
 pub ruleset pairing = (rules, refused-inputs, refused-coins, passed_on, listed_first, listed_second)
 
 pub matchable :
-    (bs : List ℕ) (h : Header) (set : ℕ) (xs ys coins : List ℕ) (room : ℕ) (c : Checked) → Planned bs h → c ≡ first_of (pair_checks (plan_of bs) set xs ys coins room) → c ≡ Passed
+    (bs : List ℕ) (h : Header) (set : ℕ) (xs ys coins : List ℕ) (room : ℕ) (c : Checked) → Planned bs h → c ≡ first_of (pair_checks (plan_of bs) set xs ys coins room) → c ≡ Ok tt
     → Matchable bs h set xs ys coins room
 unfolding coin_checks first_of
 matchable bs h set xs ys coins room c k e p =

@@ -2,7 +2,7 @@
 use Rattle.std.specs.Prelude.{ℕ, ◌*◌, not, ◌||◌, List, [], ◌∷◌, ◌++◌, eqb, length, get_or}
 use Rattle.numbers.specs.Tables.{first_failing}
 use Rattle.numbers.specs.Bytes.{width, numbers, bytes_of, holds_count, first_over}
-use Rattle.plan.specs.declared.Checked.{Checked}
+use Rattle.plan.specs.Refusals.{Checked}
 use Rattle.plan.specs.declared.Refusal.TheVariants as refusal
 use Rattle.plan.specs.Refusals.{first_of, need, unless_found}
 use Rattle.plan.specs.Plans.{Plan, input_owners, input_count, coin_count}

@@ -37,7 +37,7 @@ use Rattle.plan.proofs.Valid.{valid, planned-ready}
 use Rattle.run_protocol.specs.Ideal.{inputs_taken}
 use Rattle.run_protocol.specs.Shares.{Before, gate_share, past, start_of}
 use Rattle.run_protocol.proofs.Below.{gate-canon}
-use Rattle.run_dealings.specs.Rows.{rows_of, Prepared, Standing, Holds}
+use Rattle.run_dealings.specs.Rows.{rows_of, Standing, Holds}
 use Rattle.run_tables.proofs.FillLaws.{rows_snoc, taken_within}
 use Rattle.run_tables.proofs.StepLaws.{placing, points-counted}
 use Rattle.match_privacy.specs.Matching.{with_coins, matched_at, match_from, matched_with, matched_coins}
@@ -60,9 +60,7 @@ row_small plan above gate s b =
 -- ---- the loop
 -- the invariant at gate g: its coins stand from place `at` on, its inputs from place `next` on; what is written, and what is left to match from
 -- what stands before the gate, s in the first run and s' in the matched one
-pub record Matching (bs : List ℕ) (h : Header) (set : ℕ) (es ps rows ws xs ys coins out₀ before after out : List ℕ) (at next g : ℕ) : Type 0 where
-  pub equipped : Equipped bs h set es
-  pub prepared : Prepared bs h ps rows ws
+pub record Matching (bs : List ℕ) (h : Header) (set : ℕ) (xs ys coins out₀ before after out : List ℕ) (at next g : ℕ) : Type 0 where
   pub given : Matchable bs h set xs ys coins (length out)
   pub within : g ≤ h.gates
   pub few : next ≤ 15 * g
@@ -80,19 +78,17 @@ pub record Matching (bs : List ℕ) (h : Header) (set : ℕ) (es ps rows ws xs y
       take at (numbers out) ++ match_from (plan_of bs) (members set) (drop g (plan_of bs).gates) s s'
       ≡ matched_coins (plan_of bs) (members set) (numbers xs) (numbers ys) (numbers coins)
 
-module _ (bs : List ℕ) (h : Header) (set : ℕ) (es ps rows ws xs ys coins : List ℕ) where
+module _ (bs : List ℕ) (h : Header) (set : ℕ) (xs ys coins : List ℕ) where
   abbrev plan : Plan
   plan = plan_of bs
 
   pub match_none :
-      (before after out : List ℕ) → Equipped bs h set es → Prepared bs h ps rows ws → Matchable bs h set xs ys coins (length out) → length before ≡ 15360 → length after ≡ 15360
-      → Matching bs h set es ps rows ws xs ys coins out before after out 0 0 0
+      (before after out : List ℕ) → Matchable bs h set xs ys coins (length out) → length before ≡ 15360 → length after ≡ 15360
+      → Matching bs h set xs ys coins out before after out 0 0 0
   unfolding rows_of matched_coins matched_with start_of all_below flat_map
-  match_none before after out eq pr gi fl sl =
+  match_none before after out gi fl sl =
       let z : h.n * 0 ≡ 0 = mul-zero h.n in
       record {
-        equipped = eq;
-        prepared = pr;
         given = gi;
         within = omega arith;
         few = omega arith;
@@ -109,24 +105,12 @@ module _ (bs : List ℕ) (h : Header) (set : ℕ) (es ps rows ws xs ys coins : L
         rest = refl;
       }
 
-  module _ (out₀ before after out : List ℕ) (at next g : ℕ) (m : Matching bs h set es ps rows ws xs ys coins out₀ before after out at next g) where
-    k : Planned bs h
-    k = m.equipped.planned
-
+  module _ (k : Planned bs h) (out₀ before after out : List ℕ) (at next g : ℕ) (m : Matching bs h set xs ys coins out₀ before after out at next g) where
     above : 0 < plan.p
     above = pos (valid bs k.passes).prime
 
     pub match-fits : (t : ℕ) → g < h.gates → t ≤ 15 → Fits w64 (next + t)
     match-fits t l le = record { fits = omega (arith, m.few, k.gates-high) }
-
-    pub match-equipped : Equipped bs h set es
-    match-equipped = m.equipped
-
-    pub match-planned : Planned bs h
-    match-planned = m.equipped.planned
-
-    pub match-prepared : Prepared bs h ps rows ws
-    match-prepared = m.prepared
 
     module _ (l : g < h.gates) where
       inside : g < length plan.gates
@@ -192,11 +176,9 @@ module _ (bs : List ℕ) (h : Header) (set : ℕ) (es ps rows ws xs ys coins : L
           (before' after' out' : List ℕ) (r t : ℕ)
           → Matched plan (members set) h.n (gate_at bs g) g (drop next (numbers xs)) (drop next (numbers ys)) (drop at (numbers coins)) at before after out before' after' out' r
           → length before' ≡ length before → length after' ≡ length after → length out' ≡ length out → t ≡ inputs_taken plan (gate_at bs g) → t ≤ 15
-          → Matching bs h set es ps rows ws xs ys coins out₀ before' after' out' r (next + t) (g + 1)
+          → Matching bs h set xs ys coins out₀ before' after' out' r (next + t) (g + 1)
       unfolding new first_next second-next past with_coins
       match-next before' after' out' r t w lb la lo et le = record {
-        equipped = m.equipped;
-        prepared = m.prepared;
         given = rw lo m.given;
         within = omega arith;
         few = omega (arith, m.few);
@@ -237,7 +219,7 @@ module _ (bs : List ℕ) (h : Header) (set : ℕ) (es ps rows ws xs ys coins : L
     pub match-same : length out ≡ length out₀
     match-same = m.out_long
 
-pub ruleset matching_runs = (rules, match_none, match-fits, match-equipped, match-planned, match-prepared, match-turn, match-done, match-same)
+pub ruleset matching_runs = (rules, match_none, match-fits, match-turn, match-next, match-done, match-same)
 
 -- ---- delta's coefficients
 pub members_count : (points : List ℕ) (set k : ℕ) (room : List ℕ) → take k room ≡ member_points points set → k ≡ length (members set) → k ≡ length (take k room)
@@ -288,7 +270,7 @@ pub points_small : (bs : List ℕ) (h : Header) (set k : ℕ) (points room : Lis
     → all_below h.field.p (take k room) ≡ true
 points_small bs h set k points room p is e = rw e (members-below bs h p set points is)
 
-pub ruleset finding-delta = (rules, planned-ready, points-counted, members_count, delta_count, members-room, points_small, delta-tail)
+pub ruleset finding_delta = (rules, planned-ready, points-counted, members_count, delta_count, members-room, points_small, delta-tail)
 
 -- ---- the whole
 pub equip : (bs : List ℕ) (h : Header) (set : ℕ) (xs ys coins : List ℕ) (room : ℕ) (es : List ℕ) → Planned bs h → Matchable bs h set xs ys coins room → es ≡ delta_tail (plan_of bs) set → Equipped bs h set es

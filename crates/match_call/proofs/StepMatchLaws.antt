@@ -352,4 +352,4 @@ step-matched plan ms n gate g xs ys cs at before after out before' after' out' r
   coins = new.coins;
 }
 
-pub ruleset matching_step = (rules, step-matched)
+pub ruleset matching_step = (rules, turn-both, step-matched)

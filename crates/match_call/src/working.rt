@@ -1,214 +1,148 @@
 // The coins of the matched run. Both runs' tables of shares are worked side by side, gate by gate.
 ghost use Rattle.std.specs.Prelude.{◌≡◌, true, ◌+◌, ◌-◌, ◌*◌, ◌<◌, ◌≤◌, length, take, drop};
-ghost use Rattle.numbers.specs.Bytes.{numbers, bytes_of, all_below};
+ghost use Rattle.numbers.specs.Bytes.{numbers, bytes_of};
 ghost use Rattle.plan.specs.File.{plan_of, gate_at};
-ghost use Rattle.plan.specs.Planned.{Planned};
 ghost use Rattle.plan_coalition.specs.Coalitions.{members, set_ok};
-ghost use Rattle.run_dealings.specs.Rows.{Prepared, Stepped};
+ghost use Rattle.run_dealings.specs.Rows.{Stepped};
 ghost use Rattle.match_privacy.specs.Matching.{matched_coins};
 ghost use Rattle.match_agreement.specs.MatchParts.{Matchable};
 ghost use Rattle.match_call.specs.MatchSteps.{delta_tail, Equipped, Turn, NewCoins, Both, Matched};
 
-use plan::Header;
+use match_agreement::InputPair;
+use match_moves::Mover;
+use plan::PlanFile;
+use run_tables::RunPlan;
 
-// ---- the coins of one gate
-
-// The new coins of gate g, which takes its inputs from place `next` of both lists on; the place after them.
-fn match_coins(
-    plan: &[u8],
-    h: Header,
+// What a matching is worked from: the plan with what its dealings need, the set, both lists, the first run's coins, and delta's coefficients.
+#[derive(Clone, Copy)]
+struct Matcher<'a> {
+    run: RunPlan<'a>,
     set: u16,
-    delta: &[u64],
-    g: usize,
-    first: &[u8],
-    second: &[u8],
-    next: usize,
-    before: &[u64],
-    after: &[u64],
-    coins: &[u8],
-    at: usize,
-    out: &mut [u8],
-) -> usize
-    requires equipped { Equipped plan.now h set delta.now }
-    requires turn { Turn plan.now h g first.now second.now before.now after.now at coins.now out.old }
-    ensures { NewCoins (plan_of plan.now) (members set) h.n (gate_at plan.now g) g (drop next (numbers first.now)) (drop next (numbers second.now)) (drop at (numbers coins.now)) at before.now after.now out.old out.new result }
-{
-    let gate = plan::known_gate(plan, h, g);
-    match_moves::match_gate(
-        h, set, g, gate, first, second, next, delta, before, after, coins, at, out,
+    first: &'a [u8],
+    second: &'a [u8],
+    coins: &'a [u8],
+    delta: &'a [u64],
+    ghost equipped: { Equipped run.plan.now.bytes.now run.plan.now.header set delta.now },
+}
+
+impl Matcher<'_> {
+    // The new coins of gate g, which takes its inputs from place `next` of both lists on; the place after them.
+    #[tactic(auto, using(crate::proofs::StepMatchLaws::matching_coins))]
+    fn move_coins(
+        &self,
+        g: usize,
+        next: usize,
+        before: &[u64],
+        after: &[u64],
+        at: usize,
+        out: &mut [u8],
+    ) -> usize
+        requires { Turn self.now.run.plan.now.bytes.now self.now.run.plan.now.header g self.now.first.now self.now.second.now before.now after.now at self.now.coins.now out.old }
+        ensures { NewCoins (plan_of self.now.run.plan.now.bytes.now) (members self.now.set) self.now.run.plan.now.header.n (gate_at self.now.run.plan.now.bytes.now g) g (drop next (numbers self.now.first.now)) (drop next (numbers self.now.second.now)) (drop at (numbers self.now.coins.now)) at before.now after.now out.old out.new result }
+    {
+        let mover = Mover {
+            header: self.run.plan.header,
+            set: self.set,
+            delta: self.delta,
+            first: self.first,
+            second: self.second,
+            coins: self.coins,
+        };
+        mover.gate(g, self.run.plan.gate(g), next, before, after, at, out)
+    }
+
+    // Gate g's row in both tables: the first run's with the coins, the second run's with the new ones. No piece is seen, so none is dealt.
+    #[tactic(auto, using(crate::proofs::StepMatchLaws::matching_step))]
+    fn step_both(
+        &self,
+        g: usize,
+        next: usize,
+        new: &[u8],
+        at: usize,
+        before: &mut [u64],
+        after: &mut [u64],
     )
-}
+        requires { Both self.now.run.plan.now.bytes.now self.now.run.plan.now.header g self.now.first.now self.now.second.now before.old after.old at self.now.coins.now new.now }
+        ensures stepped { Stepped (plan_of self.now.run.plan.now.bytes.now) self.now.run.plan.now.header.n (gate_at self.now.run.plan.now.bytes.now g) g (drop next (numbers self.now.first.now)) (drop at (numbers self.now.coins.now)) before.old before.new }
+        ensures stepped_2 { Stepped (plan_of self.now.run.plan.now.bytes.now) self.now.run.plan.now.header.n (gate_at self.now.run.plan.now.bytes.now g) g (drop next (numbers self.now.second.now)) (drop at (numbers new.now)) after.old after.new }
+    {
+        self.run
+            .step(false, g, self.first, next, self.coins, at, before);
+        self.run.step(false, g, self.second, next, new, at, after);
+    }
 
-// ---- both runs
+    // Gate g of both runs: its new coins, and its row in both tables. Answers the place after the coins.
+    #[tactic(auto, using(crate::proofs::StepMatchLaws::matching_step))]
+    fn step(
+        &self,
+        g: usize,
+        next: usize,
+        at: usize,
+        before: &mut [u64],
+        after: &mut [u64],
+        out: &mut [u8],
+    ) -> usize
+        requires { Turn self.now.run.plan.now.bytes.now self.now.run.plan.now.header g self.now.first.now self.now.second.now before.old after.old at self.now.coins.now out.old }
+        ensures { Matched (plan_of self.now.run.plan.now.bytes.now) (members self.now.set) self.now.run.plan.now.header.n (gate_at self.now.run.plan.now.bytes.now g) g (drop next (numbers self.now.first.now)) (drop next (numbers self.now.second.now)) (drop at (numbers self.now.coins.now)) at before.old after.old out.old before.new after.new out.new result }
+    {
+        let end = self.move_coins(g, next, before, after, at, out);
+        self.step_both(g, next, out, at, before, after);
+        end
+    }
 
-// Gate g's row in both tables: the first run's with the coins, the second run's with the new ones. No piece is seen, so none is dealt.
-fn step_both(
-    plan: &[u8],
-    h: Header,
-    points: &[u64],
-    rows: &[u64],
-    weights: &[u64],
-    g: usize,
-    first: &[u8],
-    second: &[u8],
-    next: usize,
-    coins: &[u8],
-    new: &[u8],
-    at: usize,
-    before: &mut [u64],
-    after: &mut [u64],
-)
-    requires both { Both plan.now h g first.now second.now before.old after.old at coins.now new.now }
-    requires prepared { Prepared plan.now h points.now rows.now weights.now }
-    ensures stepped { Stepped (plan_of plan.now) h.n (gate_at plan.now g) g (drop next (numbers first.now)) (drop at (numbers coins.now)) before.old before.new }
-    ensures stepped_2 { Stepped (plan_of plan.now) h.n (gate_at plan.now g) g (drop next (numbers second.now)) (drop at (numbers new.now)) after.old after.new }
-{
-    run_tables::step(
-        false, plan, h, points, rows, weights, g, first, next, coins, at, before,
-    );
-    run_tables::step(
-        false, plan, h, points, rows, weights, g, second, next, new, at, after,
-    );
-}
-
-// Gate g of both runs: its new coins, and its row in both tables. Answers the place after the coins.
-fn match_step(
-    plan: &[u8],
-    h: Header,
-    set: u16,
-    delta: &[u64],
-    points: &[u64],
-    rows: &[u64],
-    weights: &[u64],
-    g: usize,
-    first: &[u8],
-    second: &[u8],
-    next: usize,
-    coins: &[u8],
-    at: usize,
-    before: &mut [u64],
-    after: &mut [u64],
-    out: &mut [u8],
-) -> usize
-    requires equipped { Equipped plan.now h set delta.now }
-    requires prepared { Prepared plan.now h points.now rows.now weights.now }
-    requires turn { Turn plan.now h g first.now second.now before.old after.old at coins.now out.old }
-    ensures { Matched (plan_of plan.now) (members set) h.n (gate_at plan.now g) g (drop next (numbers first.now)) (drop next (numbers second.now)) (drop at (numbers coins.now)) at before.old after.old out.old before.new after.new out.new result }
-{
-    let end = match_coins(
-        plan, h, set, delta, g, first, second, next, before, after, coins, at, out,
-    );
-    step_both(
-        plan, h, points, rows, weights, g, first, second, next, coins, out, at, before, after,
-    );
-    end
-}
-
-// The coins of the matched run, by the tables of both runs, which are worked gate by gate.
-fn match_runs(
-    plan: &[u8],
-    h: Header,
-    set: u16,
-    delta: &[u64],
-    points: &[u64],
-    rows: &[u64],
-    weights: &[u64],
-    first: &[u8],
-    second: &[u8],
-    coins: &[u8],
-    before: &mut [u64],
-    after: &mut [u64],
-    out: &mut [u8],
-)
-    requires equipped { Equipped plan.now h set delta.now }
-    requires prepared { Prepared plan.now h points.now rows.now weights.now }
-    requires cases { Matchable plan.now h set first.now second.now coins.now (length out.old) }
-    requires before_len { (length before.old ≡ 15360) × (length after.old ≡ 15360) }
-    ensures { numbers out.new ≡ matched_coins (plan_of plan.now) (members set) (numbers first.now) (numbers second.now) (numbers coins.now) }
-{
-    let mut at: usize = 0;
-    let mut next: usize = 0;
-    let mut g: usize = 0;
-    while g < h.gates {
-        at = match_step(
-            plan, h, set, delta, points, rows, weights, g, first, second, next, coins, at, before,
-            after, out,
-        );
-        next += run_ideal::inputs_taken(plan, h, g);
-        g += 1;
+    // The coins of the matched run, by the tables of both runs, which are worked gate by gate.
+    #[tactic(auto, using(crate::proofs::RunsLaws::matching_runs))]
+    fn work(&self, before: &mut [u64], after: &mut [u64], out: &mut [u8])
+        requires cases { Matchable self.now.run.plan.now.bytes.now self.now.run.plan.now.header self.now.set self.now.first.now self.now.second.now self.now.coins.now (length out.old) }
+        requires before_len { (length before.old ≡ 15360) × (length after.old ≡ 15360) }
+        ensures { numbers out.new ≡ matched_coins (plan_of self.now.run.plan.now.bytes.now) (members self.now.set) (numbers self.now.first.now) (numbers self.now.second.now) (numbers self.now.coins.now) }
+    {
+        let mut at = 0;
+        let mut next = 0;
+        for g in 0..self.run.plan.header.gates {
+            at = self.step(g, next, at, before, after, out);
+            next += run_ideal::inputs_taken(self.run.plan, g);
+        }
     }
 }
 
-// The same from delta's coefficients, with the tables of both runs.
-fn match_with(
-    plan: &[u8],
-    h: Header,
-    set: u16,
-    delta: &[u64],
-    first: &[u8],
-    second: &[u8],
-    coins: &[u8],
-    out: &mut [u8],
-)
-    requires equipped { Equipped plan.now h set delta.now }
-    requires cases { Matchable plan.now h set first.now second.now coins.now (length out.old) }
-    ensures { numbers out.new ≡ matched_coins (plan_of plan.now) (members set) (numbers first.now) (numbers second.now) (numbers coins.now) }
-{
-    let mut rows = [0u64; 240];
-    let mut weights = [0u64; 15];
-    let mut before = [0u64; 15360];
-    let mut after = [0u64; 15360];
-    let n = h.n;
-    let points = seat_messages::points_of(plan, h);
-    run_dealings::prepare(h.field, h.t, &points[..n], &mut rows, &mut weights);
-    match_runs(
-        plan,
-        h,
-        set,
-        delta,
-        &points[..n],
-        &rows,
-        &weights,
-        first,
-        second,
-        coins,
-        &mut before,
-        &mut after,
-        out,
-    );
-}
-
 // Delta's coefficients: from entry 1 on those of X to X^t.
-fn delta(plan: &[u8], h: Header, set: u16) -> [u64; 15]
-    requires planned { Planned plan.now h }
-    requires set_value { set_ok (plan_of plan.now) set ≡ true }
-    ensures { take (h.t + 1 - 1) (drop 1 result) ≡ delta_tail (plan_of plan.now) set }
+#[tactic(auto, using(crate::proofs::RunsLaws::finding_delta))]
+fn delta(plan: &PlanFile, set: u16) -> [u64; 15]
+    requires { set_ok (plan_of plan.now.bytes.now) set ≡ true }
+    ensures { take (plan.now.header.t + 1 - 1) (drop 1 result) ≡ delta_tail (plan_of plan.now.bytes.now) set }
 {
-    let e = h.t + 1;
-    let n = h.n;
-    let points = seat_messages::points_of(plan, h);
+    let e = plan.header.t + 1;
+    let n = plan.header.n;
+    let points = seat_messages::points_of(plan);
     let mut room = [0u64; 16];
     let mut delta = [0u64; 15];
     let k = match_moves::members(set, &points[..n], &mut room);
-    sharing_delta::vanishing(h.field, &room[..k], &mut delta[..e]);
+    sharing_delta::vanishing(plan.header.field, &room[..k], &mut delta[..e]);
     delta
 }
 
-// Writes the coins of the matched run, of a set, two lists of inputs and coins that pass the checks.
-pub fn matched(
-    plan: &[u8],
-    h: Header,
-    set: u16,
-    first: &[u8],
-    second: &[u8],
-    coins: &[u8],
-    out: &mut [u8],
-)
-    requires planned { Planned plan.now h }
-    requires cases { Matchable plan.now h set first.now second.now coins.now (length out.old) }
-    ensures { out.new ≡ bytes_of (matched_coins (plan_of plan.now) (members set) (numbers first.now) (numbers second.now) (numbers coins.now)) }
+// Writes the coins of the matched run, of two lists of inputs and coins that pass the checks.
+#[tactic(auto, using(crate::proofs::RunsLaws::working))]
+pub fn matched(lists: &InputPair, coins: &[u8], out: &mut [u8])
+    requires { Matchable lists.now.plan.now.bytes.now lists.now.plan.now.header lists.now.set lists.now.first.now lists.now.second.now coins.now (length out.old) }
+    ensures { out.new ≡ bytes_of (matched_coins (plan_of lists.now.plan.now.bytes.now) (members lists.now.set) (numbers lists.now.first.now) (numbers lists.now.second.now) (numbers coins.now)) }
 {
-    let e = h.t + 1;
-    let delta = delta(plan, h, set);
-    match_with(plan, h, set, &delta[1..e], first, second, coins, out);
+    // The arrays stand first: a call before them would make the machine clear them twice.
+    let mut before = [0u64; 15360];
+    let mut after = [0u64; 15360];
+    let mut rows = [0u64; 240];
+    let mut weights = [0u64; 15];
+    let h = lists.plan.header;
+    let delta = delta(lists.plan, lists.set);
+    let points = seat_messages::points_of(lists.plan);
+    let matcher = Matcher {
+        run: RunPlan::new(lists.plan, &points[..h.n], &mut rows, &mut weights),
+        set: lists.set,
+        first: lists.first,
+        second: lists.second,
+        coins,
+        delta: &delta[1..h.t + 1],
+    };
+    matcher.work(&mut before, &mut after, out);
 }

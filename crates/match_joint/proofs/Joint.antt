@@ -1,4 +1,4 @@
--- A preparing run and the main run that spends its triples, matched together: demand 3 on the two tables (R-11).
+-- A preparing run and the main run that spends its triples, matched together: the two tables.
 --     prepared_triples             the preparing run's table is a list of right triples
 --     joint-back                   the joint matching is undone with the runs exchanged
 --     prepared-start, main-start   the two pairs of runs
@@ -210,10 +210,10 @@ module _ (plan : Plan) (valid : Valid plan) (rule : Rule) where
         ∙ sym f.whole
 
     -- ---- what the members see
-    module _ (parties-only : (i : ℕ) → is_member i ms ≡ true → i ≤ party_count plan) where
-      parties-only_q : (i : ℕ) → is_member i ms ≡ true → i ≤ party_count (preparing plan rule)
+    module _ (parties_only : (i : ℕ) → is_member i ms ≡ true → i ≤ party_count plan) where
+      parties_only_q : (i : ℕ) → is_member i ms ≡ true → i ≤ party_count (preparing plan rule)
       unfolding party_count
-      parties-only_q = parties-only
+      parties_only_q = parties_only
 
       other : Other plan ms
       other = lowest_other plan valid ms few
@@ -237,7 +237,7 @@ module _ (plan : Plan) (valid : Valid plan) (rule : Rule) where
             (d q : List ℕ) → Inputs (preparing plan rule) d → Coins (preparing plan rule) q
             → Start (preparing plan rule) ms d (moved xs ys d) q [] [] [] []
         prepared-start d q fd fq =
-            alone_start Q valid_q ms few parties-only_q d (moved xs ys d) q (no-kind-7 plan rule) fd.small (draws_full xs ys d fd).small fq
+            alone_start Q valid_q ms few parties_only_q d (moved xs ys d) q (no-kind-7 plan rule) fd.small (draws_full xs ys d fd).small fq
             (map-members ms (λ i. own_inputs Q i d) (λ i. own_inputs Q i (moved xs ys d)) (λ i m. sym (own-draws xs ys d i m)))
 
         lowest-suc : lowest plan ms ≡ suc (lowest plan ms - 1)
@@ -264,7 +264,7 @@ module _ (plan : Plan) (valid : Valid plan) (rule : Rule) where
           agree = members-map ms (λ i. own_inputs plan i xs) (λ i. own_inputs plan i ys) inputs;
           triples = prepared_triples d q fd.small;
           triples' = prepared_triples (moved xs ys d) (coins_new xs ys d q) (draws_full xs ys d fd).small;
-          moved = differ Q valid_q ms few parties-only_q d (moved xs ys d) q [] [] [] [] (prepared-start d q fd fq);
+          moved = differ Q valid_q ms few parties_only_q d (moved xs ys d) q [] [] [] [] (prepared-start d q fd fq);
           spent = spent_all d;
         }
 
@@ -283,8 +283,8 @@ module _ (plan : Plan) (valid : Valid plan) (rule : Rule) where
           unfolding matched_coins
           views d q m fd fq fm =
               ap₂ ◌++◌
-              (views_same Q valid_q ms few parties-only_q d (moved xs ys d) q [] [] [] [] (prepared-start d q fd fq) (no-grants d (moved xs ys d)))
-              (views_same plan valid ms few parties-only xs ys m (share_table Q d q []) (share_table Q (moved xs ys d) (coins_new xs ys d q) []) (values Q d) (values Q (moved xs ys d))
+              (views_same Q valid_q ms few parties_only_q d (moved xs ys d) q [] [] [] [] (prepared-start d q fd fq) (no-grants d (moved xs ys d)))
+              (views_same plan valid ms few parties_only xs ys m (share_table Q d q []) (share_table Q (moved xs ys d) (coins_new xs ys d q) []) (values Q d) (values Q (moved xs ys d))
               (main-start d q m fd fq fm) grants)
 
           -- the parts of the matched list
@@ -336,7 +336,7 @@ module _ (plan : Plan) (valid : Valid plan) (rule : Rule) where
           jointly = record {
             full = joint-full xs ys;
             keeps = λ c f. held_same c (parts c f);
-            one_to-one = λ c e fc fe same. sym (joint-back xs ys c fc) ∙ ap (matched_joint Q plan ms ys xs) same ∙ joint-back xs ys e fe;
+            one_to_one = λ c e fc fe same. sym (joint-back xs ys c fc) ∙ ap (matched_joint Q plan ms ys xs) same ∙ joint-back xs ys e fe;
             onto = λ e f. (matched_joint Q plan ms ys xs e, joint-full ys xs e f, joint-back ys xs e f);
             same_view = λ c f. seen_same c (parts c f);
           }
@@ -346,5 +346,5 @@ pub private :
     (plan : Plan) → Valid plan → (prep : Plan) → prepares prep plan ≡ true → (ms : List ℕ) → length ms ≤ plan.t
     → ((i : ℕ) → is_member i ms ≡ true → i ≤ party_count plan) → (xs ys : List ℕ) → Inputs plan xs → Inputs plan ys
     → map (λ i. own_inputs plan i xs) ms ≡ map (λ i. own_inputs plan i ys) ms → map (granted plan xs) ms ≡ map (granted plan ys) ms → TablesPrivate prep plan ms xs ys
-private plan valid prep e ms few parties-only xs ys fx fy inputs grants =
-    subst (λ (q : Plan). TablesPrivate q plan ms xs ys) (sym (is-preparing prep plan e)) (jointly plan valid prep.rule ms few parties-only xs ys fx fy inputs grants)
+private plan valid prep e ms few parties_only xs ys fx fy inputs grants =
+    subst (λ (q : Plan). TablesPrivate q plan ms xs ys) (sym (is-preparing prep plan e)) (jointly plan valid prep.rule ms few parties_only xs ys fx fy inputs grants)

@@ -1,10 +1,9 @@
--- The matching of a preparing run and the main run that spends its triples, together (document 02, R-11): the lowest non-member's draws
+-- The matching of a preparing run and the main run that spends its triples, together: the lowest non-member's draws
 -- take up the changes of the wires that are multiplied, and both runs are then matched by the ordinary rule.
 use Rattle.std.specs.Prelude.{ℕ, suc, ◌+◌, cond, eqb, take, drop, get_or}
 use mathlib.Core.List.{List, [], ◌∷◌, ◌++◌, map, flat_map}
 use Rattle.numbers.specs.Tables.{tab}
 use Rattle.field.specs.Mod.{add, sub}
-use Rattle.sharing_laws.specs.Sharing.{matched}
 use Rattle.match_privacy.specs.Matching.{lowest, matched_with, matched_coins}
 use Rattle.plan.specs.declared.Gate.{Gate}
 use Rattle.plan.specs.Plans.{Plan, party_count, is_kind, operands_of, input_count, coin_count, own_inputs, own_coins}

@@ -2,9 +2,9 @@
 --     moving_products      a multiply gate's
 --     moving_gate          a gate's, by its kind
 -- Assumes nothing.
-use mathlib.Core.Path.{◌≡◌, sym, ap, ◌∙◌}
+use mathlib.Core.Path.{◌≡◌, refl, sym, ap, ◌∙◌}
 use mathlib.Core.Bool.{true}
-use mathlib.Core.List.{List, [], ◌∷◌, append-nil}
+use mathlib.Core.List.{List, [], append-nil}
 use Prim.Native.Nat.{ℕ, suc, ◌+◌, ◌*◌, ◌<◌, ◌≤◌}
 use native.Mathlib.Nat.{add-zero, mul-zero, mul-one}
 use native.Mathlib.Omega.{arith}
@@ -27,10 +27,11 @@ use Rattle.plan.specs.declared.Gate.TheVariants.{Input, Add, Scale, Offset, Mult
 use Rattle.plan.specs.declared.Header.{Header}
 use Rattle.plan.specs.Plans.{kind_of, is_kind, multiplying}
 use Rattle.plan.specs.File.{gate_ok, majority_ok}
+use Rattle.plan_coalition.specs.Coalitions.{in_set}
 use Rattle.run_dealings.specs.Rows.{products_of, Rowed, Standing}
 use Rattle.sharing.proofs.Coding.{entry_below}
 use Rattle.run_dealings.proofs.RowLaws.{standing-row}
-use Rattle.match_moves.specs.Moves.{moved_blocks, dealers_in, dealt_in, Lent, Advanced}
+use Rattle.match_moves.specs.Moves.{moved, change_of, moved_blocks, dealers_in, dealt_in, Lent, Written, Advanced}
 
 -- ---- a multiply gate
 pub products_below : (p n m a b : ℕ) (table row : List ℕ) → Ready p → take m row ≡ products_of p n m a b table → all_below p (take m row) ≡ true
@@ -82,14 +83,14 @@ module _ (h : Header) (gate : Gate) (es : List ℕ) (coalition next at : ℕ) (x
       (moved_blocks h.field.p h.t coalition es (dealers_in h gate) (dealt_in h gate before (drop next xs)) (dealt_in h gate after (drop next ys)) cs) old new r
 
   pub moved-input :
-      (s x y r : ℕ) → length es ≡ h.t → gate ≡ Input s → x ≡ get_or xs next 0 → y ≡ get_or ys next 0
-      → Advanced at (length es) (moved_blocks h.field.p (length es) coalition es (s ∷ []) (x ∷ []) (y ∷ []) cs) old new r
-      → Moved r
-  unfolding dealers_in dealt_in
-  moved-input s x y r long e ex ey w =
+      (s x y : ℕ) → length es ≡ h.t → gate ≡ Input s → x ≡ get_or xs next 0 → y ≡ get_or ys next 0
+      → Written at (length es) (moved h.field.p (change_of h.field.p (in_set coalition s) x y) es (take (length es) cs)) old new
+      → Moved (at + length es)
+  unfolding dealers_in dealt_in moved_blocks
+  moved-input s x y long e ex ey w =
       let fx : get_or (drop next xs) 0 0 ≡ x = get_or-drop next xs 0 0 ∙ ap (λ (i : ℕ). get_or xs i 0) (add-zero next) ∙ sym ex in
       let fy : get_or (drop next ys) 0 0 ≡ y = get_or-drop next ys 0 0 ∙ ap (λ (i : ℕ). get_or ys i 0) (add-zero next) ∙ sym ey in
-      rw (e, mul-one, fx, fy) (rw long at w)
+      rw (e, mul-one, fx, fy, append-nil, ← long) (record { front = w.front; place = refl })
 
   pub moved-multiply :
       (a b r : ℕ) → length es ≡ h.t → gate ≡ Multiply a b
@@ -100,32 +101,23 @@ module _ (h : Header) (gate : Gate) (es : List ℕ) (coalition next at : ℕ) (x
   unfolding dealers_in dealt_in
   moved-multiply a b r long e w = rw (e, length-tab suc (h.t + h.t + 1)) (rw long at w)
 
-  -- no such gate
-  pub moved-random : kind_of gate ≤ 5 → gate ≡ Random → Moved at
-  unfolding kind_of
-  moved-random low e = let q : 6 ≤ 5 = rw e at low in absurd (omega arith)
+-- nothing is dealt at the other gates of a plan file
+none_dealt :
+    (h : Header) (gate : Gate) → ((s : ℕ) → gate ≡ Input s → ⊥) → ((a b : ℕ) → gate ≡ Multiply a b → ⊥) → kind_of gate ≤ 5 → dealers_in h gate ≡ []
+unfolding dealers_in kind_of
+none_dealt h (Input s) i m low = absurd (i s refl)
+none_dealt h (Add a b) i m low = refl
+none_dealt h (Scale a c) i m low = refl
+none_dealt h (Offset a c) i m low = refl
+none_dealt h (Multiply a b) i m low = absurd (m a b refl)
+none_dealt h Random i m low = absurd (omega arith)
+none_dealt h (Spend a b) i m low = refl
 
--- nothing is dealt
 module _ (h : Header) (gate : Gate) (es : List ℕ) (coalition next at : ℕ) (xs ys before after cs old : List ℕ) where
-  pub moved_none : dealers_in h gate ≡ [] → Moved h gate es coalition next at xs ys before after cs old old at
+  pub moved_none :
+      ((s : ℕ) → gate ≡ Input s → ⊥) → ((a b : ℕ) → gate ≡ Multiply a b → ⊥) → kind_of gate ≤ 5
+      → Moved h gate es coalition next at xs ys before after cs old old at
   unfolding moved_blocks
-  moved_none e = rw e (record { front = rw (mul-zero, add-zero, append-nil); place = omega (arith, mul-zero h.t) })
+  moved_none i m low = rw (none_dealt h gate i m low) (record { front = rw (mul-zero, add-zero, append-nil); place = omega (arith, mul-zero h.t) })
 
-module _ (h : Header) (gate : Gate) where
-  pub none-add : (a b : ℕ) → gate ≡ Add a b → dealers_in h gate ≡ []
-  unfolding dealers_in
-  none-add a b e = rw e
-
-  pub none-scale : (a c : ℕ) → gate ≡ Scale a c → dealers_in h gate ≡ []
-  unfolding dealers_in
-  none-scale a c e = rw e
-
-  pub none-offset : (a c : ℕ) → gate ≡ Offset a c → dealers_in h gate ≡ []
-  unfolding dealers_in
-  none-offset a c e = rw e
-
-  pub none-spend : (a b : ℕ) → gate ≡ Spend a b → dealers_in h gate ≡ []
-  unfolding dealers_in
-  none-spend a b e = rw e
-
-pub ruleset moving_gate = (rules, multiply_majority, left-stands, right-stands, input-lent, multiply-lent, input_small, moved-input, moved-multiply, moved-random, moved_none, none-add, none-scale, none-offset, none-spend)
+pub ruleset moving_gate = (rules, multiply_majority, left-stands, right-stands, input-lent, multiply-lent, input_small, moved-input, moved-multiply, moved_none)

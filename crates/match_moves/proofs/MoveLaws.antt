@@ -1,9 +1,10 @@
 -- What each way through the code that moves coins says of its definition.
 --     Gathered, gathering        the points of a set's members
 --     Moving, moving             the coins of one dealing
+--     shift_of                   by the change of what its dealer deals
 --     Blocking, moving_blocks    the coins of several dealings
 -- Assumes nothing.
-use mathlib.Core.Path.{◌≡◌, refl, sym, ap, ap₂, ◌∙◌}
+use mathlib.Core.Path.{◌≡◌, refl, sym, ap, ◌∙◌}
 use mathlib.Core.Bool.{Bool, true, false, cond}
 use mathlib.Core.List.{List, [], ◌∷◌, ◌++◌, map, tail, append_assoc, append-nil}
 use Prim.Native.Nat.{ℕ, suc, ◌+◌, ◌-◌, ◌*◌, ◌/◌, ◌%◌, ◌^◌, ◌<◌, ◌≤◌}
@@ -12,11 +13,11 @@ use native.Mathlib.Nat.{add-zero, mul-zero, mul-suc, mul-le-mul_left, mod-lt}
 use native.Mathlib.Omega.{arith}
 use borrow.Author.Rules.{rules}
 use lib.ListN.{length, get_or, take, drop, set, length-set, length-drop, length-map, drop_of_length-le, get_or-eq_default}
-use lib.Seq.{take-nil, take-suc-set, take-set-le, length-take-le, get_or-take, get_or-drop, drop-cons, drop-drop}
+use lib.Seq.{take-suc-set, take-set-le, length-take-le, get_or-drop, drop-cons, drop-drop}
 use mir.Syntax.{w64}
 use mir.Val.{Fits}
 use Rattle.numbers.specs.Tables.{tab}
-use Rattle.numbers.specs.Bytes.{width, limit, numbers, stored, all_below}
+use Rattle.numbers.specs.Bytes.{width, limit, numbers, stored}
 use Rattle.numbers.proofs.Tables.{tab-zero, tab-next, tab-ext, length-tab, get_or-tab}
 use Rattle.numbers.proofs.Bytes.{numbers-length, numbers-stored, length-stored}
 use Rattle.field.specs.Mod.{add, mul, sub}
@@ -168,39 +169,16 @@ product_fits p d e r ld le = omega (arith, r.small, word d e (omega (arith, r.sm
 
 pub ruleset moving = (rules, entry_below, move-none, move-place, move-next, move-done, coin_fits, product_fits)
 
--- ---- the coins of an input's dealing
-pub input-moved :
-    (p : ℕ) (es cs : List ℕ) (coalition party x y at d : ℕ) (m : Bool) (old new : List ℕ) → m ≡ in_set coalition party → Is p (change_of p m x y) d
+-- ---- by the change of what a dealer deals
+pub shift_of :
+    (p : ℕ) (es cs : List ℕ) (at c d : ℕ) (old new : List ℕ) → Is p c d
     → Written at (length es) (moved p d es (take (length es) (drop at cs))) old new
-    → Advanced at (length es) (moved_blocks p (length es) coalition es (party ∷ []) (x ∷ []) (y ∷ []) (drop at cs)) old new (at + length es)
-unfolding moved_blocks
-input-moved p es cs coalition party x y at d m old new em ed w =
-    record { front = rw (append-nil, ← em, ← ed.eq) w.front; place = refl }
+    → Written at (length es) (moved p c es (take (length es) (drop at cs))) old new
+shift_of p es cs at c d old new ed w = rw (← ed.eq) w
 
-pub input_place : (p at k : ℕ) (coins out : List ℕ) → Lent p at k coins out → length coins * 1 < 2 ^ 63 → Fits w64 (at + k)
-input_place p at k coins out l f = record { fits = omega (arith, l.here) }
-
-pub ruleset moving_input = (rules, input-moved, input_place)
+pub ruleset moving_dealing = (rules, shift_of)
 
 -- ---- the coins of several dealings
-blocks-take :
-    (p t coalition : ℕ) (es ds ss zs cs : List ℕ) → moved_blocks p t coalition es ds ss zs cs ≡ moved_blocks p t coalition es ds (take (length ds) ss) (take (length ds) zs) cs
-unfolding moved_blocks
-blocks-take p t coalition es [] ss zs cs = refl
-blocks-take p t coalition es (d ∷ ds) ss zs cs =
-    ap₂ (λ (x y : ℕ). moved p (change_of p (in_set coalition d) x y) es (take t cs) ++ moved_blocks p t coalition es ds (drop 1 ss) (drop 1 zs) (drop t cs)) (first ss) (first zs)
-    ∙ ap (λ (l : List ℕ). moved p (change_of p (in_set coalition d) (get_or (take (suc (length ds)) ss) 0 0) (get_or (take (suc (length ds)) zs) 0 0)) es (take t cs) ++ l)
-    (blocks-take p t coalition es ds (drop 1 ss) (drop 1 zs) (drop t cs)
-    ∙ ap₂ (λ (l r : List ℕ). moved_blocks p t coalition es ds l r (drop t cs)) (later ss) (later zs))
-  where
-    first : (l : List ℕ) → get_or l 0 0 ≡ get_or (take (suc (length ds)) l) 0 0
-    first [] = refl
-    first (x ∷ l) = refl
-
-    later : (l : List ℕ) → take (length ds) (drop 1 l) ≡ drop 1 (take (suc (length ds)) l)
-    later [] = take-nil (length ds)
-    later (x ∷ l) = refl
-
 -- the invariant at party i, counted from 0: what is written, and what is left to write from its place on
 pub record Blocking (p coalition : ℕ) (es ss zs cs : List ℕ) (at m : ℕ) (old new : List ℕ) (place i : ℕ) : Type 0 where
   pub within : i ≤ m
@@ -234,46 +212,39 @@ module _ (p coalition : ℕ) (es ss zs coins : List ℕ) (at m : ℕ) (old : Lis
     front-next new' block k tail = rw (k.front, append_assoc)
 
     pub block-next :
-        (b : Bool) (d : ℕ) (new' : List ℕ) → i < m → b ≡ in_set coalition (i + 1) → Is p (change_of p b (get_or ss i 0) (get_or zs i 0)) d
-        → Written place (length es) (moved p d es (take (length es) (drop place (numbers coins)))) new new' → length new' ≡ length new
+        (new' : List ℕ) → i < m
+        → Written place (length es) (moved p (change_of p (in_set coalition (i + 1)) (get_or ss i 0) (get_or zs i 0)) es (take (length es) (drop place (numbers coins)))) new new'
+        → length new' ≡ length new
         → Blocking p coalition es ss zs (numbers coins) at m old new' (place + length es) (i + 1)
     unfolding moved_blocks
-    block-next b d new' l eb ed k same =
+    block-next new' l k same =
+        let d : ℕ = change_of p (in_set coalition (i + 1)) (get_or ss i 0) (get_or zs i 0) in
         let at_i : drop i (tab suc m) ≡ suc i ∷ drop (suc i) (tab suc m) =
         drop-cons (tab suc m) i 0 (rw length-tab l) ∙ rw (get_or-tab suc m i 0 l) in
         let s-i : get_or (drop i ss) 0 0 ≡ get_or ss i 0 = get_or-drop i ss 0 0 ∙ rw add-zero in
         let z-i : get_or (drop i zs) 0 0 ≡ get_or zs i 0 = get_or-drop i zs 0 0 ∙ rw add-zero in
         let is : d ≡ change_of p (in_set coalition (suc i)) (get_or (drop i ss) 0 0) (get_or (drop i zs) 0 0) =
-        rw (s-i, z-i) (rw (eb, add-one) at ed.eq) in
+        rw (s-i, z-i) (ap (λ (k : ℕ). change_of p (in_set coalition k) (get_or ss i 0) (get_or zs i 0)) (omega arith)) in
         record {
           within = omega arith;
           long = same ∙ w.long;
           stands = omega (arith, w.stands, mul-suc (length es) i);
           rest =
               front-next new' (moved p d es (take (length es) (drop place (numbers coins)))) k _
-              ∙ rw (← drop-drop 1 i ss, ← drop-drop 1 i zs, ← drop-drop (length es) place (numbers coins), add-one, is)
+              ∙ rw (← drop-drop 1 i ss, ← drop-drop 1 i zs, ← drop-drop (length es) place (numbers coins), is, add-one)
               (rw at_i at w.rest);
         }
 
     pub block-done :
-        m ≤ i → Advanced at (length es * m) (moved_blocks p (length es) coalition es (tab suc m) (take m ss) (take m zs) (drop at (numbers coins))) old new place
+        m ≤ i → Advanced at (length es * m) (moved_blocks p (length es) coalition es (tab suc m) ss zs (drop at (numbers coins))) old new place
     unfolding moved_blocks
     block-done l =
         let e : i ≡ m = omega (arith, w.within) in
         let there : place ≡ at + length es * m = w.stands ∙ ap (λ (k : ℕ). at + length es * k) e in
         let none : drop i (tab suc m) ≡ [] = drop_of_length-le (tab suc m) {i = i} (rw length-tab l) in
-        let cut : moved_blocks p (length es) coalition es (tab suc m) ss zs (drop at (numbers coins))
-        ≡ moved_blocks p (length es) coalition es (tab suc m) (take m ss) (take m zs) (drop at (numbers coins)) =
-        blocks-take p (length es) coalition es (tab suc m) ss zs (drop at (numbers coins))
-        ∙ ap (λ (k : ℕ). moved_blocks p (length es) coalition es (tab suc m) (take k ss) (take k zs) (drop at (numbers coins))) (length-tab suc m) in
         record {
-          front =
-              ap (λ (k : ℕ). take k (numbers new)) (sym there) ∙ sym (append-nil (take place (numbers new)))
-              ∙ (rw none at w.rest) ∙ ap (λ (b : List ℕ). take at (numbers old) ++ b) cut;
+          front = ap (λ (k : ℕ). take k (numbers new)) (sym there) ∙ sym (append-nil (take place (numbers new))) ∙ (rw none at w.rest);
           place = there;
         }
 
-pub dealt_below : (p m : ℕ) (ss : List ℕ) (i : ℕ) → Ready p → all_below p (take m ss) ≡ true → i < m → get_or ss i 0 < p
-dealt_below p m ss i r b l = rw (← get_or-take m ss i 0 l) (entry_below p (take m ss) i r b)
-
-pub ruleset moving_blocks = (rules, dealt_below, block_none, block-lent, block-fits, block-next, block-done)
+pub ruleset moving_blocks = (rules, entry_below, block_none, block-lent, block-fits, block-next, block-done)

@@ -3,7 +3,7 @@
 --     length-match, match-canon           as many coins, all elements
 --     match_back                          the matching with the runs exchanged undoes it
 --     own-match                           a member's coins stay
---     full, back, one_to-one, onto, keeps     with the plan's counts, for matched_with
+--     full, back, one_to_one, onto, keeps     with the plan's counts, for matched_with
 -- Assumes nothing.
 use mathlib.Core.Path.{◌≡◌, refl, sym, ap, ap₂, ◌∙◌}
 use mathlib.Core.Bool.{true}
@@ -210,9 +210,9 @@ module _ (plan : Plan) (valid : Valid plan) (ms : List ℕ) (few : length ms ≤
     pub keeps : (c : List ℕ) → Coins plan c → map (λ i. own_coins plan i (matched_with plan ms ts ts' xs ys c)) ms ≡ map (λ i. own_coins plan i c) ms
     keeps c f = map-members ms (λ i. own_coins plan i (matched_with plan ms ts ts' xs ys c)) (λ i. own_coins plan i c) (λ i m. own-kept i m c f)
 
-    pub one_to-one :
+    pub one_to_one :
         (c d : List ℕ) → Coins plan c → Coins plan d → matched_with plan ms ts ts' xs ys c ≡ matched_with plan ms ts ts' xs ys d → c ≡ d
-    one_to-one c d fc fd same = sym (back c fc) ∙ ap (matched_with plan ms ts' ts ys xs) same ∙ back d fd
+    one_to_one c d fc fd same = sym (back c fc) ∙ ap (matched_with plan ms ts' ts ys xs) same ∙ back d fd
 
   pub onto :
       (ts ts' : List (ℕ → ℕ)) (xs ys d : List ℕ) → Coins plan d → (c : List ℕ) × Coins plan c × (matched_with plan ms ts ts' xs ys c ≡ d)

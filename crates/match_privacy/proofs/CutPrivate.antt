@@ -16,7 +16,7 @@ use Rattle.sharing_laws.specs.Interp.{All, dot, delta}
 use Rattle.sharing_laws.specs.Sharing.{opened}
 use Rattle.sharing_laws.specs.Basis.{row}
 use Rattle.seat_messages.specs.Messages.{from_each}
-use Rattle.match_privacy.specs.Matching.{is_member, lowest, change_of, with_coins, matched_at}
+use Rattle.match_privacy.specs.Matching.{is_member, lowest, with_coins, matched_at}
 use Rattle.sharing_laws.proofs.Lists.{in-tab}
 use Rattle.sharing_laws.proofs.Openings.{Shared}
 use Rattle.sharing_laws.proofs.Steps.{sum_over, sent_at, masked_by, piece_by, reduced_at, reduced_by, new_zeros, new_masks, Differ}
@@ -89,7 +89,7 @@ pub record CutSame (plan : Plan) (ms : List ℕ) (a b : ℕ) (s s' : Before) (c 
       → truncated_at plan (Multiply a b) (with_coins c s') (point_of plan i) y ≡ truncated_at plan (Multiply a b) s (point_of plan i) y
 
 module _ (plan : Plan) (by : plan.rule ≡ Truncation) (a b : ℕ) (valid : Valid plan) (ms : List ℕ) (few : length ms ≤ plan.t)
-    (parties-only : (i : ℕ) → is_member i ms ≡ true → i ≤ party_count plan) (majority : plan.t + plan.t < party_count plan) (s s' : Before)
+    (parties_only : (i : ℕ) → is_member i ms ≡ true → i ≤ party_count plan) (majority : plan.t + plan.t < party_count plan) (s s' : Before)
     (enough : 3 * plan.t * party_count plan ≤ length s.coins) (can : All (Canon plan.p) s.coins) (u v u' v' : ℕ)
     (sa : Shared plan.p plan.t (wire_at s.env a) u) (sb : Shared plan.p plan.t (wire_at s.env b) v)
     (sa' : Shared plan.p plan.t (wire_at s'.env a) u') (sb' : Shared plan.p plan.t (wire_at s'.env b) v')
@@ -197,7 +197,7 @@ module _ (plan : Plan) (by : plan.rule ≡ Truncation) (a b : ℕ) (valid : Vali
           block_member plan ms (suc j) _ _ (ks (suc j)) m
           ∙ sym (kept-mask valid.prime t plan.points (parties plan) (point_of plan) (parties_points plan) valid.distinct wider pts few_points l
           among A B A' B' u v u' v' sa sb sa' sb' da db zs ks (suc j)
-          (spare-member plan valid ms parties-only (suc j) m)
+          (spare-member plan valid ms parties_only (suc j) m)
           (subst (λ (x : List ℕ). length pts ≤ length x) (sym (as-k s.coins j)) (omega (arith, few_points, k-length t n s.coins enough j lt)))
           (subst (All (Canon p)) (sym (as-k s.coins j)) (k_canon p t s.coins j can)))
       pick false m = block_other plan ms (suc j) _ _ (ks (suc j)) m ∙ (unfold new_masks in refl)
@@ -207,7 +207,7 @@ module _ (plan : Plan) (by : plan.rule ≡ Truncation) (a b : ℕ) (valid : Vali
   unfolding zero_pieces
   members_zeros i m =
       tab-ext (λ j. eval p (0 ∷ take (t + t) (drop (3 * t * j) c)) (point_of plan i)) (λ j. eval p (0 ∷ take (t + t) (drop (3 * t * j) s.coins)) (point_of plan i)) n
-      (λ j lt. ap (λ (f : List ℕ). eval p (0 ∷ f) (point_of plan i)) (sym (as-z c j) ∙ zeros_are j lt) ∙ private.zeros (suc j) (point_of plan i) (spare-member plan valid ms parties-only i m)
+      (λ j lt. ap (λ (f : List ℕ). eval p (0 ∷ f) (point_of plan i)) (sym (as-z c j) ∙ zeros_are j lt) ∙ private.zeros (suc j) (point_of plan i) (spare-member plan valid ms parties_only i m)
       ∙ ap (λ (f : List ℕ). eval p (0 ∷ f) (point_of plan i)) (as-z s.coins j))
     where
       as-z : (x : List ℕ) (j : ℕ) → zeros_of t x (suc j) ≡ take (t + t) (drop (3 * t * j) x)
@@ -225,11 +225,11 @@ module _ (plan : Plan) (by : plan.rule ≡ Truncation) (a b : ℕ) (valid : Vali
     masks =
         λ i m. masks-as plan (with_coins c s') a b by (point_of plan i)
         ∙ map_pieces plan A' B' (zeros_of t c) zs' (masks_of t c) ks' zeros_are masks_are (point_of plan i)
-        ∙ ap (λ (h : ℕ → ℕ). map h (parties plan)) (fun_ext (λ k. private.pieces k (point_of plan i) (spare-member plan valid ms parties-only i m)))
+        ∙ ap (λ (h : ℕ → ℕ). map h (parties plan)) (fun_ext (λ k. private.pieces k (point_of plan i) (spare-member plan valid ms parties_only i m)))
         ∙ sym (masks-as plan s a b by (point_of plan i));
     sent =
         λ i m y. truncated-as plan (with_coins c s') a b by (point_of plan i) y
         ∙ sent_ext plan A' B' (zeros_of t c) zs' (masks_of t c) ks' zeros_are masks_are (point_of plan i) y
-        ∙ private.sent (point_of plan i) y (spare-member plan valid ms parties-only i m)
+        ∙ private.sent (point_of plan i) y (spare-member plan valid ms parties_only i m)
         ∙ sym (truncated-as plan s a b by (point_of plan i) y);
   }

@@ -82,7 +82,7 @@ firsts-tab D (suc n) ss =
     ap (λ (l : List ℕ). get_or ss 0 0 ∷ l)
     (firsts-tab (λ i. D (suc i)) n (drop 1 ss) ∙ tab-ext (λ j. get_or (drop 1 ss) j 0) (λ j. get_or ss (suc j) 0) n (λ j l. next_at ss j))
 
-module _ (plan : Plan) (valid : Valid plan) (ms : List ℕ) (parties-only : (i : ℕ) → is_member i ms ≡ true → i ≤ party_count plan) where
+module _ (plan : Plan) (valid : Valid plan) (ms : List ℕ) (parties_only : (i : ℕ) → is_member i ms ≡ true → i ≤ party_count plan) where
   abbrev p : ℕ
   p = plan.p
 
@@ -93,7 +93,7 @@ module _ (plan : Plan) (valid : Valid plan) (ms : List ℕ) (parties-only : (i :
   -- it is 0 at a member's point
   pub spare-member : (i : ℕ) → is_member i ms ≡ true → spare (point_of plan i) ≡ 0
   spare-member i m =
-      delta-at valid.prime (map (point_of plan) ms) (point_of plan i) (party_point plan valid i (parties-only i m)) (member_point (point_of plan) ms i m)
+      delta-at valid.prime (map (point_of plan) ms) (point_of plan i) (party_point plan valid i (parties_only i m)) (member_point (point_of plan) ms i m)
 
   -- one dealing
   pub deal-differ :

@@ -2,6 +2,7 @@
 --     all-members      if all of 1 to n are members, there are n members or more
 --     other_exists     the lowest party that is not a member
 -- Assumes nothing.
+use Rattle.std.proofs.Common.{Option, Some, None}
 use mathlib.Core.Path.{◌≡◌, refl, sym, ap, ◌∙◌}
 use mathlib.Core.Logic.{◌≢◌}
 use mathlib.Core.Bool.{Bool, true, false, cond}
@@ -11,14 +12,12 @@ use native.Mathlib.Omega.{arith}
 use borrow.Author.Tests.{eqb-true}
 use lib.Dec.{eqb}
 use lib.ListN.{length}
-use Rattle.numbers.specs.declared.Found.{Found}
 use Rattle.numbers.specs.Tables.{first_failing}
-use Rattle.numbers.specs.declared.Found.TheVariants.{At, Nothing}
 use Rattle.numbers.proofs.Searches.{First, nothing_passes, first_failing_lem}
 use Rattle.match_privacy.specs.Matching.{is_member}
 
 -- of the parties 1 to n the first that is not among ms, counted from 0
-unfoldable pub lowest_other : List ℕ → ℕ → Found
+unfoldable pub lowest_other : List ℕ → ℕ → Option ℕ
 lowest_other ms n = first_failing (λ i. is_member (suc i) ms) n
 
 -- ms without the first i
@@ -59,10 +58,10 @@ all-members (suc n) ms all =
     )
 
 -- it is party suc l, no member, and all below it are
-pub other_exists : (ms : List ℕ) (n : ℕ) → length ms < n → (l : ℕ) × (lowest_other ms n ≡ At l) × First (λ i. is_member (suc i) ms) n l
+pub other_exists : (ms : List ℕ) (n : ℕ) → length ms < n → (l : ℕ) × (lowest_other ms n ≡ Some l) × First (λ i. is_member (suc i) ms) n l
 unfolding lowest_other
 other_exists ms n few = pick (lowest_other ms n) refl
   where
-    pick : (o : Found) → lowest_other ms n ≡ o → (l : ℕ) × (lowest_other ms n ≡ At l) × First (λ i. is_member (suc i) ms) n l
-    pick (At l) e = (l, e, first_failing_lem (λ i. is_member (suc i) ms) n l e)
-    pick Nothing e = absurd (omega (arith, all-members n ms (nothing_passes (λ i. is_member (suc i) ms) n e)))
+    pick : (o : Option ℕ) → lowest_other ms n ≡ o → (l : ℕ) × (lowest_other ms n ≡ Some l) × First (λ i. is_member (suc i) ms) n l
+    pick (Some l) e = (l, e, first_failing_lem (λ i. is_member (suc i) ms) n l e)
+    pick None e = absurd (omega (arith, all-members n ms (nothing_passes (λ i. is_member (suc i) ms) n e)))

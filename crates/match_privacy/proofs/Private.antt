@@ -3,13 +3,13 @@
 --     seen_as                    what is seen on the table is seen in the run
 --     private, private_read      the matching is a bijection of settings of coins under which the coalition sees the same run
 -- Assumes nothing.
+use Rattle.std.proofs.Common.{Ok}
 use mathlib.Core.Path.{◌≡◌, sym, ◌∙◌}
 use mathlib.Core.Bool.{true}
 use mathlib.Core.List.{List, [], map, flat_map}
 use Prim.Native.Nat.{ℕ, ◌≤◌}
 use lib.ListN.{length}
 use Rattle.plan.specs.Plans.{Plan, party_count, kind_count, own_inputs}
-use Rattle.plan.specs.declared.Checked.TheVariants.{Passed}
 use Rattle.plan.specs.File.{plan_check, plan_of}
 use Rattle.plan.proofs.Valid.{Valid, valid, plain, plain_no_7}
 use Rattle.plan_coalition.specs.Coalitions.{members, set_ok}
@@ -56,7 +56,7 @@ pub seen_as :
 seen_as {f = f} run run' b e e' = record {
   full = b.full;
   keeps = b.keeps;
-  one_to-one = b.one_to-one;
+  one_to_one = b.one_to_one;
   onto = b.onto;
   same_view = λ c h. e c h ∙ b.same_view c h ∙ sym (e' (f c) (b.full c h));
 }
@@ -78,7 +78,7 @@ private plan valid none ms xs ys a =
 
 -- for a plan that is read from a file, and the members that a set names
 pub private_read :
-    (bytes : List ℕ) (set : ℕ) (xs ys : List ℕ) → plan_check bytes ≡ Passed → set_ok (plan_of bytes) set ≡ true → Inputs (plan_of bytes) xs → Inputs (plan_of bytes) ys
+    (bytes : List ℕ) (set : ℕ) (xs ys : List ℕ) → plan_check bytes ≡ Ok tt → set_ok (plan_of bytes) set ≡ true → Inputs (plan_of bytes) xs → Inputs (plan_of bytes) ys
     → map (λ i. own_inputs (plan_of bytes) i xs) (members set) ≡ map (λ i. own_inputs (plan_of bytes) i ys) (members set)
     → map (granted (plan_of bytes) xs) (members set) ≡ map (granted (plan_of bytes) ys) (members set) → Private (plan_of bytes) (members set) xs ys
 private_read bytes set xs ys h ok first second agree grants =

@@ -109,7 +109,7 @@ length_snoc : {A : Type 0} (xs : List A) (a : A) → length (xs ++ (a ∷ [])) �
 length_snoc xs a = omega (arith, length-append xs (a ∷ []))
 
 module _ (plan : Plan) (valid : Valid plan) (ms : List ℕ) (few : length ms ≤ plan.t)
-    (parties-only : (i : ℕ) → is_member i ms ≡ true → i ≤ party_count plan) where
+    (parties_only : (i : ℕ) → is_member i ms ≡ true → i ≤ party_count plan) where
   abbrev p : ℕ
   p = plan.p
 
@@ -127,18 +127,18 @@ module _ (plan : Plan) (valid : Valid plan) (ms : List ℕ) (few : length ms ≤
       (h h' : ℕ → ℕ) (v v' : ℕ) → Shared p t h v → Differ p (map (point_of plan) ms) h h' v v' → (i : ℕ) → is_member i ms ≡ true → h' (point_of plan i) ≡ h (point_of plan i)
   member_same h h' v v' s d i m =
       let x : ℕ = point_of plan i in
-      d x ∙ ap (λ n. add p (h x) (mul p (sub p v' v) n)) (spare-member plan valid ms parties-only i m)
+      d x ∙ ap (λ n. add p (h x) (mul p (sub p v' v) n)) (spare-member plan valid ms parties_only i m)
       ∙ solve p (search (quote, shared_canon h v x s, # (h x), # (sub p v' v))) (omega arith)
 
   -- and where the value stays, every share is
   pub value_same : (h h' : ℕ → ℕ) (v v' : ℕ) → Shared p t h v → Differ p (map (point_of plan) ms) h h' v v' → v' ≡ v → (x : ℕ) → h' x ≡ h x
   value_same h h' v v' s d e x =
       let pos : 0 < p = pos valid.prime in
-      d x ∙ ap (λ n. add p (h x) (mul p (sub p n v) (spare plan valid ms parties-only x))) e
-      ∙ solve p (search (quote, shared_canon h v x s, # (h x), # v, # (spare plan valid ms parties-only x))) (omega arith)
+      d x ∙ ap (λ n. add p (h x) (mul p (sub p n v) (spare plan valid ms parties_only x))) e
+      ∙ solve p (search (quote, shared_canon h v x s, # (h x), # v, # (spare plan valid ms parties_only x))) (omega arith)
 
   pub none_differ : Differ p (map (point_of plan) ms) (λ x. 0) (λ x. 0) 0 0
-  none_differ x = let pos : 0 < p = pos valid.prime in solve p (search (quote, # (spare plan valid ms parties-only x))) (omega arith)
+  none_differ x = let pos : 0 < p = pos valid.prime in solve p (search (quote, # (spare plan valid ms parties_only x))) (omega arith)
 
   -- ---- linear gates
   add_differ :
@@ -215,17 +215,17 @@ module _ (plan : Plan) (valid : Valid plan) (ms : List ℕ) (few : length ms ≤
     unfolding gate_share pieces_at dealings_at dealt_at first_dealings
     random-differ x =
         ap (sum_all p) (random-pieces x)
-        ∙ sum-differ plan valid ms parties-only (D n) (take n s.inputs) (take n s'.inputs) s.coins rest x (ample-D n) random-enough random-agree
-        ∙ ap₂ (λ (u v : ℕ). add p (gate_share plan Random s x) (mul p (sub p u v) (spare plan valid ms parties-only x))) (whole s'.inputs) (whole s.inputs)
+        ∙ sum-differ plan valid ms parties_only (D n) (take n s.inputs) (take n s'.inputs) s.coins rest x (ample-D n) random-enough random-agree
+        ∙ ap₂ (λ (u v : ℕ). add p (gate_share plan Random s x) (mul p (sub p u v) (spare plan valid ms parties_only x))) (whole s'.inputs) (whole s.inputs)
       where
         whole : (xs : List ℕ) → sum_all p (firsts (D n) (take n xs)) ≡ sum_all p (take n xs)
         whole xs =
             ap (sum_all p) (firsts-tab (λ i. record { dealer = suc i; coins = t }) n (take n xs)) ∙ sym (sum-padded p (take n xs) n (omega (arith, length-take n xs)))
 
-    random-same : (x : ℕ) → spare plan valid ms parties-only x ≡ 0 → pieces_at plan Random (with_coins (matched_at plan ms Random s s' ++ rest) s') x ≡ pieces_at plan Random s x
+    random-same : (x : ℕ) → spare plan valid ms parties_only x ≡ 0 → pieces_at plan Random (with_coins (matched_at plan ms Random s s' ++ rest) s') x ≡ pieces_at plan Random s x
     unfolding pieces_at dealings_at dealt_at first_dealings
     random-same x e =
-        random-pieces x ∙ pieces-same plan valid ms parties-only (D n) (take n s.inputs) (take n s'.inputs) s.coins rest x (ample-D n) random-enough random-agree e
+        random-pieces x ∙ pieces-same plan valid ms parties_only (D n) (take n s.inputs) (take n s'.inputs) s.coins rest x (ample-D n) random-enough random-agree e
 
   -- ---- kind 5 by reduction
   module _ (a b : ℕ) (by : plan.rule ≡ Reduction) (gs : List Gate) (s s' : Before) (vals vals' us us' : List ℕ)
@@ -303,20 +303,20 @@ module _ (plan : Plan) (valid : Valid plan) (ms : List ℕ) (few : length ms ≤
     product-differ x =
         share-by (with_coins (matched_at plan ms (Multiply a b) s s' ++ rest) s')
         ∙ ap (dot p (weights p 0 (dealer_points plan))) (product-pieces x)
-        ∙ dot_differ plan valid ms parties-only (weights p 0 (dealer_points plan)) (D k) ss zs s.coins rest x (ample-D k) product-enough product-agree
-        ∙ ap₂ (λ (u v : ℕ). add p (dot p (weights p 0 (dealer_points plan)) (map (λ f. eval p f x) (sharings (D k) ss s.coins))) (mul p (sub p u v) (spare plan valid ms parties-only x)))
+        ∙ dot_differ plan valid ms parties_only (weights p 0 (dealer_points plan)) (D k) ss zs s.coins rest x (ample-D k) product-enough product-agree
+        ∙ ap₂ (λ (u v : ℕ). add p (dot p (weights p 0 (dealer_points plan)) (map (λ f. eval p f x) (sharings (D k) ss s.coins))) (mul p (sub p u v) (spare plan valid ms parties_only x)))
         (value_of s'.env (get_or vals' a 0) (get_or vals' b 0) (r.second a) (r.second b)) (value_of s.env (get_or vals a 0) (get_or vals b 0) (r.first a) (r.first b))
-        ∙ ap (λ (h : ℕ). add p h (mul p (sub p (mul p (get_or vals' a 0) (get_or vals' b 0)) (mul p (get_or vals a 0) (get_or vals b 0))) (spare plan valid ms parties-only x)))
+        ∙ ap (λ (h : ℕ). add p h (mul p (sub p (mul p (get_or vals' a 0) (get_or vals' b 0)) (mul p (get_or vals a 0) (get_or vals b 0))) (spare plan valid ms parties_only x)))
         (ap (dot p (weights p 0 (dealer_points plan))) (sym (product-first x)) ∙ sym (share-by s))
       where
         share-by : (q : Before) → gate_share plan (Multiply a b) q x ≡ dot p (weights p 0 (dealer_points plan)) (pieces_at plan (Multiply a b) q x)
         share-by q = unfold gate_share multiply_share in ap (λ (r : Rule). multiply_share plan r (Multiply a b) q x) by
 
     product-same :
-        (x : ℕ) → spare plan valid ms parties-only x ≡ 0
+        (x : ℕ) → spare plan valid ms parties_only x ≡ 0
         → pieces_at plan (Multiply a b) (with_coins (matched_at plan ms (Multiply a b) s s' ++ rest) s') x ≡ pieces_at plan (Multiply a b) s x
     product-same x e =
-        product-pieces x ∙ pieces-same plan valid ms parties-only (D k) ss zs s.coins rest x (ample-D k) product-enough product-agree e ∙ sym (product-first x)
+        product-pieces x ∙ pieces-same plan valid ms parties_only (D k) ss zs s.coins rest x (ample-D k) product-enough product-agree e ∙ sym (product-first x)
 
   -- ---- kind 5 by either rule
   module _ (a b : ℕ) (gs : List Gate) (s s' : Before) (vals vals' us us' : List ℕ) (r : Runs (Multiply a b ∷ gs) s s' vals vals' us us') (rest : List ℕ) where
@@ -325,7 +325,7 @@ module _ (plan : Plan) (valid : Valid plan) (ms : List ℕ) (few : length ms ≤
         → CutSame plan ms a b s s' (matched_at plan ms (Multiply a b) s s' ++ rest) (mul p (get_or vals a 0) (get_or vals b 0)) (mul p (get_or vals' a 0) (get_or vals' b 0))
     unfolding is_kind kind_of
     cut_all by =
-        cut_same plan by a b valid ms few parties-only (r.wide.0 refl) s s'
+        cut_same plan by a b valid ms few parties_only (r.wide.0 refl) s s'
         (omega (
           arith,
           here-enough (Multiply a b) gs s s' vals vals' us us' r,
@@ -345,7 +345,7 @@ module _ (plan : Plan) (valid : Valid plan) (ms : List ℕ) (few : length ms ≤
         → multiply_mail plan q a b (with_coins (matched_at plan ms (Multiply a b) s s' ++ rest) s') (point_of plan i) ≡ multiply_mail plan q a b s (point_of plan i)
     unfolding multiply_mail with_coins
     multiply-mail Reduction by i m =
-        ap (λ (l : List ℕ). l ++ []) (product-same a b by gs s s' vals vals' us us' r rest (point_of plan i) (spare-member plan valid ms parties-only i m))
+        ap (λ (l : List ℕ). l ++ []) (product-same a b by gs s s' vals vals' us us' r rest (point_of plan i) (spare-member plan valid ms parties_only i m))
     multiply-mail Truncation by i m =
         ap₂ ◌++◌ ((cut_all by).zeros i m)
         (ap₂ ◌++◌ ((cut_all by).masks i m) (ap (λ (h : ℕ → ℕ). map h plan.points ++ []) (fun_ext ((cut_all by).sent i m))))
@@ -365,7 +365,7 @@ module _ (plan : Plan) (valid : Valid plan) (ms : List ℕ) (few : length ms ≤
       ap (λ (l : List ℕ). eval p (y₀ ∷ l) x)
       (ap (λ (l : List ℕ). take t (l ++ rest)) (blocks-cons plan ms d [] (x₀ ∷ []) (y₀ ∷ []) s.coins ∙ append-nil new)
       ∙ take_at new rest t (length_block plan ms valid.prime i x₀ y₀ (take t s.coins) (omega arith) ∙ size))
-      ∙ deal-differ plan valid ms parties-only i x₀ y₀ (take t s.coins) x (inputs_here plan ms (Input i) gs s.inputs s'.inputs r.agree 0 (omega arith))
+      ∙ deal-differ plan valid ms parties_only i x₀ y₀ (take t s.coins) x (inputs_here plan ms (Input i) gs s.inputs s'.inputs r.agree 0 (omega arith))
     where
       one_input : (i : ℕ) → total (dealings_at plan (Input i)) ≡ t
       one_input i = unfold dealings_at total in omega arith
@@ -408,11 +408,11 @@ module _ (plan : Plan) (valid : Valid plan) (ms : List ℕ) (few : length ms ≤
   gate_differ (Input i) gs s s' vals vals' us us' r rest = input_differ i gs s s' vals vals' us us' r rest
   gate_differ (Add a b) gs s s' vals vals' us us' r rest = λ z.
       ap₂ (add p) (r.differ a z) (r.differ b z)
-      ∙ add_differ (wire_at s.env a z) (wire_at s.env b z) (get_or vals a 0) (get_or vals b 0) (get_or vals' a 0) (get_or vals' b 0) (spare plan valid ms parties-only z)
+      ∙ add_differ (wire_at s.env a z) (wire_at s.env b z) (get_or vals a 0) (get_or vals b 0) (get_or vals' a 0) (get_or vals' b 0) (spare plan valid ms parties_only z)
   gate_differ (Scale a c) gs s s' vals vals' us us' r rest = λ z.
-      ap (λ n. mul p n c) (r.differ a z) ∙ scale_differ (wire_at s.env a z) c (get_or vals a 0) (get_or vals' a 0) (spare plan valid ms parties-only z)
+      ap (λ n. mul p n c) (r.differ a z) ∙ scale_differ (wire_at s.env a z) c (get_or vals a 0) (get_or vals' a 0) (spare plan valid ms parties_only z)
   gate_differ (Offset a c) gs s s' vals vals' us us' r rest = λ z.
-      ap (λ n. add p n c) (r.differ a z) ∙ offset_differ (wire_at s.env a z) c (get_or vals a 0) (get_or vals' a 0) (spare plan valid ms parties-only z)
+      ap (λ n. add p n c) (r.differ a z) ∙ offset_differ (wire_at s.env a z) c (get_or vals a 0) (get_or vals' a 0) (spare plan valid ms parties_only z)
   gate_differ (Multiply a b) gs s s' vals vals' us us' r rest = multiply-differ a b gs s s' vals vals' us us' r rest plan.rule refl
   gate_differ Random gs s s' vals vals' us us' r rest = random-differ gs s s' vals vals' us us' r rest
   gate_differ (Spend a b) gs s s' vals vals' us us' r rest = spend-differ a b gs s s' vals vals' us us' r (matched_at plan ms (Spend a b) s s' ++ rest)
@@ -428,7 +428,7 @@ module _ (plan : Plan) (valid : Valid plan) (ms : List ℕ) (few : length ms ≤
   mail_same (Offset a c) gs s s' vals vals' us us' r rest i m = refl
   mail_same (Multiply a b) gs s s' vals vals' us us' r rest i m = multiply-mail a b gs s s' vals vals' us us' r rest plan.rule refl i m
   mail_same Random gs s s' vals vals' us us' r rest i m =
-      ap (λ (l : List ℕ). l ++ []) (random-same gs s s' vals vals' us us' r rest (point_of plan i) (spare-member plan valid ms parties-only i m))
+      ap (λ (l : List ℕ). l ++ []) (random-same gs s s' vals vals' us us' r rest (point_of plan i) (spare-member plan valid ms parties_only i m))
   mail_same (Spend a b) gs s s' vals vals' us us' r rest i m = spend-same a b gs s s' vals vals' us us' r (matched_at plan ms (Spend a b) s s' ++ rest) (point_of plan i)
 
   moved-past :

@@ -37,7 +37,7 @@ use Rattle.run_protocol.specs.Settings.{Inputs, Coins}
 use Rattle.match_privacy.specs.Bijections.{Bijection}
 use Rattle.plan.proofs.Valid.{Valid}
 use Rattle.run_protocol.proofs.Sound.{Wide, wide, RightTriples, no_triples, shared}
-use Rattle.match_privacy.proofs.Bijections.{coins_of, past_matched, run-new, full, keeps, own-kept, one_to-one, onto}
+use Rattle.match_privacy.proofs.Bijections.{coins_of, past_matched, run-new, full, keeps, own-kept, one_to_one, onto}
 use Rattle.match_privacy.proofs.TwoRuns.{Spent, multiply_mail, gate_mail, Runs, mail_same, runs_past, member_same, value_same, none_differ}
 
 -- ---- a gate's steps on the table
@@ -78,12 +78,12 @@ pub record Start (plan : Plan) (ms xs ys c : List ℕ) (ts ts' : List (ℕ → �
   pub spent : Spent plan plan.gates [] [] xs ys us us'
 
 module _ (plan : Plan) (valid : Valid plan) (ms : List ℕ) (few : length ms ≤ plan.t)
-    (parties-only : (i : ℕ) → is_member i ms ≡ true → i ≤ party_count plan) where
+    (parties_only : (i : ℕ) → is_member i ms ≡ true → i ≤ party_count plan) where
   abbrev p : ℕ
   p = plan.p
 
   module _ (xs ys c : List ℕ) (ts ts' : List (ℕ → ℕ)) (us us' : List ℕ) (o : Start plan ms xs ys c ts ts' us us') where
-    pub fresh-runs : Runs plan valid ms few parties-only plan.gates (start_of xs c ts) (start_of ys [] ts') [] [] us us'
+    pub fresh-runs : Runs plan valid ms few parties_only plan.gates (start_of xs c ts) (start_of ys [] ts') [] [] us us'
     unfolding start_of wire_at own_inputs input_owners coin_count coin_owners
     fresh-runs = record {
       wires = refl;
@@ -91,7 +91,7 @@ module _ (plan : Plan) (valid : Valid plan) (ms : List ℕ) (few : length ms ≤
       values' = refl;
       first = λ w. none_shared p plan.t;
       second = λ w. none_shared p plan.t;
-      differ = λ w. none_differ plan valid ms few parties-only;
+      differ = λ w. none_differ plan valid ms few parties_only;
       small = input_below p xs (pos valid.prime) o.below;
       small' = input_below p ys (pos valid.prime) o.below';
       agree = o.agree;
@@ -125,7 +125,7 @@ module _ (plan : Plan) (valid : Valid plan) (ms : List ℕ) (few : length ms ≤
       state-at : past_all plan gs (start_of ys c' ts') ≡ with_coins (match_from plan ms hs s₁ s₂) s₂
       unfolding matched_with start_of with_coins
       state-at =
-          let r : Runs plan valid ms few parties-only plan.gates (start_of xs c ts) (start_of ys [] ts') [] [] us us' = fresh-runs in
+          let r : Runs plan valid ms few parties_only plan.gates (start_of xs c ts) (start_of ys [] ts') [] [] us us' = fresh-runs in
           ap (λ (l : List Gate). past_all plan gs (with_coins (match_from plan ms l (start_of xs c ts) (start_of ys [] ts')) (start_of ys [] ts'))) (sym whole)
           ∙ run-new plan valid ms few gs hs (start_of xs c ts) (start_of ys [] ts')
           (subst (λ (l : List Gate). coins_of plan l ≤ length c) (sym whole) r.enough) r.canon
@@ -133,11 +133,11 @@ module _ (plan : Plan) (valid : Valid plan) (ms : List ℕ) (few : length ms ≤
 
       runs-at :
           (ws : List ℕ) × (ws' : List ℕ)
-          × Runs plan valid ms few parties-only hs s₁ s₂ (values_from plan gs [] xs) (values_from plan gs [] ys) ws ws'
+          × Runs plan valid ms few parties_only hs s₁ s₂ (values_from plan gs [] xs) (values_from plan gs [] ys) ws ws'
       unfolding start_of
       runs-at =
-          runs_past plan valid ms few parties-only gs hs (start_of xs c ts) (start_of ys [] ts') [] [] us us'
-          (subst (λ (l : List Gate). Runs plan valid ms few parties-only l (start_of xs c ts) (start_of ys [] ts') [] [] us us') (sym whole) fresh-runs)
+          runs_past plan valid ms few parties_only gs hs (start_of xs c ts) (start_of ys [] ts') [] [] us us'
+          (subst (λ (l : List Gate). Runs plan valid ms few parties_only l (start_of xs c ts) (start_of ys [] ts') [] [] us us') (sym whole) fresh-runs)
 
     -- every wire
     pub differ : (w : ℕ) → Differ p (map (point_of plan) ms) (wire_at T w) (wire_at T' w) (get_or (values plan xs) w 0) (get_or (values plan ys) w 0)
@@ -149,13 +149,13 @@ module _ (plan : Plan) (valid : Valid plan) (ms : List ℕ) (few : length ms ≤
     -- a member's share of every wire is the same
     pub members-share : (w i : ℕ) → is_member i ms ≡ true → wire_at T' w (point_of plan i) ≡ wire_at T w (point_of plan i)
     members-share w i m =
-        member_same plan valid ms few parties-only (wire_at T w) (wire_at T' w) (get_or (values plan xs) w 0) (get_or (values plan ys) w 0)
+        member_same plan valid ms few parties_only (wire_at T w) (wire_at T' w) (get_or (values plan xs) w 0) (get_or (values plan ys) w 0)
         (shared plan valid xs c ts us o.triples o.below w) (differ w) i m
 
     -- and every share of a wire whose value stays
     pub all_share : (w : ℕ) → get_or (values plan ys) w 0 ≡ get_or (values plan xs) w 0 → (x : ℕ) → wire_at T' w x ≡ wire_at T w x
     all_share w e x =
-        value_same plan valid ms few parties-only (wire_at T w) (wire_at T' w) (get_or (values plan xs) w 0) (get_or (values plan ys) w 0)
+        value_same plan valid ms few parties_only (wire_at T w) (wire_at T' w) (get_or (values plan xs) w 0) (get_or (values plan ys) w 0)
         (shared plan valid xs c ts us o.triples o.below w) (differ w) e x
 
     -- ---- a member's mail
@@ -169,7 +169,7 @@ module _ (plan : Plan) (valid : Valid plan) (ms : List ℕ) (few : length ms ≤
         let s' : Before = s₂ (take k plan.gates) (x ∷ gs) whole in
         let r = runs-at (take k plan.gates) (x ∷ gs) whole in
         ap (λ (q : Before). gate_mail plan x q (point_of plan i)) (state-at (take k plan.gates) (x ∷ gs) whole)
-        ∙ mail_same plan valid ms few parties-only x gs s s' (values_from plan (take k plan.gates) [] xs) (values_from plan (take k plan.gates) [] ys) r.0 r.1 r.2
+        ∙ mail_same plan valid ms few parties_only x gs s s' (values_from plan (take k plan.gates) [] xs) (values_from plan (take k plan.gates) [] ys) r.0 r.1 r.2
         (match_from plan ms gs (past plan x s) (past plan x (with_coins (matched_at plan ms x s s') s'))) i m
 
     gate-is : (k : ℕ) (x : Gate) (gs : List Gate) → drop k plan.gates ≡ x ∷ gs → gate_in plan k ≡ x
@@ -250,7 +250,7 @@ none_spent plan (Random ∷ gs) vals vals' xs ys e = (tt, none_spent plan gs _ _
 none_spent plan (Spend a b ∷ gs) vals vals' xs ys e = absurd (omega arith)
 
 module _ (plan : Plan) (valid : Valid plan) (ms : List ℕ) (few : length ms ≤ plan.t)
-    (parties-only : (i : ℕ) → is_member i ms ≡ true → i ≤ party_count plan) where
+    (parties_only : (i : ℕ) → is_member i ms ≡ true → i ≤ party_count plan) where
   pub alone_start :
       (xs ys c : List ℕ) → kind_count plan 7 ≡ 0 → all_below plan.p xs ≡ true → all_below plan.p ys ≡ true → Coins plan c
       → map (λ i. own_inputs plan i xs) ms ≡ map (λ i. own_inputs plan i ys) ms → Start plan ms xs ys c [] [] [] []
@@ -262,7 +262,7 @@ module _ (plan : Plan) (valid : Valid plan) (ms : List ℕ) (few : length ms ≤
     agree = members-map ms (λ i. own_inputs plan i xs) (λ i. own_inputs plan i ys) inputs;
     triples = no_triples plan;
     triples' = no_triples plan;
-    moved = λ w. none_differ plan valid ms few parties-only;
+    moved = λ w. none_differ plan valid ms few parties_only;
     spent = none_spent plan plan.gates [] [] xs ys none;
   }
 
@@ -275,8 +275,8 @@ module _ (plan : Plan) (valid : Valid plan) (ms : List ℕ) (few : length ms ≤
   private xs ys none fx fy inputs grants = record {
     full = full plan valid ms few [] [] xs ys;
     keeps = keeps plan valid ms few [] [] xs ys;
-    one_to-one = one_to-one plan valid ms few [] [] xs ys;
+    one_to_one = one_to_one plan valid ms few [] [] xs ys;
     onto = onto plan valid ms few [] [] xs ys;
     same_view =
-        λ c f. views_same plan valid ms few parties-only xs ys c [] [] [] [] (alone_start xs ys c none fx.small fy.small f inputs) grants;
+        λ c f. views_same plan valid ms few parties_only xs ys c [] [] [] [] (alone_start xs ys c none fx.small fy.small f inputs) grants;
   }

@@ -1,4 +1,4 @@
--- The matching of worked examples, by computation: P5, R-3's and R-7's.
+-- The matching of worked examples, by computation: P5, one of another threshold and one of the 1988 rule.
 -- Assumes nothing.
 use mathlib.Core.Path.{◌≡◌, refl}
 use mathlib.Core.List.{[], ◌∷◌, map, flat_map}
@@ -19,13 +19,13 @@ use Rattle.run_protocol.proofs.Worked.{plan_with, like_k, K, K4, four_sum, figur
 
 pub record Sums : Type 0 where
   pub k-matched : matched_coins K (3 ∷ []) figures (1 ∷ 1 ∷ []) coins_k ≡ 3 ∷ 8 ∷ 5 ∷ 2 ∷ 7 ∷ []
-  pub k_same-view : view K (3 ∷ []) (1 ∷ 1 ∷ []) (3 ∷ 8 ∷ 5 ∷ 2 ∷ 7 ∷ []) [] ≡ view K (3 ∷ []) figures coins_k []
+  pub k_same_view : view K (3 ∷ []) (1 ∷ 1 ∷ []) (3 ∷ 8 ∷ 5 ∷ 2 ∷ 7 ∷ []) [] ≡ view K (3 ∷ []) figures coins_k []
   pub four-matched :
       map (λ ys. matched_coins four_sum (1 ∷ 4 ∷ []) (2 ∷ 1 ∷ 1 ∷ 0 ∷ []) ys four_coins) ((2 ∷ 0 ∷ 2 ∷ 0 ∷ []) ∷ (2 ∷ 2 ∷ 0 ∷ 0 ∷ []) ∷ [])
       ≡ (0 ∷ 0 ∷ 0 ∷ 2 ∷ 2 ∷ 4 ∷ 3 ∷ 2 ∷ []) ∷ (0 ∷ 0 ∷ 0 ∷ 0 ∷ 2 ∷ 1 ∷ 3 ∷ 2 ∷ []) ∷ []
   pub k4-matched : matched_coins K4 (3 ∷ []) figures (1 ∷ 1 ∷ []) coins_k4 ≡ 3 ∷ 8 ∷ 0 ∷ 6 ∷ 6 ∷ 4 ∷ 5 ∷ 2 ∷ 7 ∷ 8 ∷ 9 ∷ []
-  pub k4_same-view : view K4 (3 ∷ []) (1 ∷ 1 ∷ []) (3 ∷ 8 ∷ 0 ∷ 6 ∷ 6 ∷ 4 ∷ 5 ∷ 2 ∷ 7 ∷ 8 ∷ 9 ∷ []) [] ≡ view K4 (3 ∷ []) figures coins_k4 []
+  pub k4_same_view : view K4 (3 ∷ []) (1 ∷ 1 ∷ []) (3 ∷ 8 ∷ 0 ∷ 6 ∷ 6 ∷ 4 ∷ 5 ∷ 2 ∷ 7 ∷ 8 ∷ 9 ∷ []) [] ≡ view K4 (3 ∷ []) figures coins_k4 []
 
 pub sums : Sums
 unfolding tab first_from first_failing count_where add mul sub invert inv eval sum_of scale product linear factor weight weights dot interpolate delta deal opened first_off mixture matched sum_all basis fitted entry row matched_zero party_count parties point_of dealer_count dealer_points kind_of is_kind kind_count multiplying operands_of is_input_of wires_from input_wires out_wires_of out_wires input_owners_at first_dealings multiply_dealings dealings_at coin_owners_at input_owners coin_owners own_of own_inputs own_coins input_at coins_at triple_numbers triple_at own_triples multiply_steps steps_at steps_from steps step_at last_call input_count own_input_count coin_count own_coin_count own_out_count received sent_by mail_count written_count per_multiply sent_count set_all from_each wires_by_party opened_at spent_share learnt resume_at work_gate work_from learn_from spend_from learn spend deal_to nothing product_at send_at call_with call fresh no_call call_of mail_to next_call next_round after at_end results mails view_of view triples_from sent_in sent_before sent_all total view_count_of view_count inputs_taken gate_value values_from values granted wire_at product_of zero_pieces masked_at multiply_dealt dealt_at sharings pieces_at truncated_at multiply_share difference_at difference_of gate_share triples_taken past past_all start_of share_table is_member matched_blocks lowest_of lowest change_of zero_matched absorbed_by absorbed with_coins matched_at match_from matched_with matched_coins plan_with like_k K K4 four_sum flat_map
-sums = record { k-matched = refl; k_same-view = refl; four-matched = refl; k4-matched = refl; k4_same-view = refl }
+sums = record { k-matched = refl; k_same_view = refl; four-matched = refl; k4-matched = refl; k4_same_view = refl }

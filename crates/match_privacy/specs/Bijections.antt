@@ -9,7 +9,7 @@ use Rattle.match_privacy.specs.Matching.{matched_coins}
 pub record Bijection (p k : ℕ) (f : List ℕ → List ℕ) (held : List ℕ → List (List ℕ)) (seen seen' : List ℕ → List ℕ) : Type 0 where
   pub full : (c : List ℕ) → Full p k c → Full p k (f c)
   pub keeps : (c : List ℕ) → Full p k c → held (f c) ≡ held c
-  pub one_to-one : (c d : List ℕ) → Full p k c → Full p k d → f c ≡ f d → c ≡ d
+  pub one_to_one : (c d : List ℕ) → Full p k c → Full p k d → f c ≡ f d → c ≡ d
   pub onto : (d : List ℕ) → Full p k d → (c : List ℕ) × Full p k c × (f c ≡ d)
   pub same_view : (c : List ℕ) → Full p k c → seen c ≡ seen' (f c)
 

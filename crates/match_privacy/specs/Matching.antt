@@ -1,9 +1,8 @@
--- The matching of coins (document 01, "Rounds and calls"): a dealing by a non-member whose dealt value changes by d has d times the
+-- The matching of coins: a dealing by a non-member whose dealt value changes by d has d times the
 -- coefficients of delta, the polynomial that is 1 at 0 and 0 at the members' points, added to its coins; members' coins stay. Where a
 -- multiply truncates, the lowest non-member's dealing of 0 first takes up the change of the product but for its value times delta.
 use Rattle.std.specs.Prelude.{ℕ, ◌+◌, ◌-◌, ◌*◌, Bool, true, false, cond, List, [], ◌∷◌, ◌++◌, map, eqb, take, drop, get_or}
 use Rattle.field.specs.Mod.{sub}
-use Rattle.sharing_laws.specs.Interp.{delta}
 use Rattle.sharing_laws.specs.Sharing.{matched}
 use Rattle.plan.specs.declared.Gate.{Gate}
 use Rattle.plan.specs.declared.Rule.{Rule}

@@ -7,6 +7,7 @@
 --     first_over-nothing, nothing-first_over              none is found exactly where all are below p
 --     first_over_at, at-first_over                        the one that is found
 -- Assumes nothing.
+use Rattle.std.proofs.Common.{Some, None}
 use mathlib.Core.Path.{◌≡◌, refl, ◌∙◌}
 use mathlib.Core.Bool.{Bool, true, false, cond, ◌&&◌}
 use mathlib.Core.List.{List, [], ◌∷◌, ◌++◌, map, flat_map}
@@ -20,7 +21,6 @@ use lib.ListN.{length, get_or, take, drop, set, drop_of_length-le, get_or-eq_def
 use lib.Seq.{drop-cons}
 use Rattle.numbers.specs.Tables.{tab}
 use Rattle.numbers.specs.Bytes.{first_over, all_below}
-use Rattle.numbers.specs.declared.Found.TheVariants.{At, Nothing}
 use Rattle.numbers.proofs.Searches.{First, nothing_passes, passes-nothing, first_failing_lem, failing_first}
 use Rattle.numbers.proofs.Bytes.{EachBelow}
 
@@ -121,11 +121,11 @@ module _ (p : ℕ) (xs : List ℕ) (i : ℕ) where
   all_below_end l = rw (drop_of_length-le xs l)
 
 -- ---- the first number that isn't below p
-pub first_over-nothing : (p : ℕ) (xs : List ℕ) → first_over p xs ≡ Nothing → all_below p xs ≡ true
+pub first_over-nothing : (p : ℕ) (xs : List ℕ) → first_over p xs ≡ None → all_below p xs ≡ true
 unfolding first_over
 first_over-nothing p xs h = at-all_below p xs (λ i l. ltb-true (get_or xs i 0) p (nothing_passes (λ k. ltb (get_or xs k 0) p) (length xs) h i l))
 
-pub nothing-first_over : (p : ℕ) (xs : List ℕ) → all_below p xs ≡ true → first_over p xs ≡ Nothing
+pub nothing-first_over : (p : ℕ) (xs : List ℕ) → all_below p xs ≡ true → first_over p xs ≡ None
 unfolding first_over
 nothing-first_over p xs h = passes-nothing (λ k. ltb (get_or xs k 0) p) (length xs) (λ i l. lt-ltb (get_or xs i 0) p (all_below_at p xs i h l))
 
@@ -135,13 +135,13 @@ pub record FirstOver (p : ℕ) (xs : List ℕ) (i : ℕ) : Type 0 where
   pub over : p ≤ get_or xs i 0
   pub before : (k : ℕ) → k < i → get_or xs k 0 < p
 
-pub first_over_at : (p : ℕ) (xs : List ℕ) (i : ℕ) → first_over p xs ≡ At i → FirstOver p xs i
+pub first_over_at : (p : ℕ) (xs : List ℕ) (i : ℕ) → first_over p xs ≡ Some i → FirstOver p xs i
 unfolding first_over
 first_over_at p xs i h =
     let w : First (λ k. ltb (get_or xs k 0) p) (length xs) i = first_failing_lem (λ k. ltb (get_or xs k 0) p) (length xs) i h in
     record { within = w.within; over = ltb-false (get_or xs i 0) p w.fails; before = λ k l. ltb-true (get_or xs k 0) p (w.before k l) }
 
-pub at-first_over : (p : ℕ) (xs : List ℕ) (i : ℕ) → FirstOver p xs i → first_over p xs ≡ At i
+pub at-first_over : (p : ℕ) (xs : List ℕ) (i : ℕ) → FirstOver p xs i → first_over p xs ≡ Some i
 unfolding first_over
 at-first_over p xs i w =
     failing_first (λ k. ltb (get_or xs k 0) p) (length xs) i

@@ -3,6 +3,7 @@
 --     nothing_passes, passes-nothing   nothing is found exactly where every index passes
 --     first_failing_lem, failing_first     i is found exactly where it is the first that fails
 -- Assumes nothing.
+use Rattle.std.proofs.Common.{Option, Some, None}
 use mathlib.Core.Path.{◌≡◌, refl, sym, ap, subst, ◌∙◌}
 use mathlib.Core.Logic.{⊎_elim}
 use mathlib.Core.Bool.{Bool, true, false, cond, not}
@@ -13,8 +14,6 @@ use native.Mathlib.Omega.{arith}
 use borrow.Author.Rules.{rules}
 use borrow.Author.Tests.{not-true, not-false}
 use Rattle.numbers.specs.Tables.{first_from, first_failing}
-use Rattle.numbers.specs.declared.Found.{Found}
-use Rattle.numbers.specs.declared.Found.TheVariants.{At, Nothing}
 
 -- the invariant of a search over n indices that stands at i: what is left to find is what there is to find
 pub record Seeking (ok : ℕ → Bool) (n i : ℕ) : Type 0 where
@@ -29,7 +28,7 @@ module _ (ok : ℕ → Bool) (n i : ℕ) (h : Seeking ok n i) where
   one : i < n → n - i ≡ suc (n - (i + 1))
   one l = omega arith
 
-  pub found : i < n → ok i ≡ false → At i ≡ first_failing ok n
+  pub found : i < n → ok i ≡ false → Some i ≡ first_failing ok n
   unfolding first_from
   found l t = rw (← h.rest, one l, t)
 
@@ -37,15 +36,15 @@ module _ (ok : ℕ → Bool) (n i : ℕ) (h : Seeking ok n i) where
   unfolding first_from
   passed l t = record { within = omega arith; rest = rw (← h.rest, one l, t, add-one) }
 
-  pub nothing : n ≤ i → Nothing ≡ first_failing ok n
+  pub nothing : n ≤ i → None ≡ first_failing ok n
   unfolding first_from
   nothing l = let e : n - i ≡ 0 = omega arith in rw (← h.rest, e)
 
   -- the same where a callee answers the test, and the code asks it or its negation
-  pub found_by : (t : Bool) → i < n → t ≡ ok i → t ≡ false → At i ≡ first_failing ok n
+  pub found_by : (t : Bool) → i < n → t ≡ ok i → t ≡ false → Some i ≡ first_failing ok n
   found_by t l is e = found l (sym is ∙ e)
 
-  pub found-not : (t : Bool) → i < n → t ≡ ok i → not t ≡ true → At i ≡ first_failing ok n
+  pub found-not : (t : Bool) → i < n → t ≡ ok i → not t ≡ true → Some i ≡ first_failing ok n
   found-not t l is e = found l (sym is ∙ not-true t e)
 
   pub passed_by : (t : Bool) → i < n → t ≡ ok i → t ≡ true → Seeking ok n (i + 1)
@@ -64,7 +63,7 @@ pub record First (ok : ℕ → Bool) (n i : ℕ) : Type 0 where
   pub fails : ok i ≡ false
   pub before : (k : ℕ) → k < i → ok k ≡ true
 
-at≢nothing : (i : ℕ) → At i ≡ Nothing → ⊥
+at≢nothing : (i : ℕ) → Some i ≡ None → ⊥
 at≢nothing i h = let z : ◌≡◌ {A = ℕ} 0 1 = cc in omega arith
 
 module _ (ok : ℕ → Bool) where
@@ -78,21 +77,21 @@ module _ (ok : ℕ → Bool) where
   passes_at : (a k : ℕ) → ok a ≡ true → a ≤ k → (a < k → ok k ≡ true) → ok k ≡ true
   passes_at a k e l more = ⊎_elim (λ q. subst (λ (j : ℕ). ok j ≡ true) q e) more (eq-or-lt_of_le l)
 
-  nothing_step : (a k : ℕ) (t : Bool) (r : Found) → ok a ≡ t → cond t r (At a) ≡ Nothing → a ≤ k → (r ≡ Nothing → a < k → ok k ≡ true) → ok k ≡ true
+  nothing_step : (a k : ℕ) (t : Bool) (r : Option ℕ) → ok a ≡ t → cond t r (Some a) ≡ None → a ≤ k → (r ≡ None → a < k → ok k ≡ true) → ok k ≡ true
   nothing_step a k false r e h l next = absurd (at≢nothing a h)
   nothing_step a k true r e h l next = passes_at a k e l (next h)
 
-  nothing_from : (n a k : ℕ) → first_from ok n a ≡ Nothing → a ≤ k → k < a + n → ok k ≡ true
+  nothing_from : (n a k : ℕ) → first_from ok n a ≡ None → a ≤ k → k < a + n → ok k ≡ true
   unfolding first_from
   nothing_from zero a k h l m = absurd (omega arith)
   nothing_from (suc n) a k h l m = nothing_step a k (ok a) (first_from ok n (suc a)) refl h l (λ e q. nothing_from n (suc a) k e q (omega arith))
 
-  from_nothing : (n a : ℕ) → ((k : ℕ) → a ≤ k → k < a + n → ok k ≡ true) → first_from ok n a ≡ Nothing
+  from_nothing : (n a : ℕ) → ((k : ℕ) → a ≤ k → k < a + n → ok k ≡ true) → first_from ok n a ≡ None
   unfolding first_from
   from_nothing zero a h = refl
   from_nothing (suc n) a h = rw (h a (omega arith) (omega arith)) (from_nothing n (suc a) (λ k l m. h k (omega arith) (omega arith)))
 
-  first_step : (n a i : ℕ) (t : Bool) (r : Found) → ok a ≡ t → cond t r (At a) ≡ At i → (r ≡ At i → FirstFrom n (suc a) i) → FirstFrom (suc n) a i
+  first_step : (n a i : ℕ) (t : Bool) (r : Option ℕ) → ok a ≡ t → cond t r (Some a) ≡ Some i → (r ≡ Some i → FirstFrom n (suc a) i) → FirstFrom (suc n) a i
   first_step n a i false r e h next =
       let q : a ≡ i = cc in
       subst (FirstFrom (suc n) a) q (record { after = omega arith; within = omega arith; fails = e; before = λ k l m. absurd (omega arith) })
@@ -100,12 +99,12 @@ module _ (ok : ℕ → Bool) where
       let w : FirstFrom n (suc a) i = next h in
       record { after = omega arith; within = omega arith; fails = w.fails; before = λ k l m. passes_at a k e l (λ q. w.before k q m) }
 
-  first_from_lem : (n a i : ℕ) → first_from ok n a ≡ At i → FirstFrom n a i
+  first_from_lem : (n a i : ℕ) → first_from ok n a ≡ Some i → FirstFrom n a i
   unfolding first_from
   first_from_lem zero a i h = absurd (at≢nothing i (sym h))
   first_from_lem (suc n) a i h = first_step n a i (ok a) (first_from ok n (suc a)) refl h (λ e. first_from_lem n (suc a) i e)
 
-  from_first : (n a i : ℕ) → FirstFrom n a i → first_from ok n a ≡ At i
+  from_first : (n a i : ℕ) → FirstFrom n a i → first_from ok n a ≡ Some i
   unfolding first_from
   from_first zero a i w = absurd (omega (arith, w.after, w.within))
   from_first (suc n) a i w =
@@ -114,21 +113,21 @@ module _ (ok : ℕ → Bool) where
       (λ m. rw (w.before a (omega arith) m) (from_first n (suc a) i (record { after = m; within = omega (arith, w.within); fails = w.fails; before = λ k l o. w.before k (omega arith) o })))
       (eq-or-lt_of_le w.after)
 
-  pub nothing_passes : (n : ℕ) → first_failing ok n ≡ Nothing → (i : ℕ) → i < n → ok i ≡ true
+  pub nothing_passes : (n : ℕ) → first_failing ok n ≡ None → (i : ℕ) → i < n → ok i ≡ true
   unfolding first_failing
   nothing_passes n h i l = nothing_from n 0 i h (omega arith) (omega arith)
 
-  pub passes-nothing : (n : ℕ) → ((i : ℕ) → i < n → ok i ≡ true) → first_failing ok n ≡ Nothing
+  pub passes-nothing : (n : ℕ) → ((i : ℕ) → i < n → ok i ≡ true) → first_failing ok n ≡ None
   unfolding first_failing
   passes-nothing n h = from_nothing n 0 (λ k l m. h k (omega arith))
 
-  pub first_failing_lem : (n i : ℕ) → first_failing ok n ≡ At i → First ok n i
+  pub first_failing_lem : (n i : ℕ) → first_failing ok n ≡ Some i → First ok n i
   unfolding first_failing
   first_failing_lem n i h =
       let w : FirstFrom n 0 i = first_from_lem n 0 i h in
       record { within = omega (arith, w.within); fails = w.fails; before = λ k l. w.before k (omega arith) l }
 
-  pub failing_first : (n i : ℕ) → First ok n i → first_failing ok n ≡ At i
+  pub failing_first : (n i : ℕ) → First ok n i → first_failing ok n ≡ Some i
   unfolding first_failing
   failing_first n i w = from_first n 0 i (record { after = omega arith; within = omega (arith, w.within); fails = w.fails; before = λ k l m. w.before k m })
 

@@ -1,6 +1,7 @@
 -- What each way through the code says of its definition.
 --     coding       what closes the needs of every function
 -- Assumes nothing.
+use Rattle.std.proofs.Common.{Option, Some, None}
 use mathlib.Core.Path.{◌≡◌, refl, sym, ap, ◌∙◌}
 use mathlib.Core.Bool.{Bool, true, false, cond, ◌&&◌}
 use mathlib.Core.List.{List}
@@ -11,7 +12,6 @@ use borrow.Author.Tests.{eqb-true, eqb-false, eq-eqb, ne_eqb, lt-ltb, le-ltb}
 use lib.Dec.{eqb, ltb}
 use lib.ListN.{length, get_or, drop, set, get_or-eq_default}
 use Rattle.numbers.specs.Bytes.{width, number_at, bytes_from, word_at, numbers, holds_count, stored, first_over, all_below}
-use Rattle.numbers.specs.declared.Found.TheVariants.{At, Nothing}
 use Rattle.numbers.proofs.Bytes.{numbers-length, get_or-numbers, get_or-numbers-past, word-past, stored_in, stored_past}
 use Rattle.numbers.proofs.Searches.{Seeking, begin, found, passed, nothing}
 use Rattle.numbers.proofs.Below.{all_below_at_first, all_below_next, all_below_over, all_below_end, nothing-first_over}
@@ -75,14 +75,14 @@ abbrev pub is_below : List ℕ → ℕ → ℕ → Bool
 is_below s p i = ltb (get_or (numbers s) i 0) p
 
 module _ (s : List ℕ) (p i x : ℕ) (h : Seeking (is_below s p) (length s / width) i) (l : i < length s / width) (e : x ≡ get_or (numbers s) i 0) where
-  pub over_found : p ≤ x → At i ≡ first_over p (numbers s)
+  pub over_found : p ≤ x → Some i ≡ first_over p (numbers s)
   unfolding first_over
   over_found o = rw numbers-length (found (is_below s p) (length s / width) i h l (rw (← e) (le-ltb x p o)))
 
   pub over_passed : x < p → Seeking (is_below s p) (length s / width) (i + 1)
   over_passed o = passed (is_below s p) (length s / width) i h l (rw (← e) (lt-ltb x p o))
 
-pub over_nothing : (s : List ℕ) (p i : ℕ) → Seeking (is_below s p) (length s / width) i → length s / width ≤ i → Nothing ≡ first_over p (numbers s)
+pub over_nothing : (s : List ℕ) (p i : ℕ) → Seeking (is_below s p) (length s / width) i → length s / width ≤ i → None ≡ first_over p (numbers s)
 unfolding first_over
 over_nothing s p i h l = rw numbers-length (nothing (is_below s p) (length s / width) i h l)
 
@@ -143,7 +143,7 @@ module _ (s : List ℕ) (from p : ℕ) (all : Bool) (i : ℕ) (h : Comparing s f
   pub compare_end : length s / width ≤ i → all ≡ all_below p (drop from (numbers s))
   compare_end l = sym (both_true all) ∙ ap (λ (t : Bool). all && t) (all_below_end p (numbers s) i (rw numbers-length l)) ∙ h.rest
 
-pub over_none : (s : List ℕ) (p : ℕ) (t : Bool) → t ≡ all_below p (drop 0 (numbers s)) → t ≡ true → Nothing ≡ first_over p (numbers s)
+pub over_none : (s : List ℕ) (p : ℕ) (t : Bool) → t ≡ all_below p (drop 0 (numbers s)) → t ≡ true → None ≡ first_over p (numbers s)
 over_none s p t e h = sym (nothing-first_over p (numbers s) (sym e ∙ h))
 
 pub ruleset coding = (rules, byte-none, word_some, word_none, number-some, number-none, write-some, write-none, count_left, count-whole, over_found, over_passed, begin, over_nothing, test_begin, test_over, test_passed, test_end, also_yes, also_no, compare_begin, compare_next, compare_end, over_none)

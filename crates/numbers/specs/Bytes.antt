@@ -1,8 +1,7 @@
--- Numbers in bytes, the low byte first (document 01: two-byte numbers are unsigned, low byte first).
-use Rattle.std.specs.Prelude.{ℕ, zero, suc, ◌+◌, ◌*◌, ◌/◌, ◌%◌, Bool, true, false, cond, List, [], ◌∷◌, ◌++◌, eqb, leb, ltb, length, get_or}
+-- Numbers in bytes, the low byte first (they are unsigned).
+use Rattle.std.specs.Prelude.{Option, ℕ, zero, suc, ◌+◌, ◌*◌, ◌/◌, ◌%◌, Bool, true, false, cond, List, [], ◌∷◌, ◌++◌, eqb, leb, ltb, length, get_or}
 use Rattle.std.proofs.lemmas.List.Edits.{sets}
 use Rattle.numbers.specs.Tables.{tab, first_failing}
-use Rattle.numbers.specs.declared.Found.{Found}
 
 -- the number of w bytes at an offset
 unfoldable pub number_at : ℕ → List ℕ → ℕ → ℕ
@@ -18,7 +17,7 @@ bytes_from (suc w) x = x % 256 ∷ bytes_from w (x / 256)
 unfoldable pub word_at : List ℕ → ℕ → ℕ
 word_at bs at = get_or bs at 0 + 256 * get_or bs (at + 1) 0
 
--- bytes that one number of a list takes (document 02, R-6)
+-- bytes that one number of a list takes, in every version
 abbrev pub width : ℕ
 width = 4
 
@@ -48,7 +47,7 @@ unfoldable pub stored : List ℕ → ℕ → ℕ → List ℕ
 stored bs i v = cond (leb (width * i + width) (length bs)) (sets bs (width * i) (bytes_from width v)) bs
 
 -- the first number of a list that isn't below p
-unfoldable pub first_over : ℕ → List ℕ → Found
+unfoldable pub first_over : ℕ → List ℕ → Option ℕ
 first_over p xs = first_failing (λ i. ltb (get_or xs i 0) p) (length xs)
 
 -- whether every number of a list is below p

@@ -1,7 +1,5 @@
 -- Lists by a rule, the first index at which a test fails, counts and sums.
-use Rattle.std.specs.Prelude.{ℕ, zero, suc, ◌+◌, Bool, cond, List, [], ◌∷◌}
-use Rattle.numbers.specs.declared.Found.{Found}
-use Rattle.numbers.specs.declared.Found.TheVariants.{At, Nothing}
+use Rattle.std.specs.Prelude.{Option, Some, None, ℕ, zero, suc, ◌+◌, Bool, cond, List, [], ◌∷◌}
 
 -- f 0, f 1, .. up to n entries
 unfoldable pub tab : {A : Type 0} → (ℕ → A) → ℕ → List A
@@ -9,12 +7,12 @@ tab f zero = []
 tab f (suc n) = f 0 ∷ tab (λ k. f (suc k)) n
 
 -- of the n indices i, i + 1, .. the first at which the test fails
-unfoldable pub first_from : (ℕ → Bool) → ℕ → ℕ → Found
-first_from ok zero i = Nothing
-first_from ok (suc n) i = cond (ok i) (first_from ok n (suc i)) (At i)
+unfoldable pub first_from : (ℕ → Bool) → ℕ → ℕ → Option ℕ
+first_from ok zero i = None
+first_from ok (suc n) i = cond (ok i) (first_from ok n (suc i)) (Some i)
 
 -- of the first n indices the first at which the test fails
-unfoldable pub first_failing : (ℕ → Bool) → ℕ → Found
+unfoldable pub first_failing : (ℕ → Bool) → ℕ → Option ℕ
 first_failing ok n = first_from ok n 0
 
 -- how many entries pass the test

@@ -5,7 +5,7 @@
 --     step_first, step_in, step_past          which step a number has
 --     last-call                               how many calls there are
 --     own_input_at, own-coins-at, coins_at_lem    a gate's numbers, by its kind
---     plain-mail, plain-written               a call takes and writes as many numbers as document 01 says
+--     plain-mail, plain-written               a call takes and writes as many numbers as the rounds bring
 --     plain_inputs, plain-own-inputs, plain-own-coins, plain-coins, plain-steps, plain-sent     a plain plan's, by kinds
 -- Assumes nothing.
 use mathlib.Core.Path.{◌≡◌, refl, sym, ap, ap₂, ◌∙◌}
@@ -378,7 +378,7 @@ module _ (plan : Plan) (p : Plain plan) where
       let e : x + 0 * party_count plan + 0 * (2 * party_count plan) + length plan.outs ≡ x + length plan.outs = omega (arith, zero-mul (party_count plan), zero-mul (2 * party_count plan)) in
       rw (p.rule, plain_no_6 plan p, plain_no_7 plan p) (ap (λ (k : ℕ). party_count plan * k) e)
 
-  -- ---- document 01's rounds: inputs, M products, outs
+  -- ---- the rounds: inputs, M products, outs
   product-in : (gs : List Gate) (g k : ℕ) → Kinds gs → k < count_where (is_kind 5) gs → (w : ℕ) × (a : ℕ) × (b : ℕ) × (get_or (steps_from Reduction g gs ++ (SendOuts ∷ [])) k SendOuts ≡ DealProduct w a b)
   unfolding count_where steps_from steps_at multiply_steps is_kind kind_of
   product-in [] g k ks l = absurd (omega arith)

@@ -5,8 +5,9 @@
 --     planned, planned_read         the bounds of its contents
 --     party-count .. out-of-plan    the plan's parts, by its contents
 -- Assumes nothing.
-use mathlib.Core.Path.{◌≡◌, refl, sym, ap, ◌∙◌}
-use mathlib.Core.Bool.{Bool, true, cond, ◌&&◌}
+use Rattle.std.proofs.Common.{None, Ok}
+use mathlib.Core.Path.{◌≡◌, sym, ap, ◌∙◌}
+use mathlib.Core.Bool.{true, cond, ◌&&◌}
 use mathlib.Core.List.{List}
 use Prim.Native.Nat.{ℕ, ◌+◌, ◌*◌, ◌<◌, ◌≤◌}
 use native.Mathlib.Nat.{mul-le-mul_left}
@@ -15,7 +16,6 @@ use borrow.Author.Tests.{ltb-true, leb-true, eqb-true}
 use lib.Dec.{eqb, leb, ltb}
 use lib.ListN.{length, get_or}
 use Rattle.numbers.specs.Tables.{tab, first_failing}
-use Rattle.numbers.specs.declared.Found.TheVariants.{Nothing}
 use Rattle.numbers.proofs.Tables.{length-tab, get_or-tab}
 use Rattle.numbers.proofs.Searches.{nothing_passes}
 use Rattle.numbers.proofs.Truth.{both_true}
@@ -23,17 +23,12 @@ use Rattle.field.specs.Prime.{is_prime}
 use Rattle.plan.specs.declared.Gate.TheVariants.{Input}
 use Rattle.plan.specs.declared.Header.{Header}
 use Rattle.plan.specs.declared.Layout.{Layout}
-use Rattle.plan.specs.declared.Reading.{Reading}
-use Rattle.plan.specs.declared.Reading.TheVariants as reading
-use Rattle.plan.specs.declared.Refusal.{Refusal}
 use Rattle.plan.specs.declared.Refusal.TheVariants as refusal
-use Rattle.plan.specs.declared.Checked.TheVariants.{Passed, Refused}
 use Rattle.plan.specs.Refusals.{first_of}
 use Rattle.plan.specs.Plans.{multiplying, party_count, dealer_count}
-use Rattle.plan.specs.File.{modulus_limit, version_at, n_at, t_at, p_at, gate_count_at, out_count_at, layout_of, field_at, gate_start, gate_place, out_place, point_place, between, parties_ok, threshold_ok, modulus_ok, gate_at, out_at, majority_ok, point_at, gate_kept, out_kept, majority_kept, point_kept, points_placed, layout_ok, majority_check, points_check, plan_checks, plan_check, plan_of, header_of}
-use Rattle.plan.specs.Planned.{Planned, ReadAs, Within}
+use Rattle.plan.specs.File.{modulus_limit, version_at, n_at, t_at, p_at, gate_count_at, out_count_at, layout_of, field_at, gate_start, gate_place, out_place, point_place, between, parties_ok, threshold_ok, modulus_ok, gate_at, out_at, majority_ok, point_at, gate_kept, out_kept, majority_kept, point_kept, points_placed, layout_ok, majority_check, points_check, plan_checks, plan_check, plan_of}
+use Rattle.plan.specs.Planned.{HeaderOf, Planned, Within}
 use Rattle.plan.proofs.Refusals.{passed_both, passed-need, passed_found}
-use Rattle.plan.proofs.Ways.{check_of_passed, check_of_refused, header_of_passed, read_outcome}
 
 -- ---- the checks of a plan that passes
 pub record Passing (bs : List ℕ) : Type 0 where
@@ -42,12 +37,12 @@ pub record Passing (bs : List ℕ) : Type 0 where
   pub threshold : threshold_ok (n_at bs) (t_at bs) ≡ true
   pub modulus : modulus_ok (n_at bs) (p_at bs) ≡ true
   pub layout : layout_ok bs ≡ true
-  pub gates : first_failing (gate_kept bs) (gate_count_at bs) ≡ Nothing
-  pub outs : first_failing (out_kept bs) (out_count_at bs) ≡ Nothing
-  pub majority : first_failing (majority_kept bs) (gate_count_at bs) ≡ Nothing
-  pub points : first_failing (point_kept bs) (n_at bs) ≡ Nothing
+  pub gates : first_failing (gate_kept bs) (gate_count_at bs) ≡ None
+  pub outs : first_failing (out_kept bs) (out_count_at bs) ≡ None
+  pub majority : first_failing (majority_kept bs) (gate_count_at bs) ≡ None
+  pub points : first_failing (point_kept bs) (n_at bs) ≡ None
 
-pub passing : (bs : List ℕ) → plan_check bs ≡ Passed → Passing bs
+pub passing : (bs : List ℕ) → plan_check bs ≡ (Ok tt) → Passing bs
 unfolding plan_check plan_checks first_of majority_check points_check
 passing bs h =
     let a = passed_both _ _ h in
@@ -122,38 +117,29 @@ laid_within bs gates g l h e lt el hi =
     let most : gate_count_at bs ≤ 1024 = (between-true 1 1024 (gate_count_at bs) (laid bs h).gates).1 in
     record { is = el; high = hi; few = omega arith; long = laid_gate bs g h (omega arith) }
 
-pub planned : (bs : List ℕ) → plan_check bs ≡ Passed → Planned bs (header_of bs)
-unfolding header_of
-planned bs h =
+pub planned : (bs : List ℕ) (x : Header) → plan_check bs ≡ (Ok tt) → HeaderOf bs x → Planned bs x
+planned bs x h k =
     let q : Passing bs = passing bs h in
     let l : Laid bs = laid bs q.layout in
     let n = between-true 1 15 (n_at bs) q.parties in
     let g = between-true 1 1024 (gate_count_at bs) l.gates in
     let o = between-true 1 64 (out_count_at bs) l.outs in
+    let threshold : t_at bs < n_at bs = ltb-true (t_at bs) (n_at bs) q.threshold in
+    let above : n_at bs < p_at bs = modulus_above (n_at bs) (p_at bs) q.modulus in
+    let small : p_at bs < 2147483648 = modulus_small (n_at bs) (p_at bs) q.modulus in
     record {
       passes = h;
-      is = refl;
-      n_low = n.0;
-      n-high = n.1;
-      threshold = ltb-true (t_at bs) (n_at bs) q.threshold;
-      p_low = modulus_above (n_at bs) (p_at bs) q.modulus;
-      p-high = modulus_small (n_at bs) (p_at bs) q.modulus;
-      gates_low = g.0;
-      gates-high = g.1;
-      outs_low = o.0;
-      outs-high = o.1;
+      is = k;
+      n_low = omega (arith, n.0);
+      n-high = omega (arith, n.1);
+      threshold = omega arith;
+      p_low = omega arith;
+      p-high = omega arith;
+      gates_low = omega (arith, g.0);
+      gates-high = omega (arith, g.1);
+      outs_low = omega (arith, o.0);
+      outs-high = omega (arith, o.1);
     }
-
--- what a reading says
-pub planned_read : (bs : List ℕ) (r : Reading) (h : Header) → ReadAs bs r → r ≡ reading.Passed h → Planned bs h
-planned_read bs r h a e =
-    rw (header_of_passed bs h (sym a.eq ∙ e)) (planned bs (sym (check_of_passed bs r h a.eq e)))
-
-pub refused_read : (bs : List ℕ) (r : Reading) (q : Refusal) → ReadAs bs r → r ≡ reading.Refused q → plan_check bs ≡ Refused q
-refused_read bs r q a e = sym (check_of_refused bs r q a.eq e)
-
--- what a caller of `read` goes on with
-pub ruleset planning = (planned_read, refused_read, read_outcome)
 
 -- ---- the plan by its contents
 module _ (bs : List ℕ) where
@@ -167,16 +153,16 @@ module _ (bs : List ℕ) where
 
 module _ {bs : List ℕ} {h : Header} (k : Planned bs h) where
   pub plan_t : (plan_of bs).t ≡ h.t
-  unfolding plan_of header_of
-  plan_t = sym (ap (λ (x : Header). x.t) k.is)
+  unfolding plan_of
+  plan_t = sym k.is.t
 
   pub plan_p : (plan_of bs).p ≡ h.field.p
-  unfolding plan_of header_of
-  plan_p = sym (ap (λ (x : Header). x.field.p) k.is)
+  unfolding plan_of
+  plan_p = sym k.is.p
 
   pub plan_points : (plan_of bs).points ≡ tab (point_at bs) h.n
-  unfolding plan_of header_of
-  plan_points = ap (tab (point_at bs)) (sym (ap (λ (x : Header). x.n) k.is))
+  unfolding plan_of
+  plan_points = ap (tab (point_at bs)) (sym k.is.n)
 
   pub plan_n : party_count (plan_of bs) ≡ h.n
   unfolding party_count
@@ -187,16 +173,13 @@ module _ {bs : List ℕ} {h : Header} (k : Planned bs h) where
   plan_dealers = rw plan_t
 
   pub plan_gates : length (plan_of bs).gates ≡ h.gates
-  unfolding header_of
-  plan_gates = length_gates bs ∙ sym (ap (λ (x : Header). x.gates) k.is)
+  plan_gates = length_gates bs ∙ sym k.is.gates
 
   pub plan_outs : length (plan_of bs).outs ≡ h.outs
-  unfolding header_of
-  plan_outs = length_outs bs ∙ sym (ap (λ (x : Header). x.outs) k.is)
+  plan_outs = length_outs bs ∙ sym k.is.outs
 
   pub gate_within : (l : Layout) (g : ℕ) → g < h.gates → l ≡ layout_of bs → l.head ≤ 32 → Within bs l g
-  unfolding header_of
-  gate_within l g lt e hi = laid_within bs h.gates g l (passing bs k.passes).layout (ap (λ (x : Header). x.gates) k.is) lt e hi
+  gate_within l g lt e hi = laid_within bs h.gates g l (passing bs k.passes).layout k.is.gates lt e hi
 
   pub plan_gate : (g : ℕ) → g < h.gates → get_or (plan_of bs).gates g (Input 0) ≡ gate_at bs g
   unfolding plan_of

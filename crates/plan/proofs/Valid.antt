@@ -6,6 +6,7 @@
 --     none_or_majority        no gate of kind 5, or 2t < n
 --     plain_no_6, plain_no_7  a plain plan has no gate of kind 6 or 7
 -- Assumes nothing.
+use Rattle.std.proofs.Common.{Option, Some, None, Ok}
 use Prim.Native.Nat.{ℕ, zero, suc, ◌+◌, ◌*◌, ◌%◌, ◌<◌, ◌≤◌}
 use native.Mathlib.Nat.{mod-eq_of_lt}
 use native.Mathlib.Omega.{arith}
@@ -17,8 +18,6 @@ use borrow.Author.Tests.{ltb-true, eqb-false, ne_eqb, not-true}
 use lib.Dec.{T, eqb, ltb}
 use lib.ListN.{length, get_or}
 use Rattle.numbers.specs.Tables.{tab, first_failing, count_where}
-use Rattle.numbers.specs.declared.Found.{Found}
-use Rattle.numbers.specs.declared.Found.TheVariants.{At, Nothing}
 use Rattle.numbers.specs.Bytes.{limit}
 use Rattle.numbers.proofs.Tables.{length-tab, get_or-tab}
 use Rattle.numbers.proofs.Counts.{count_where-le-length}
@@ -30,7 +29,6 @@ use Rattle.field.proofs.Primes.{prime_sound}
 use Rattle.sharing_laws.specs.Interp.{All, Distinct}
 use Rattle.sharing_laws.proofs.Shares.{distinct-tab}
 use Rattle.sharing_laws.proofs.Alls.{all-tab, all_at}
-use Rattle.plan.specs.declared.Checked.TheVariants.{Passed}
 use Rattle.plan.specs.declared.Gate.{Gate}
 use Rattle.plan.specs.declared.Gate.TheVariants.{Input, Add, Scale, Offset, Multiply}
 use Rattle.plan.specs.declared.Rule.TheVariants.{Reduction}
@@ -95,12 +93,12 @@ kinds_read f zero g h = omega arith
 kinds_read f (suc n) zero h = h 0
 kinds_read f (suc n) (suc g) h = kinds_read (λ i. f (suc i)) n g (λ i. h (suc i))
 
-none_found : (f : Found) → found_none f ≡ true → f ≡ Nothing
+none_found : (f : Option ℕ) → found_none f ≡ true → f ≡ None
 unfolding found_none
-none_found (At i) e = let z : ◌≡◌ {A = ℕ} 0 1 = cc in absurd (omega arith)
-none_found Nothing e = refl
+none_found (Some i) e = let z : ◌≡◌ {A = ℕ} 0 1 = cc in absurd (omega arith)
+none_found None e = refl
 
-module _ (bs : List ℕ) (h : plan_check bs ≡ Passed) where
+module _ (bs : List ℕ) (h : plan_check bs ≡ (Ok tt)) where
   checks : Passing bs
   checks = passing bs h
 

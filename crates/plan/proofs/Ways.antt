@@ -2,6 +2,7 @@
 --     points-pass          points 1 to n are apart and below p
 --     rules, seeking, majorities, pointing, beginning, laying, placing, contents, body, last, reads     what closes the needs of the functions that read a plan
 -- Assumes nothing.
+use Rattle.std.proofs.Common.{Option, Some, None, Ok, Err, option_map}
 use mathlib.Core.Path.{◌≡◌, refl, sym, ap, ◌∙◌}
 use mathlib.Core.Bool.{Bool, true, false, cond, not, ◌&&◌}
 use mathlib.Core.List.{List, [], ◌∷◌}
@@ -12,30 +13,23 @@ use borrow.Author.Tests.{not-true, not-false, lt-ltb, le-ltb, le-leb, lt-leb, eq
 use lib.Dec.{eqb, leb, ltb}
 use lib.ListN.{length, get_or, take, drop, take-append-drop}
 use Rattle.numbers.specs.Tables.{first_failing}
-use Rattle.numbers.specs.declared.Found.{Found}
-use Rattle.numbers.specs.declared.Found.TheVariants.{At, Nothing}
 use Rattle.numbers.proofs.Searches.{Seeking, begin, found, passed, nothing, found-not, passed-not, passes-nothing}
 use Rattle.field.specs.declared.Field.{Field}
-use Rattle.field.specs.declared.Made.{Made}
-use Rattle.field.specs.declared.Made.TheVariants as made
+use Rattle.field.specs.declared.Field.{Field}
 use Rattle.field.specs.Prime.{is_prime}
-use Rattle.field.specs.Field.{field_limit, made_of}
+use Rattle.field.specs.Field.{made_of}
 use Rattle.plan.specs.declared.Gate.{Gate}
 use Rattle.plan.specs.declared.Gate.TheVariants.{Input, Add, Scale, Offset, Multiply, Random, Spend}
 use Rattle.plan.specs.declared.Output.{Output}
 use Rattle.plan.specs.declared.Layout.{Layout}
-use Rattle.plan.specs.declared.Header.{Header}
-use Rattle.plan.specs.declared.Reading.{Reading}
-use Rattle.plan.specs.declared.Reading.TheVariants as reading
-use Rattle.plan.specs.declared.Checked.{Checked}
-use Rattle.plan.specs.declared.Checked.TheVariants.{Passed, Refused}
+use Rattle.plan.specs.Planned.{HeaderOf}
+use Rattle.plan.specs.Refusals.{Checked}
 use Rattle.plan.specs.declared.Refusal.{Refusal}
 use Rattle.plan.specs.declared.Refusal.TheVariants as refusal
 use Rattle.plan.specs.Refusals.{first_of, and_then, need, unless_found}
 use Rattle.plan.specs.Plans.{multiplying}
 use Rattle.plan.proofs.Refusals.{and_then_passed, and_then_refused, and_then_end, first_of-append}
-use Rattle.plan.specs.File.{magic, same_bytes, between, parties_ok, threshold_ok, modulus_limit, modulus_ok, field_above, layout_of, field_at, gate_place, out_place, point_place, gate_at, out_at, point_at, gate_ok, out_ok, majority_ok, gate_kept, out_kept, majority_kept, found_none, point_apart, point_kept, points_placed, layout_ok, majority_check, points_check, plan_checks, plan_check, header_of, reading_of, outcome_of, read_plan}
-use Rattle.plan.specs.Planned.{ReadAs}
+use Rattle.plan.specs.File.{magic, same_bytes, between, parties_ok, threshold_ok, modulus_limit, modulus_ok, field_above, layout_of, field_at, gate_place, out_place, point_place, gate_at, out_at, point_at, gate_ok, out_ok, majority_ok, gate_kept, out_kept, majority_kept, found_none, point_apart, point_kept, points_placed, layout_ok, majority_check, points_check, plan_checks, plan_check}
 
 -- ---- small tests
 pub between_under : (a b x : ℕ) → x < a → false ≡ between a b x
@@ -99,7 +93,7 @@ module _ (bs : List ℕ) (gates : ℕ) where
   gates_begin = begin (gate_kept bs) gates
 
   module _ (g : ℕ) (h : Seeking (gate_kept bs) gates g) (s : gates ≡ field_at bs 2) where
-    pub gates_end : gates ≤ g → Nothing ≡ first_failing (gate_kept bs) (field_at bs 2)
+    pub gates_end : gates ≤ g → None ≡ first_failing (gate_kept bs) (field_at bs 2)
     gates_end l = rw (← s) (nothing (gate_kept bs) gates g h l)
 
     module _ (n p : ℕ) (en : n ≡ get_or bs 5 0) (ep : p ≡ field_at bs 0) (gate : Gate) (t : Bool) (l : g < gates) (e : gate ≡ gate_at bs g) (k : t ≡ gate_ok n p g gate) where
@@ -107,7 +101,7 @@ module _ (bs : List ℕ) (gates : ℕ) where
       unfolding gate_kept
       kept = rw (← en, ← ep, ← e) k
 
-      pub gates-found : t ≡ false → At g ≡ first_failing (gate_kept bs) (field_at bs 2)
+      pub gates-found : t ≡ false → Some g ≡ first_failing (gate_kept bs) (field_at bs 2)
       gates-found f = rw (← s) (found (gate_kept bs) gates g h l (rw (← kept) f))
 
       pub gates-passed : t ≡ true → Seeking (gate_kept bs) gates (g + 1)
@@ -118,7 +112,7 @@ module _ (bs : List ℕ) (outs : ℕ) where
   outs_begin = begin (out_kept bs) outs
 
   module _ (o : ℕ) (h : Seeking (out_kept bs) outs o) (s : outs ≡ field_at bs 4) where
-    pub outs_end : outs ≤ o → Nothing ≡ first_failing (out_kept bs) (field_at bs 4)
+    pub outs_end : outs ≤ o → None ≡ first_failing (out_kept bs) (field_at bs 4)
     outs_end l = rw (← s) (nothing (out_kept bs) outs o h l)
 
     module _ (n gates : ℕ) (en : n ≡ get_or bs 5 0) (eg : gates ≡ field_at bs 2) (out : Output) (t : Bool) (l : o < outs) (e : out ≡ out_at bs o) (k : t ≡ out_ok n gates out) where
@@ -126,7 +120,7 @@ module _ (bs : List ℕ) (outs : ℕ) where
       unfolding out_kept
       out-kept = rw (← en, ← eg, ← e) k
 
-      pub outs-found : t ≡ false → At o ≡ first_failing (out_kept bs) (field_at bs 4)
+      pub outs-found : t ≡ false → Some o ≡ first_failing (out_kept bs) (field_at bs 4)
       outs-found f = rw (← s) (found (out_kept bs) outs o h l (rw (← out-kept) f))
 
       pub outs-passed : t ≡ true → Seeking (out_kept bs) outs (o + 1)
@@ -143,7 +137,7 @@ module _ (bs : List ℕ) (n t : ℕ) (en : n ≡ get_or bs 5 0) (et : t ≡ get_
   unfolding majority_kept majority_ok
   kept_by g m e = rw (← en, ← et, ← e)
 
-  pub majority-all : 2 * t < n → Nothing ≡ first_failing (majority_kept bs) (field_at bs 2)
+  pub majority-all : 2 * t < n → None ≡ first_failing (majority_kept bs) (field_at bs 2)
   majority-all l = sym (passes-nothing (majority_kept bs) (field_at bs 2) (λ g k. sym (kept_by g (multiplying (gate_at bs g)) refl) ∙ rw (lt-ltb (2 * t) n l) (both (multiplying (gate_at bs g)))))
     where
       both : (m : Bool) → cond m true true ≡ true
@@ -155,25 +149,25 @@ module _ (bs : List ℕ) (n t : ℕ) (en : n ≡ get_or bs 5 0) (et : t ≡ get_
     majority-begin = begin (majority_kept bs) gates
 
     module _ (g : ℕ) (h : Seeking (majority_kept bs) gates g) (s : gates ≡ field_at bs 2) where
-      pub majority-end : gates ≤ g → Nothing ≡ first_failing (majority_kept bs) (field_at bs 2)
+      pub majority-end : gates ≤ g → None ≡ first_failing (majority_kept bs) (field_at bs 2)
       majority-end l = rw (← s) (nothing (majority_kept bs) gates g h l)
 
       module _ (far : n ≤ 2 * t) (gate : Gate) (m : Bool) (l : g < gates) (e : gate ≡ gate_at bs g) (k : m ≡ multiplying gate) where
         lacks : cond m false true ≡ majority_kept bs g
         lacks = rw (le-ltb (2 * t) n far) at (kept_by g m (k ∙ ap multiplying e))
 
-        pub majority-found : m ≡ true → At g ≡ first_failing (majority_kept bs) (field_at bs 2)
+        pub majority-found : m ≡ true → Some g ≡ first_failing (majority_kept bs) (field_at bs 2)
         majority-found f = rw (← s) (found (majority_kept bs) gates g h l (sym (rw f at lacks)))
 
         pub majority-passed : m ≡ false → Seeking (majority_kept bs) gates (g + 1)
         majority-passed f = passed (majority_kept bs) gates g h l (sym (rw f at lacks))
 
-module _ (bs : List ℕ) (f : Found) (e : f ≡ first_failing (majority_kept bs) (field_at bs 2)) where
-  pub majority-lacking : (g : ℕ) → f ≡ At g → Refused refusal.Majority ≡ majority_check bs
+module _ (bs : List ℕ) (f : Option ℕ) (e : f ≡ first_failing (majority_kept bs) (field_at bs 2)) where
+  pub majority-lacking : (g : ℕ) → f ≡ Some g → Err refusal.Majority ≡ majority_check bs
   unfolding majority_check unless_found
   majority-lacking g h = rw (← e, h)
 
-  pub majority-there : f ≡ Nothing → Passed ≡ majority_check bs
+  pub majority-there : f ≡ None → (Ok tt) ≡ majority_check bs
   unfolding majority_check unless_found
   majority-there h = rw (← e, h)
 
@@ -195,12 +189,12 @@ module _ (bs : List ℕ) (i : ℕ) where
       unfolding point_kept
       point-large l = rw (← ex, ← ep, lt-ltb 0 x (omega arith), le-ltb x p l)
 
-      module _ (l : x < p) (f : Found) (ef : f ≡ first_failing (point_apart bs i) i) where
-        pub point-earlier : (j : ℕ) → f ≡ At j → false ≡ point_kept bs i
+      module _ (l : x < p) (f : Option ℕ) (ef : f ≡ first_failing (point_apart bs i) i) where
+        pub point-earlier : (j : ℕ) → f ≡ Some j → false ≡ point_kept bs i
         unfolding point_kept found_none
         point-earlier j e = rw (← ex, ← ep, lt-ltb 0 x (omega arith), lt-ltb x p l, ← ef, e)
 
-        pub point-new : f ≡ Nothing → true ≡ point_kept bs i
+        pub point-new : f ≡ None → true ≡ point_kept bs i
         unfolding point_kept found_none
         point-new e = rw (← ex, ← ep, lt-ltb 0 x (omega arith), lt-ltb x p l, ← ef, e)
 
@@ -214,7 +208,7 @@ module _ (bs : List ℕ) (is : (i : ℕ) → i < get_or bs 5 0 → point_at bs i
   unfolding point_kept found_none
   first-kept l i m = rw (is i m, lt-ltb 0 (suc i) (omega arith), lt-ltb (suc i) (field_at bs 0) (omega arith), passes-nothing (point_apart bs i) i (λ j k. first-apart i j m k))
 
-  pub points-pass : get_or bs 5 0 < field_at bs 0 → first_failing (point_kept bs) (get_or bs 5 0) ≡ Nothing
+  pub points-pass : get_or bs 5 0 < field_at bs 0 → first_failing (point_kept bs) (get_or bs 5 0) ≡ None
   points-pass l = passes-nothing (point_kept bs) (get_or bs 5 0) (first-kept l)
 
 -- and so they are in a file without points
@@ -222,18 +216,18 @@ pub point-is : (bs : List ℕ) → (layout_of bs).point ≡ 0 → (i : ℕ) → 
 unfolding point_at
 point-is bs v i = rw (eq-eqb (layout_of bs).point 0 v)
 
-pub first_points : (bs : List ℕ) (w : Layout) (n p : ℕ) → w ≡ layout_of bs → n ≡ get_or bs 5 0 → p ≡ field_at bs 0 → w.point ≡ 0 → n < p → Nothing ≡ first_failing (point_kept bs) (get_or bs 5 0)
+pub first_points : (bs : List ℕ) (w : Layout) (n p : ℕ) → w ≡ layout_of bs → n ≡ get_or bs 5 0 → p ≡ field_at bs 0 → w.point ≡ 0 → n < p → None ≡ first_failing (point_kept bs) (get_or bs 5 0)
 first_points bs w n p ew en ep h l = sym (points-pass bs (λ i m. point-is bs (ap (λ (x : Layout). x.point) (sym ew) ∙ h) i) (rw (← en, ← ep) l))
 
-pub all_points : (bs : List ℕ) (n : ℕ) (f : Found) → n ≡ get_or bs 5 0 → f ≡ first_failing (point_kept bs) n → f ≡ first_failing (point_kept bs) (get_or bs 5 0)
+pub all_points : (bs : List ℕ) (n : ℕ) (f : Option ℕ) → n ≡ get_or bs 5 0 → f ≡ first_failing (point_kept bs) n → f ≡ first_failing (point_kept bs) (get_or bs 5 0)
 all_points bs n f e h = rw (← e) h
 
-module _ (bs : List ℕ) (f : Found) (e : f ≡ first_failing (point_kept bs) (get_or bs 5 0)) where
-  pub points-wrong : (i : ℕ) → f ≡ At i → Refused refusal.Points ≡ points_check bs
+module _ (bs : List ℕ) (f : Option ℕ) (e : f ≡ first_failing (point_kept bs) (get_or bs 5 0)) where
+  pub points-wrong : (i : ℕ) → f ≡ Some i → Err refusal.Points ≡ points_check bs
   unfolding points_check unless_found
   points-wrong i h = rw (← e, h)
 
-  pub points-right : f ≡ Nothing → Passed ≡ points_check bs
+  pub points-right : f ≡ None → (Ok tt) ≡ points_check bs
   unfolding points_check unless_found
   points-right h = rw (← e, h)
 
@@ -335,26 +329,26 @@ pub ruleset placing = (rules, placed_end, placed-none, placed-elsewhere, placed-
 
 -- ---- refusals 1 to 4
 module _ (s : List ℕ) (t : Bool) (et : t ≡ (leb 18 (length s) && same_bytes (take 4 s) magic)) where
-  pub contents-magic : t ≡ false → Refused refusal.Magic ≡ first_of (take 4 (plan_checks s))
+  pub contents-magic : t ≡ false → Err refusal.Magic ≡ first_of (take 4 (plan_checks s))
   unfolding plan_checks first_of and_then need
   contents-magic h = rw (← et, h)
 
   module _ (ht : t ≡ true) (w : ℕ) (ew : w ≡ get_or s 4 0) (v : Bool) (ev : v ≡ between 1 3 w) where
-    pub contents-version : v ≡ false → Refused refusal.Version ≡ first_of (take 4 (plan_checks s))
+    pub contents-version : v ≡ false → Err refusal.Version ≡ first_of (take 4 (plan_checks s))
     unfolding plan_checks first_of and_then need
     contents-version h = rw (← et, ht, ← ew, ← ev, h)
 
     module _ (hv : v ≡ true) (n : ℕ) (en : n ≡ get_or s 5 0) (u : Bool) (eu : u ≡ parties_ok n) where
-      pub contents-parties : u ≡ false → Refused refusal.Parties ≡ first_of (take 4 (plan_checks s))
+      pub contents-parties : u ≡ false → Err refusal.Parties ≡ first_of (take 4 (plan_checks s))
       unfolding plan_checks first_of and_then need
       contents-parties h = rw (← et, ht, ← ew, ← ev, hv, ← en, ← eu, h)
 
       module _ (hu : u ≡ true) (d : ℕ) (ed : d ≡ get_or s 6 0) (x : Bool) (ex : x ≡ threshold_ok n d) where
-        pub contents-threshold : x ≡ false → Refused refusal.Threshold ≡ first_of (take 4 (plan_checks s))
+        pub contents-threshold : x ≡ false → Err refusal.Threshold ≡ first_of (take 4 (plan_checks s))
         unfolding plan_checks first_of and_then need
         contents-threshold h = rw (← et, ht, ← ew, ← ev, hv, ← en, ← eu, hu, ← ed, ← ex, h)
 
-        pub contents-passed : x ≡ true → Passed ≡ first_of (take 4 (plan_checks s))
+        pub contents-passed : x ≡ true → (Ok tt) ≡ first_of (take 4 (plan_checks s))
         unfolding plan_checks first_of and_then need
         contents-passed h = rw (← et, ht, ← ew, ← ev, hv, ← en, ← eu, hu, ← ed, ← ex, h)
 
@@ -362,107 +356,99 @@ pub ruleset contents = (rules, not-true, not-false, contents-magic, contents-ver
 
 -- ---- refusals 6 to 8, 25 and 26
 module _ (s : List ℕ) (t : Bool) (et : t ≡ layout_ok s) where
-  pub body-layout : t ≡ false → Refused refusal.Layout ≡ first_of (drop 5 (plan_checks s))
+  pub body-layout : t ≡ false → Err refusal.Layout ≡ first_of (drop 5 (plan_checks s))
   unfolding plan_checks first_of and_then need
   body-layout h = rw (← et, h)
 
   pub body-laid : t ≡ true → layout_ok s ≡ true
   body-laid h = sym et ∙ h
 
-  module _ (ht : t ≡ true) (f : Found) (ef : f ≡ first_failing (gate_kept s) (field_at s 2)) where
-    pub body-gate : (k : ℕ) → f ≡ At k → Refused (refusal.GateRule k) ≡ first_of (drop 5 (plan_checks s))
+  module _ (ht : t ≡ true) (f : Option ℕ) (ef : f ≡ first_failing (gate_kept s) (field_at s 2)) where
+    pub body-gate : (k : ℕ) → f ≡ Some k → Err (refusal.GateRule k) ≡ first_of (drop 5 (plan_checks s))
     unfolding plan_checks first_of and_then need unless_found
     body-gate k h = rw (← et, ht, ← ef, h)
 
-    module _ (hf : f ≡ Nothing) (o : Found) (eo : o ≡ first_failing (out_kept s) (field_at s 4)) where
-      pub body-out : (k : ℕ) → o ≡ At k → Refused (refusal.OutputRule k) ≡ first_of (drop 5 (plan_checks s))
+    module _ (hf : f ≡ None) (o : Option ℕ) (eo : o ≡ first_failing (out_kept s) (field_at s 4)) where
+      pub body-out : (k : ℕ) → o ≡ Some k → Err (refusal.OutputRule k) ≡ first_of (drop 5 (plan_checks s))
       unfolding plan_checks first_of and_then need unless_found
       body-out k h = rw (← et, ht, ← ef, hf, ← eo, h)
 
-      pub body-last : o ≡ Nothing → (c : Checked) → c ≡ first_of (drop 8 (plan_checks s)) → c ≡ first_of (drop 5 (plan_checks s))
+      pub body-last : o ≡ None → (c : Checked) → c ≡ first_of (drop 8 (plan_checks s)) → c ≡ first_of (drop 5 (plan_checks s))
       unfolding plan_checks first_of and_then need unless_found
       body-last h c ec = ec ∙ rw (← et, ht, ← ef, hf, ← eo, h)
 
 pub ruleset body = (rules, not-true, not-false, body-layout, body-laid, body-gate, body-out, body-last)
 
 module _ (s : List ℕ) (c : Checked) (ec : c ≡ majority_check s) where
-  pub last-majority : (r : Refusal) → c ≡ Refused r → Refused r ≡ first_of (drop 8 (plan_checks s))
+  pub last-majority : (r : Refusal) → c ≡ Err r → Err r ≡ first_of (drop 8 (plan_checks s))
   unfolding plan_checks first_of and_then
   last-majority r h = rw (← ec, h)
 
-  pub last-points : c ≡ Passed → (d : Checked) → d ≡ points_check s → d ≡ first_of (drop 8 (plan_checks s))
+  pub last-points : c ≡ (Ok tt) → (d : Checked) → d ≡ points_check s → d ≡ first_of (drop 8 (plan_checks s))
   unfolding plan_checks first_of and_then
   last-points h d ed = rw (← ec, h, ← ed) (sym (and_then_end d))
 
 pub ruleset last = (rules, last-majority, last-points)
 
 -- ---- the whole reading
-pub reading_passed : (c : Checked) (h : Header) → c ≡ Passed → reading.Passed h ≡ reading_of c h
-unfolding reading_of
-reading_passed c h e = rw e
-
-pub reading_refused : (c : Checked) (h : Header) (r : Refusal) → c ≡ Refused r → reading.Refused r ≡ reading_of c h
-unfolding reading_of
-reading_refused c h r e = rw e
-
 -- the field of a prime above n
-pub above_low : (n p : ℕ) → p ≤ n → made.Refused ≡ field_above n p
+pub above_low : (n p : ℕ) → p ≤ n → None ≡ field_above n p
 unfolding field_above
 above_low n p l = rw (le-ltb n p l) (pick (ltb p modulus_limit && is_prime p))
   where
-    pick : (b : Bool) → made.Refused ≡ cond (b && false) (made.Field (record { p = p })) made.Refused
+    pick : (b : Bool) → None ≡ cond {A = Option ℕ} (b && false) (Some p) None
     pick true = refl
     pick false = refl
 
-pub above-high : (n p : ℕ) → modulus_limit ≤ p → made.Refused ≡ field_above n p
+pub above-high : (n p : ℕ) → modulus_limit ≤ p → None ≡ field_above n p
 unfolding field_above
 above-high n p l = rw (le-ltb p modulus_limit l)
 
-pub above_made : (n p : ℕ) (m : Made) → n < p → p < modulus_limit → m ≡ made_of p → m ≡ field_above n p
+pub above_made : (n p : ℕ) (m : Option ℕ) → n < p → m ≡ made_of p → m ≡ field_above n p
 unfolding field_above made_of
-above_made n p m l k e =
-    let f : p < field_limit = omega arith in
-    rw (lt-ltb n p l, lt-ltb p modulus_limit k) (rw (lt-ltb p field_limit f) at e ∙ pick (is_prime p))
+above_made n p m l e = rw (lt-ltb n p l) (e ∙ pick (ltb p modulus_limit && is_prime p))
   where
-    pick : (b : Bool) → cond b (made.Field (record { p = p })) made.Refused ≡ cond (b && true) (made.Field (record { p = p })) made.Refused
+    pick : (b : Bool) → cond {A = Option ℕ} b (Some p) None ≡ cond (b && true) (Some p) None
     pick true = refl
     pick false = refl
 
-pub above-not : (n p : ℕ) → field_above n p ≡ made.Refused → modulus_ok n p ≡ false
+pub above-not : (n p : ℕ) → field_above n p ≡ None → modulus_ok n p ≡ false
 unfolding field_above
 above-not n p h = pick (modulus_ok n p) h
   where
-    pick : (t : Bool) → cond t (made.Field (record { p = p })) made.Refused ≡ made.Refused → t ≡ false
+    pick : (t : Bool) → cond {A = Option ℕ} t (Some p) None ≡ None → t ≡ false
     pick true e = let z : ◌≡◌ {A = ℕ} 0 1 = cc in absurd (omega arith)
     pick false e = refl
 
-pub above-is : (n p : ℕ) (f : Field) → field_above n p ≡ made.Field f → (modulus_ok n p ≡ true) × (f ≡ record { p = p })
+pub above-is : (n p q : ℕ) → field_above n p ≡ Some q → (modulus_ok n p ≡ true) × (q ≡ p)
 unfolding field_above
-above-is n p f h = pick (modulus_ok n p) h
+above-is n p q h = pick (modulus_ok n p) h
   where
-    pick : (t : Bool) → cond t (made.Field (record { p = p })) made.Refused ≡ made.Field f → (t ≡ true) × (f ≡ record { p = p })
+    pick : (t : Bool) → cond {A = Option ℕ} t (Some p) None ≡ Some q → (t ≡ true) × (q ≡ p)
     pick true e = (refl, (cc))
     pick false e = let z : ◌≡◌ {A = ℕ} 0 1 = cc in absurd (omega arith)
 
+-- the modulus of a field, if there is one
+abbrev pub modulus_in : Option Field → Option ℕ
+modulus_in m = option_map (λ (f : Field). f.p) m
+
 -- refusal 5, and what follows it
-module _ (s : List ℕ) (p : ℕ) (ep : p ≡ field_at s 0) (n : ℕ) (en : n ≡ get_or s 5 0) (m : Made) (em : m ≡ field_above n p) where
-  pub reading-no-field : m ≡ made.Refused → reading.Refused refusal.Modulus ≡ reading_of (first_of (drop 4 (plan_checks s))) (header_of s)
-  unfolding plan_checks first_of and_then need reading_of
-  reading-no-field h = rw (← ep, ← en, above-not n p (sym em ∙ h))
+module _ (s : List ℕ) (p : ℕ) (ep : p ≡ field_at s 0) (n : ℕ) (en : n ≡ get_or s 5 0) (m : Option Field) (em : modulus_in m ≡ field_above n p) where
+  pub reading-no-field : m ≡ None → first_of (drop 4 (plan_checks s)) ≡ Err refusal.Modulus
+  unfolding plan_checks first_of and_then need
+  reading-no-field h = rw (← ep, ← en, above-not n p (sym em ∙ ap (option_map (λ (f : Field). f.p)) h))
 
-  module _ (f : Field) (hf : m ≡ made.Field f) where
-    prime-passes : first_of (drop 4 (plan_checks s)) ≡ first_of (drop 5 (plan_checks s))
+  module _ (f : Field) (hf : m ≡ Some f) where
+    its : (modulus_ok n p ≡ true) × (f.p ≡ p)
+    its = above-is n p f.p (sym em ∙ ap (option_map (λ (g : Field). g.p)) hf)
+
+    pub reading-on : (c : Checked) → c ≡ first_of (drop 5 (plan_checks s)) → first_of (drop 4 (plan_checks s)) ≡ c
     unfolding plan_checks first_of and_then need
-    prime-passes = rw (← ep, ← en, (above-is n p f (sym em ∙ hf)).0)
+    reading-on c ec = rw (ec, ← ep, ← en, its.0)
 
-    module _ (t g o : ℕ) (et : t ≡ get_or s 6 0) (eg : g ≡ field_at s 2) (eo : o ≡ field_at s 4) where
-      its-header : record { n = n; t = t; field = f; gates = g; outs = o } ≡ header_of s
-      unfolding header_of
-      its-header = rw ((above-is n p f (sym em ∙ hf)).1, ep, en, et, eg, eo)
-
-      pub reading-on : (c : Checked) (r : Reading) → c ≡ first_of (drop 5 (plan_checks s)) → r ≡ reading_of c (record { n = n; t = t; field = f; gates = g; outs = o })
-          → r ≡ reading_of (first_of (drop 4 (plan_checks s))) (header_of s)
-      reading-on c r ec er = er ∙ rw (prime-passes, ec, its-header)
+    pub reading-header :
+        (t g o : ℕ) → t ≡ get_or s 6 0 → g ≡ field_at s 2 → o ≡ field_at s 4 → HeaderOf s (record { n = n; t = t; field = f; gates = g; outs = o })
+    reading-header t g o et eg eo = record { n = en; t = et; p = its.1 ∙ ep; gates = eg; outs = eo }
 
 -- the four before
 module _ (s : List ℕ) (c : Checked) (ec : c ≡ first_of (take 4 (plan_checks s))) where
@@ -470,53 +456,10 @@ module _ (s : List ℕ) (c : Checked) (ec : c ≡ first_of (take 4 (plan_checks 
   unfolding plan_check
   parts = rw (← first_of-append (take 4 (plan_checks s)) (drop 4 (plan_checks s)), take-append-drop 4 (plan_checks s))
 
-  pub read-contents : (r : Refusal) → c ≡ Refused r → reading.Refused r ≡ read_plan s
-  unfolding read_plan reading_of
-  read-contents r h = rw (parts, and_then_refused (first_of (take 4 (plan_checks s))) (first_of (drop 4 (plan_checks s))) r (sym ec ∙ h))
+  pub read-contents : (r : Refusal) → c ≡ Err r → plan_check s ≡ Err r
+  read-contents r h = parts ∙ and_then_refused (first_of (take 4 (plan_checks s))) (first_of (drop 4 (plan_checks s))) r (sym ec ∙ h)
 
-  pub read-further : c ≡ Passed → (r : Reading) → r ≡ reading_of (first_of (drop 4 (plan_checks s))) (header_of s) → r ≡ read_plan s
-  unfolding read_plan
-  read-further h r e = e ∙ rw (parts, and_then_passed (first_of (take 4 (plan_checks s))) (first_of (drop 4 (plan_checks s))) (sym ec ∙ h))
+  pub read-further : c ≡ (Ok tt) → (d : Checked) → first_of (drop 4 (plan_checks s)) ≡ d → plan_check s ≡ d
+  read-further h d e = parts ∙ and_then_passed (first_of (take 4 (plan_checks s))) (first_of (drop 4 (plan_checks s))) (sym ec ∙ h) ∙ e
 
--- ---- what a reading says of the check
-pub of_passed : (c : Checked) (h k : Header) → reading_of c h ≡ reading.Passed k → (c ≡ Passed) × (k ≡ h)
-unfolding reading_of
-of_passed Passed h k e = (refl, (cc))
-of_passed (Refused r) h k e = let z : ◌≡◌ {A = ℕ} 0 1 = cc in absurd (omega arith)
-
-pub of_refused : (c : Checked) (h : Header) (r : Refusal) → reading_of c h ≡ reading.Refused r → c ≡ Refused r
-unfolding reading_of
-of_refused Passed h r e = let z : ◌≡◌ {A = ℕ} 0 1 = cc in absurd (omega arith)
-of_refused (Refused q) h r e = cc
-
-pub check_of_passed : (s : List ℕ) (r : Reading) (h : Header) → r ≡ read_plan s → r ≡ reading.Passed h → Passed ≡ plan_check s
-unfolding read_plan
-check_of_passed s r h e f = sym (of_passed (plan_check s) (header_of s) h (sym e ∙ f)).0
-
-pub check_of_refused : (s : List ℕ) (r : Reading) (q : Refusal) → r ≡ read_plan s → r ≡ reading.Refused q → Refused q ≡ plan_check s
-unfolding read_plan
-check_of_refused s r q e f = sym (of_refused (plan_check s) (header_of s) q (sym e ∙ f))
-
-pub outcome_passed : (r : Reading) (h : Header) → r ≡ reading.Passed h → Passed ≡ outcome_of r
-unfolding outcome_of
-outcome_passed r h e = rw e
-
-pub outcome_refused : (r : Reading) (q : Refusal) → r ≡ reading.Refused q → Refused q ≡ outcome_of r
-unfolding outcome_of
-outcome_refused r q e = rw e
-
-of_outcome : (c : Checked) (h : Header) → outcome_of (reading_of c h) ≡ c
-unfolding outcome_of reading_of
-of_outcome Passed h = refl
-of_outcome (Refused r) h = refl
-
--- a reading's outcome is the plan's check
-pub read_outcome : (s : List ℕ) (r : Reading) (c : Checked) → ReadAs s r → c ≡ outcome_of r → c ≡ plan_check s
-unfolding read_plan
-read_outcome s r c a e = e ∙ ap outcome_of a.eq ∙ of_outcome (plan_check s) (header_of s)
-
-pub header_of_passed : (s : List ℕ) (h : Header) → read_plan s ≡ reading.Passed h → h ≡ header_of s
-unfolding read_plan
-header_of_passed s h e = (of_passed (plan_check s) (header_of s) h e).1
-
-pub ruleset reads = (rules, reading_passed, reading_refused, above_low, above-high, above_made, reading-no-field, reading-on, read-contents, read-further, outcome_passed, outcome_refused, read_outcome)
+pub ruleset reads = (rules, above_low, above-high, above_made, reading-no-field, reading-on, reading-header, read-contents, read-further)

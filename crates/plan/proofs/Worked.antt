@@ -1,6 +1,7 @@
--- Sums worked by hand in document 01, as far as they concern a plan: P6, P7, and the plans of P8 to P10.
+-- Sums worked by hand, as far as they concern a plan: P6, P7, and the plans of P8 to P10.
 -- Each table is computed. Of two faults at once the earlier refusal wins.
 -- Assumes nothing.
+use Rattle.std.proofs.Common.{Ok, Err}
 use Prim.Native.Nat.{ℕ, ◌/◌, ◌%◌}
 use mathlib.Core.Path.{◌≡◌, refl}
 use mathlib.Core.List.{List, [], ◌∷◌, ◌++◌, map, flat_map}
@@ -8,8 +9,7 @@ use lib.ListN.{take}
 use Rattle.numbers.specs.Tables.{tab, first_from, first_failing, count_where}
 use Rattle.numbers.specs.Bytes.{number_at, word_at}
 use Rattle.field.specs.Prime.{divisor_from, divisor_of, is_prime}
-use Rattle.plan.specs.declared.Checked.{Checked}
-use Rattle.plan.specs.declared.Checked.TheVariants.{Passed, Refused}
+use Rattle.plan.specs.Refusals.{Checked}
 use Rattle.plan.specs.declared.Refusal.TheVariants as refusal
 use Rattle.plan.specs.Refusals.{first_of, and_then, need, unless_found}
 use Rattle.plan.specs.declared.Step.TheVariants.{DealInputs, DealProduct, SendOuts}
@@ -61,35 +61,35 @@ row bytes answer = record { bytes = bytes; answer = answer }
 -- P6 to P10
 pub worked : List Row
 worked =
-    row k Passed
-    ∷ row single Passed
-    ∷ row (plan 1 2 1 0 11) (Refused (refusal.OutputRule 0))
-    ∷ row (plan 1 15 7 0 17) Passed
-    ∷ row (plan 1 3 3 0 11) (Refused refusal.Threshold)
-    ∷ row (contents 1 2 1 0 11 ++ (input1 ++ (input2 ++ (multiply ++ (add ++ (2 ∷ 3 ∷ 0 ∷ [])))))) (Refused refusal.Majority)
-    ∷ row (plan 1 4 2 0 11) (Refused refusal.Majority)
-    ∷ row (plan 1 3 1 0 3) (Refused refusal.Modulus)
-    ∷ row (plan 1 3 1 0 9) (Refused refusal.Modulus)
-    ∷ row (plan 1 3 1 0 65521) Passed
-    ∷ row (plan 1 3 1 0 65535) (Refused refusal.Modulus)
+    row k (Ok tt)
+    ∷ row single (Ok tt)
+    ∷ row (plan 1 2 1 0 11) (Err (refusal.OutputRule 0))
+    ∷ row (plan 1 15 7 0 17) (Ok tt)
+    ∷ row (plan 1 3 3 0 11) (Err refusal.Threshold)
+    ∷ row (contents 1 2 1 0 11 ++ (input1 ++ (input2 ++ (multiply ++ (add ++ (2 ∷ 3 ∷ 0 ∷ [])))))) (Err refusal.Majority)
+    ∷ row (plan 1 4 2 0 11) (Err refusal.Majority)
+    ∷ row (plan 1 3 1 0 3) (Err refusal.Modulus)
+    ∷ row (plan 1 3 1 0 9) (Err refusal.Modulus)
+    ∷ row (plan 1 3 1 0 65521) (Ok tt)
+    ∷ row (plan 1 3 1 0 65535) (Err refusal.Modulus)
     ∷ []
 
 -- two faults at once
 pub faults : List Row
 faults =
-    row (1 ∷ 1 ∷ []) (Refused refusal.Magic)
-    ∷ row (80 ∷ plan 5 3 1 0 11) (Refused refusal.Magic)
-    ∷ row (plan 5 16 1 0 11) (Refused refusal.Version)
-    ∷ row (plan 0 16 1 0 11) (Refused refusal.Version)
-    ∷ row (plan 1 0 1 0 11) (Refused refusal.Parties)
-    ∷ row (plan 1 2 2 0 9) (Refused refusal.Threshold)
-    ∷ row (plan 1 3 1 1 9) (Refused refusal.Modulus)
-    ∷ row (contents 1 3 1 1 11 ++ (add ++ (input2 ++ (multiply ++ (add ++ out))))) (Refused refusal.Layout)
-    ∷ row (contents 1 3 1 0 11 ++ (add ++ (add ++ (multiply ++ (add ++ out))))) (Refused (refusal.GateRule 0))
-    ∷ row (contents 1 3 1 0 11 ++ (input1 ++ (multiply ++ (multiply ++ (add ++ (0 ∷ 3 ∷ 0 ∷ [])))))) (Refused (refusal.GateRule 1))
-    ∷ row (contents 1 3 2 0 11 ++ (input1 ++ (input2 ++ (multiply ++ (add ++ (4 ∷ 4 ∷ 0 ∷ [])))))) (Refused (refusal.OutputRule 0))
-    ∷ row (contents 1 3 2 0 11 ++ (input1 ++ (input2 ++ (input1 ++ (add ++ out))))) Passed
-    ∷ row (contents 1 3 1 0 11 ++ (input1 ++ (input2 ++ (multiply ++ (add ++ (4 ∷ 4 ∷ 0 ∷ [])))))) (Refused (refusal.OutputRule 0))
+    row (1 ∷ 1 ∷ []) (Err refusal.Magic)
+    ∷ row (80 ∷ plan 5 3 1 0 11) (Err refusal.Magic)
+    ∷ row (plan 5 16 1 0 11) (Err refusal.Version)
+    ∷ row (plan 0 16 1 0 11) (Err refusal.Version)
+    ∷ row (plan 1 0 1 0 11) (Err refusal.Parties)
+    ∷ row (plan 1 2 2 0 9) (Err refusal.Threshold)
+    ∷ row (plan 1 3 1 1 9) (Err refusal.Modulus)
+    ∷ row (contents 1 3 1 1 11 ++ (add ++ (input2 ++ (multiply ++ (add ++ out))))) (Err refusal.Layout)
+    ∷ row (contents 1 3 1 0 11 ++ (add ++ (add ++ (multiply ++ (add ++ out))))) (Err (refusal.GateRule 0))
+    ∷ row (contents 1 3 1 0 11 ++ (input1 ++ (multiply ++ (multiply ++ (add ++ (0 ∷ 3 ∷ 0 ∷ [])))))) (Err (refusal.GateRule 1))
+    ∷ row (contents 1 3 2 0 11 ++ (input1 ++ (input2 ++ (multiply ++ (add ++ (4 ∷ 4 ∷ 0 ∷ [])))))) (Err (refusal.OutputRule 0))
+    ∷ row (contents 1 3 2 0 11 ++ (input1 ++ (input2 ++ (input1 ++ (add ++ out))))) (Ok tt)
+    ∷ row (contents 1 3 1 0 11 ++ (input1 ++ (input2 ++ (multiply ++ (add ++ (4 ∷ 4 ∷ 0 ∷ [])))))) (Err (refusal.OutputRule 0))
     ∷ []
 
 -- K of version 2: its contents, with where the points stand, gates and out, and points
@@ -101,21 +101,21 @@ kept version place points =
 -- the offset, the length and a file that ends in its contents
 pub pointed : List Row
 pointed =
-    row (kept 2 47 (7 ∷ 0 ∷ 40 ∷ 0 ∷ 3 ∷ 0 ∷ [])) Passed
-    ∷ row (kept 2 47 (7 ∷ 0 ∷ 100 ∷ 0 ∷ 1 ∷ 0 ∷ [])) Passed
-    ∷ row (kept 2 47 (7 ∷ 0 ∷ 0 ∷ 0 ∷ 3 ∷ 0 ∷ [])) (Refused refusal.Points)
-    ∷ row (kept 2 47 (7 ∷ 0 ∷ 40 ∷ 0 ∷ 101 ∷ 0 ∷ [])) (Refused refusal.Points)
-    ∷ row (kept 2 47 (7 ∷ 0 ∷ 40 ∷ 1 ∷ 3 ∷ 0 ∷ [])) (Refused refusal.Points)
-    ∷ row (kept 2 47 (7 ∷ 0 ∷ 7 ∷ 0 ∷ 3 ∷ 0 ∷ [])) (Refused refusal.Points)
-    ∷ row (kept 2 47 (7 ∷ 0 ∷ 40 ∷ 0 ∷ 7 ∷ 0 ∷ [])) (Refused refusal.Points)
-    ∷ row (kept 2 45 (7 ∷ 0 ∷ 40 ∷ 0 ∷ 3 ∷ 0 ∷ [])) (Refused refusal.Layout)
-    ∷ row (kept 2 47 (7 ∷ 0 ∷ 40 ∷ 0 ∷ [])) (Refused refusal.Layout)
-    ∷ row (kept 1 47 (7 ∷ 0 ∷ 40 ∷ 0 ∷ 3 ∷ 0 ∷ [])) (Refused refusal.Layout)
-    ∷ row (80 ∷ 79 ∷ 79 ∷ 76 ∷ 2 ∷ 3 ∷ 2 ∷ 0 ∷ 101 ∷ 0 ∷ 20 ∷ 0 ∷ 4 ∷ 0 ∷ 44 ∷ 0 ∷ 1 ∷ 0 ∷ 47 ∷ 0 ∷ (body ++ (7 ∷ 0 ∷ 7 ∷ 0 ∷ 3 ∷ 0 ∷ []))) (Refused refusal.Majority)
-    ∷ row (plan 2 3 1 0 11) (Refused refusal.Layout)
-    ∷ row (contents 2 3 1 0 11) (Refused refusal.Layout)
-    ∷ row (contents 2 3 1 0 11 ++ (0 ∷ [])) (Refused refusal.Layout)
-    ∷ row (contents 2 3 1 0 9) (Refused refusal.Modulus)
+    row (kept 2 47 (7 ∷ 0 ∷ 40 ∷ 0 ∷ 3 ∷ 0 ∷ [])) (Ok tt)
+    ∷ row (kept 2 47 (7 ∷ 0 ∷ 100 ∷ 0 ∷ 1 ∷ 0 ∷ [])) (Ok tt)
+    ∷ row (kept 2 47 (7 ∷ 0 ∷ 0 ∷ 0 ∷ 3 ∷ 0 ∷ [])) (Err refusal.Points)
+    ∷ row (kept 2 47 (7 ∷ 0 ∷ 40 ∷ 0 ∷ 101 ∷ 0 ∷ [])) (Err refusal.Points)
+    ∷ row (kept 2 47 (7 ∷ 0 ∷ 40 ∷ 1 ∷ 3 ∷ 0 ∷ [])) (Err refusal.Points)
+    ∷ row (kept 2 47 (7 ∷ 0 ∷ 7 ∷ 0 ∷ 3 ∷ 0 ∷ [])) (Err refusal.Points)
+    ∷ row (kept 2 47 (7 ∷ 0 ∷ 40 ∷ 0 ∷ 7 ∷ 0 ∷ [])) (Err refusal.Points)
+    ∷ row (kept 2 45 (7 ∷ 0 ∷ 40 ∷ 0 ∷ 3 ∷ 0 ∷ [])) (Err refusal.Layout)
+    ∷ row (kept 2 47 (7 ∷ 0 ∷ 40 ∷ 0 ∷ [])) (Err refusal.Layout)
+    ∷ row (kept 1 47 (7 ∷ 0 ∷ 40 ∷ 0 ∷ 3 ∷ 0 ∷ [])) (Err refusal.Layout)
+    ∷ row (80 ∷ 79 ∷ 79 ∷ 76 ∷ 2 ∷ 3 ∷ 2 ∷ 0 ∷ 101 ∷ 0 ∷ 20 ∷ 0 ∷ 4 ∷ 0 ∷ 44 ∷ 0 ∷ 1 ∷ 0 ∷ 47 ∷ 0 ∷ (body ++ (7 ∷ 0 ∷ 7 ∷ 0 ∷ 3 ∷ 0 ∷ []))) (Err refusal.Majority)
+    ∷ row (plan 2 3 1 0 11) (Err refusal.Layout)
+    ∷ row (contents 2 3 1 0 11) (Err refusal.Layout)
+    ∷ row (contents 2 3 1 0 11 ++ (0 ∷ [])) (Err refusal.Layout)
+    ∷ row (contents 2 3 1 0 9) (Err refusal.Modulus)
     ∷ []
 
 -- K of version 3: four bytes a number; its version, n, t, the four bytes of p, where the outs stand and what follows the contents
@@ -138,19 +138,19 @@ point4 low high = low ∷ 0 ∷ high ∷ 0 ∷ []
 -- 101 and 65,537 as primes of four bytes, a point above 65,535, and the file that ends in its contents: 6 after 3, 4 and 5
 pub third : List Row
 third =
-    row (wide 3 3 1 (point4 101 0) 72 (wide_body ++ (point4 7 0 ++ (point4 40 0 ++ point4 3 0)))) Passed
-    ∷ row (wide 3 3 1 (point4 1 1) 72 (wide_body ++ (point4 7 0 ++ (point4 0 1 ++ point4 3 0)))) Passed
-    ∷ row (wide 3 3 1 (point4 1 1) 72 (wide_body ++ (point4 7 0 ++ (point4 1 1 ++ point4 3 0)))) (Refused refusal.Points)
-    ∷ row (wide 3 3 1 (point4 2 1) 72 (wide_body ++ (point4 7 0 ++ (point4 40 0 ++ point4 3 0)))) (Refused refusal.Modulus)
-    ∷ row (wide 3 3 1 (point4 101 0) 73 (wide_body ++ (point4 7 0 ++ (point4 40 0 ++ point4 3 0)))) (Refused refusal.Layout)
-    ∷ row (wide 3 3 1 (point4 101 0) 72 (wide_body ++ (point4 7 0 ++ point4 40 0))) (Refused refusal.Layout)
-    ∷ row (wide 4 3 1 (point4 101 0) 72 (wide_body ++ (point4 7 0 ++ (point4 40 0 ++ point4 3 0)))) (Refused refusal.Version)
-    ∷ row (wide 2 3 1 (point4 101 0) 72 (wide_body ++ (point4 7 0 ++ (point4 40 0 ++ point4 3 0)))) (Refused refusal.Layout)
-    ∷ row (contents 3 16 1 0 11) (Refused refusal.Parties)
-    ∷ row (contents 3 3 3 0 11) (Refused refusal.Threshold)
-    ∷ row (take 18 (wide 3 3 1 (point4 9 0) 72 [])) (Refused refusal.Modulus)
-    ∷ row (take 18 (wide 3 3 1 (point4 11 0) 72 [])) (Refused refusal.Layout)
-    ∷ row (take 31 (wide 3 3 1 (point4 11 0) 72 [])) (Refused refusal.Layout)
+    row (wide 3 3 1 (point4 101 0) 72 (wide_body ++ (point4 7 0 ++ (point4 40 0 ++ point4 3 0)))) (Ok tt)
+    ∷ row (wide 3 3 1 (point4 1 1) 72 (wide_body ++ (point4 7 0 ++ (point4 0 1 ++ point4 3 0)))) (Ok tt)
+    ∷ row (wide 3 3 1 (point4 1 1) 72 (wide_body ++ (point4 7 0 ++ (point4 1 1 ++ point4 3 0)))) (Err refusal.Points)
+    ∷ row (wide 3 3 1 (point4 2 1) 72 (wide_body ++ (point4 7 0 ++ (point4 40 0 ++ point4 3 0)))) (Err refusal.Modulus)
+    ∷ row (wide 3 3 1 (point4 101 0) 73 (wide_body ++ (point4 7 0 ++ (point4 40 0 ++ point4 3 0)))) (Err refusal.Layout)
+    ∷ row (wide 3 3 1 (point4 101 0) 72 (wide_body ++ (point4 7 0 ++ point4 40 0))) (Err refusal.Layout)
+    ∷ row (wide 4 3 1 (point4 101 0) 72 (wide_body ++ (point4 7 0 ++ (point4 40 0 ++ point4 3 0)))) (Err refusal.Version)
+    ∷ row (wide 2 3 1 (point4 101 0) 72 (wide_body ++ (point4 7 0 ++ (point4 40 0 ++ point4 3 0)))) (Err refusal.Layout)
+    ∷ row (contents 3 16 1 0 11) (Err refusal.Parties)
+    ∷ row (contents 3 3 3 0 11) (Err refusal.Threshold)
+    ∷ row (take 18 (wide 3 3 1 (point4 9 0) 72 [])) (Err refusal.Modulus)
+    ∷ row (take 18 (wide 3 3 1 (point4 11 0) 72 [])) (Err refusal.Layout)
+    ∷ row (take 31 (wide 3 3 1 (point4 11 0) 72 [])) (Err refusal.Layout)
     ∷ []
 
 pub plans_worked : map (λ r. plan_check r.bytes) (worked ++ (faults ++ (pointed ++ third))) ≡ map (λ r. r.answer) (worked ++ (faults ++ (pointed ++ third)))

@@ -1,24 +1,15 @@
--- The plan file of versions 1 to 3 (document 01; R-3, R-4 and R-6 of document 02): its checks, 1 to 8, 25 and 26, and the plan that it stands for.
-use Rattle.std.specs.Prelude.{ℕ, suc, ◌+◌, ◌*◌, Bool, true, false, cond, not, ◌&&◌, List, [], ◌∷◌, eqb, leb, ltb, length, take, get_or}
+-- The plan file of versions 1 to 3: its checks, 1 to 8, 25 and 26, and the plan that it stands for.
+use Rattle.std.specs.Prelude.{Option, Some, None, ℕ, suc, ◌+◌, ◌*◌, Bool, true, false, cond, not, ◌&&◌, List, [], ◌∷◌, eqb, leb, ltb, length, take, get_or}
 use Rattle.numbers.specs.Tables.{tab, first_failing}
 use Rattle.numbers.specs.Bytes.{number_at, word_at}
-use Rattle.numbers.specs.declared.Found.{Found}
-use Rattle.numbers.specs.declared.Found.TheVariants.{At, Nothing}
-use Rattle.field.specs.declared.Made.{Made}
-use Rattle.field.specs.declared.Made.TheVariants as made
 use Rattle.field.specs.Prime.{is_prime}
 use Rattle.plan.specs.declared.Gate.{Gate}
 use Rattle.plan.specs.declared.Gate.TheVariants.{Input, Add, Scale, Offset, Multiply, Random, Spend}
 use Rattle.plan.specs.declared.Rule.TheVariants.{Reduction}
 use Rattle.plan.specs.declared.Output.{Output}
 use Rattle.plan.specs.declared.Layout.{Layout}
-use Rattle.plan.specs.declared.Header.{Header}
-use Rattle.plan.specs.declared.Reading.{Reading}
-use Rattle.plan.specs.declared.Reading.TheVariants as reading
-use Rattle.plan.specs.declared.Checked.{Checked}
-use Rattle.plan.specs.declared.Checked.TheVariants.{Passed, Refused}
 use Rattle.plan.specs.declared.Refusal.TheVariants as refusal
-use Rattle.plan.specs.Refusals.{first_of, need, unless_found}
+use Rattle.plan.specs.Refusals.{Checked, first_of, need, unless_found}
 use Rattle.plan.specs.Plans.{Plan, multiplying}
 
 -- the ASCII letters POOL
@@ -135,9 +126,9 @@ unfoldable pub majority_kept : List ℕ → ℕ → Bool
 majority_kept bs g = majority_ok (n_at bs) (t_at bs) (gate_at bs g)
 
 -- a search that found nothing
-unfoldable pub found_none : Found → Bool
-found_none (At i) = false
-found_none Nothing = true
+unfoldable pub found_none : Option ℕ → Bool
+found_none (Some i) = false
+found_none None = true
 
 -- the point of party i + 1 is not 0, is below p and is no earlier party's
 unfoldable pub point_apart : List ℕ → ℕ → ℕ → Bool
@@ -213,23 +204,6 @@ plan_of bs =
     }
 
 -- ---- for the code alone: no other definition and no demand cites these
--- the field of such a prime
-unfoldable pub field_above : ℕ → ℕ → Made
-field_above n p = cond (modulus_ok n p) (made.Field (record { p = p })) made.Refused
-
-unfoldable pub header_of : List ℕ → Header
-header_of bs =
-    record { n = n_at bs; t = t_at bs; field = record { p = p_at bs }; gates = gate_count_at bs; outs = out_count_at bs }
-
-unfoldable pub reading_of : Checked → Header → Reading
-reading_of Passed h = reading.Passed h
-reading_of (Refused r) h = reading.Refused r
-
--- what reading a plan answers
-unfoldable pub read_plan : List ℕ → Reading
-read_plan bs = reading_of (plan_check bs) (header_of bs)
-
--- what a reading answers as a check
-unfoldable pub outcome_of : Reading → Checked
-outcome_of (reading.Passed h) = Passed
-outcome_of (reading.Refused r) = Refused r
+-- the modulus of the field of such a prime
+unfoldable pub field_above : ℕ → ℕ → Option ℕ
+field_above n p = cond (modulus_ok n p) (Some p) None

@@ -1,15 +1,21 @@
 -- A plan that passes, with its contents: what the functions over a plan ask of their caller.
-use Rattle.std.specs.Prelude.{ℕ, ◌+◌, ◌≤◌, ◌<◌, ◌≡◌, List, length}
+use Rattle.std.specs.Prelude.{Ok, ℕ, ◌+◌, ◌≤◌, ◌<◌, ◌≡◌, List, length}
 use Rattle.plan.specs.declared.Header.{Header}
 use Rattle.plan.specs.declared.Layout.{Layout}
-use Rattle.plan.specs.declared.Reading.{Reading}
-use Rattle.plan.specs.declared.Checked.TheVariants.{Passed}
-use Rattle.plan.specs.File.{layout_of, gate_place, plan_check, header_of, read_plan}
+use Rattle.plan.specs.File.{layout_of, gate_place, plan_check, n_at, t_at, p_at, gate_count_at, out_count_at}
+
+-- the contents that a file's bytes say
+pub record HeaderOf (bs : List ℕ) (h : Header) : Type 0 where
+  pub n : h.n ≡ n_at bs
+  pub t : h.t ≡ t_at bs
+  pub p : h.field.p ≡ p_at bs
+  pub gates : h.gates ≡ gate_count_at bs
+  pub outs : h.outs ≡ out_count_at bs
 
 -- the bounds follow from the first two fields; they stand here for arithmetic to find
 pub record Planned (bs : List ℕ) (h : Header) : Type 0 where
-  pub passes : plan_check bs ≡ Passed
-  pub is : h ≡ header_of bs
+  pub passes : plan_check bs ≡ (Ok tt)
+  pub is : HeaderOf bs h
   pub n_low : 1 ≤ h.n
   pub n-high : h.n ≤ 15
   pub threshold : h.t < h.n
@@ -19,10 +25,6 @@ pub record Planned (bs : List ℕ) (h : Header) : Type 0 where
   pub gates-high : h.gates ≤ 1024
   pub outs_low : 1 ≤ h.outs
   pub outs-high : h.outs ≤ 64
-
--- what reading the bytes of a plan answers
-pub record ReadAs (bs : List ℕ) (r : Reading) : Type 0 where
-  pub eq : r ≡ read_plan bs
 
 -- the file has all bytes of gate g, and this layout
 pub record Within (bs : List ℕ) (l : Layout) (g : ℕ) : Type 0 where

@@ -11,7 +11,7 @@ use Rattle.plan.specs.declared.Step.{Step}
 use Rattle.plan.specs.declared.Step.TheVariants.{DealInputs, DealProduct, DealZero, DealMasked, SendTruncated, DealDraws, OpenSpent, SendOuts}
 use Rattle.plan.specs.declared.Dealing.{Dealing}
 
--- party i's point is the i-th, counted from 1; there are as many parties (document 01: seats) as points
+-- party i's point is the i-th, counted from 1; there are as many parties (seats) as points
 pub record Plan : Type 0 where
   pub t : ℕ
   pub p : ℕ
@@ -88,7 +88,7 @@ unfoldable pub out_wires : Plan → ℕ → List ℕ
 out_wires plan i = out_wires_of i plan.outs
 
 -- ---- who owns the numbers of a run's lists
--- the parties whose inputs (document 01: figures; document 02: draws too) a gate takes
+-- the parties whose inputs (figures, and draws) a gate takes
 unfoldable pub input_owners_at : Plan → Gate → List ℕ
 input_owners_at plan (Input s) = s ∷ []
 input_owners_at plan (Add a b) = []

@@ -1,11 +1,11 @@
--- Refusals (document 01, "The refusals, in checking order"; document 02): a call's checks are one list, and its answer is the first that does not hold.
-use Rattle.std.specs.Prelude.{ℕ, ◌+◌, ◌*◌, ◌%◌, Bool, cond, List, [], ◌∷◌}
-use Rattle.numbers.specs.declared.Found.{Found}
-use Rattle.numbers.specs.declared.Found.TheVariants.{At, Nothing}
+-- Refusals in checking order: a call's checks are one list, and its answer is the first that does not hold.
+use Rattle.std.specs.Prelude.{Option, Some, None, Result, Ok, Err, ℕ, ◌+◌, ◌*◌, ◌%◌, Bool, cond, List, [], ◌∷◌}
 use Rattle.plan.specs.declared.Refusal.{Refusal}
 use Rattle.plan.specs.declared.Refusal.TheVariants as refusal
-use Rattle.plan.specs.declared.Checked.{Checked}
-use Rattle.plan.specs.declared.Checked.TheVariants.{Passed, Refused}
+
+-- what a check answers
+abbrev pub Checked : Type 0
+Checked = Result Unit Refusal
 
 -- a refusal's number
 unfoldable pub number_of : Refusal → ℕ
@@ -75,24 +75,24 @@ place_of (refusal.OutputsDiffer o) = o
 
 -- the answer of a C call that gives no number of its own: bits 0 to 7 are the refusal's number, bits 8 to 39 its place; 0 where there is none
 unfoldable pub code_of : Checked → ℕ
-code_of Passed = 0
-code_of (Refused r) = number_of r + 256 * (place_of r % 4294967296)
+code_of (Ok tt) = 0
+code_of (Err r) = number_of r + 256 * (place_of r % 4294967296)
 
 -- the first of two checks that does not hold
 unfoldable pub and_then : Checked → Checked → Checked
-and_then Passed c = c
-and_then (Refused r) c = Refused r
+and_then (Ok tt) c = c
+and_then (Err r) c = Err r
 
 -- the first of a list of checks that does not hold
 unfoldable pub first_of : List Checked → Checked
-first_of [] = Passed
+first_of [] = (Ok tt)
 first_of (c ∷ cs) = and_then c (first_of cs)
 
 -- a refusal unless the test holds
 unfoldable pub need : Refusal → Bool → Checked
-need r ok = cond ok Passed (Refused r)
+need r ok = cond ok (Ok tt) (Err r)
 
 -- a refusal with the place that a search found
-unfoldable pub unless_found : (ℕ → Refusal) → Found → Checked
-unless_found r (At i) = Refused (r i)
-unless_found r Nothing = Passed
+unfoldable pub unless_found : (ℕ → Refusal) → Option ℕ → Checked
+unless_found r (Some i) = Err (r i)
+unless_found r None = (Ok tt)

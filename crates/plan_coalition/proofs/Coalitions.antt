@@ -5,7 +5,7 @@
 --     bits                           what closes the needs of the functions over a set
 -- Assumes nothing.
 use mathlib.Core.Path.{◌≡◌, refl, sym, ap, ◌∙◌}
-use mathlib.Core.Logic.{◌≢◌, ◌⊎◌, ⊎_elim}
+use mathlib.Core.Logic.{◌≢◌, ⊎_elim}
 use mathlib.Core.Bool.{Bool, true, false, not, cond}
 use mathlib.Core.List.Memᴰ
 use mathlib.Core.List.{List, [], ◌∷◌, Memᴰ}
@@ -16,7 +16,7 @@ use native.Mathlib.Omega.{arith}
 use borrow.Author.Rules.{rules}
 use borrow.Author.Tests.{ltb-true, lt-ltb, le-ltb, lt-leb, ne_eqb, leb-true, leb-false}
 use mir.Syntax.{w16}
-use mir.Val.{Fits}
+use mir.Val.{Fits, bool_byte}
 use lib.Bits.{bit_and, and_mask}
 use lib.Pow.{pow_pos, pow_mono}
 use lib.Dec.{eqb, leb, ltb}
@@ -59,14 +59,19 @@ pub membering_begin : (set : ℕ) → Membering set 0 1
 unfolding members
 membering_begin set = record { low = omega arith; high = omega arith; le = omega arith; is = omega arith }
 
-one_more : (t : Bool) (i : ℕ) (xs : List ℕ) → length (cond t (i ∷ xs) xs) ≡ cond t 1 0 + length xs
+one_more : (t : Bool) (i : ℕ) (xs : List ℕ) → length (cond t (i ∷ xs) xs) ≡ bool_byte t + length xs
 one_more true i xs = omega arith
 one_more false i xs = omega arith
 
+at_most_one : (t : Bool) → bool_byte t ≤ 1
+at_most_one true = omega arith
+at_most_one false = omega arith
+
 module _ (set k i : ℕ) (h : Membering set k i) where
-  pub membering_next : i ≤ 16 → (t : Bool) (o : ℕ) → t ≡ in_set set i → o ≡ cond t 1 0 → o ≤ 1 → Membering set (k + o) (i + 1)
+  pub membering_next : i ≤ 16 → (t : Bool) (o : ℕ) → t ≡ in_set set i → o ≡ bool_byte t → Membering set (k + o) (i + 1)
   unfolding members_from
-  membering_next l t o et eo small =
+  membering_next l t o et eo =
+      let small : bool_byte t ≤ 1 = at_most_one t in
       let e : 17 - i ≡ suc (17 - (i + 1)) = omega arith in
       let s : k + length (members_from set i (suc (17 - (i + 1)))) ≡ length (members set) = rw e at h.is in
       let m : length (members_from set i (suc (17 - (i + 1)))) ≡ o + length (members_from set (suc i) (17 - (i + 1)))

@@ -1,4 +1,4 @@
--- P10 of document 01: of the sets {}, {1}, {1, 2}, {3}, {1, 2, 3} and {4} those that fit n = 3 and t = 1, as in plan K.
+-- P10: of the sets {}, {1}, {1, 2}, {3}, {1, 2, 3} and {4} those that fit n = 3 and t = 1, as in plan K.
 -- Computed; assumes nothing.
 use mathlib.Core.Path.{◌≡◌, refl}
 use mathlib.Core.Bool.{true, false}

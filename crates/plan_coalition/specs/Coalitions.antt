@@ -1,4 +1,4 @@
--- A coalition (document 01: a set of plants) is a 16-bit number: bit i - 1 stands for party i.
+-- A coalition (a set of plants) is a 16-bit number: bit i - 1 stands for party i.
 use Rattle.std.specs.Prelude.{ℕ, zero, suc, ◌-◌, ◌/◌, ◌%◌, ◌^◌, Bool, cond, ◌&&◌, List, [], ◌∷◌, eqb, leb, ltb, length}
 use Rattle.plan.specs.Plans.{Plan, party_count}
 

@@ -1,5 +1,5 @@
-// Coalitions (document 01: sets of plants): bit i - 1 of a 16-bit number stands for party i.
-#![tactic(auto)]
+// Coalitions: bit i - 1 of a 16-bit number stands for party i.
+#![tactic(auto, using(crate::proofs::Coalitions::bits))]
 
 ghost use Rattle.std.specs.Prelude.{◌≡◌, ◌≤◌, ◌^◌, leb, length};
 ghost use Rattle.plan_coalition.specs.Coalitions.{in_set, members, set_fits};
@@ -10,23 +10,15 @@ use plan::Header;
 pub fn is_member(set: u16, i: usize) -> bool
     ensures { result ≡ in_set set i }
 {
-    if 16 < i {
-        return false;
-    }
-    if i == 0 {
-        return set & 1 == 1;
-    }
-    (set >> (i - 1)) & 1 == 1
+    i <= 16 && (set >> i.saturating_sub(1)) & 1 == 1
 }
 
 pub fn member_count(set: u16) -> usize
     ensures { record { eq : result ≡ length (members set); le : result ≤ 16 } }
 {
-    let mut k: usize = 0;
-    let mut i: usize = 1;
-    while i <= 16 {
-        k += numbers::one_if(is_member(set, i));
-        i += 1;
+    let mut k = 0;
+    for i in 1..=16 {
+        k += usize::from(is_member(set, i));
     }
     k
 }
@@ -35,18 +27,12 @@ pub fn member_count(set: u16) -> usize
 fn names_above(n: usize, set: u16) -> bool
     ensures { result ≡ leb (2 ^ n) set }
 {
-    if n < 16 {
-        return set >> n != 0;
-    }
-    false
+    n < 16 && set >> n != 0
 }
 
 // Whether a set names no party above n and has at most t members.
 pub fn set_ok(h: Header, set: u16) -> bool
     ensures { result ≡ set_fits h.n h.t set }
 {
-    if names_above(h.n, set) {
-        return false;
-    }
-    member_count(set) <= h.t
+    !names_above(h.n, set) && member_count(set) <= h.t
 }

@@ -1,12 +1,15 @@
-// Refusals as documents 01 and 02 number them, and the answer of a C call.
+// Refusals as numbers, and the answer of a C call.
 #![tactic(auto)]
 
-ghost use Rattle.std.specs.Prelude.{◌≡◌, ◌≤◌, ◌<◌, ◌+◌, ◌*◌};
+ghost use Rattle.std.specs.Prelude.{IfOk, ◌≡◌, ◌≤◌, ◌<◌, ◌+◌, ◌*◌};
 ghost use Rattle.plan.specs.Refusals.{number_of, place_of, code_of};
+ghost use Rattle.plan_codes.specs.Values.{answer_of};
 
-use plan::{Checked, Refusal};
+use plan::Refusal;
 
-// A refusal's number in documents 01 and 02.
+// A refusal's number.
+// As it is: the C interface answers in numbers, and its header has these.
+#[tactic(auto, unfolding(plan::specs::Refusals::number_of))]
 pub fn number(r: Refusal) -> u64
     ensures { record { eq : result ≡ number_of r; le : result ≤ 31 } }
 {
@@ -45,50 +48,32 @@ pub fn number(r: Refusal) -> u64
 }
 
 // A refusal's place, 0 unless named.
+// As it is: the C interface answers in numbers.
+#[tactic(auto, unfolding(plan::specs::Refusals::place_of))]
 pub fn place(r: Refusal) -> u64
     ensures { result ≡ place_of r }
 {
     match r {
-        Refusal::CircuitText => 0,
-        Refusal::SheetText => 0,
-        Refusal::TooLarge => 0,
-        Refusal::Magic => 0,
-        Refusal::Version => 0,
-        Refusal::Parties => 0,
-        Refusal::Threshold => 0,
-        Refusal::Modulus => 0,
-        Refusal::Layout => 0,
-        Refusal::GateRule(i) => i as u64,
-        Refusal::OutputRule(i) => i as u64,
-        Refusal::Majority => 0,
-        Refusal::Points => 0,
-        Refusal::Price => 0,
-        Refusal::Record => 0,
-        Refusal::Coalition => 0,
-        Refusal::InputCount => 0,
-        Refusal::InputValue(i) => i as u64,
-        Refusal::CoinCount => 0,
-        Refusal::CoinValue(i) => i as u64,
-        Refusal::Settings => 0,
-        Refusal::StateCount => 0,
-        Refusal::StateValue => 0,
-        Refusal::Finished => 0,
-        Refusal::MailCount => 0,
-        Refusal::MailValue(i) => i as u64,
-        Refusal::BufferLength => 0,
-        Refusal::OffPolynomial(i) => i as u64,
-        Refusal::InputsDiffer(i) => i as u64,
-        Refusal::OutputsDiffer(i) => i as u64,
+        Refusal::GateRule(i)
+        | Refusal::OutputRule(i)
+        | Refusal::InputValue(i)
+        | Refusal::CoinValue(i)
+        | Refusal::MailValue(i)
+        | Refusal::OffPolynomial(i)
+        | Refusal::InputsDiffer(i)
+        | Refusal::OutputsDiffer(i) => i as u64,
+        _ => 0,
     }
 }
 
 // The answer of a C call: bits 0 to 7 are the refusal's number, bits 8 to 39 its place; 0 where there is none.
-pub fn code(c: Checked) -> u64
+#[tactic(auto, unfolding(plan::specs::Refusals::code_of))]
+pub fn code(c: Result<(), Refusal>) -> u64
     ensures { result ≡ code_of c }
 {
     match c {
-        Checked::Passed => 0,
-        Checked::Refused(r) => number(r) + 256 * (place(r) % 4294967296),
+        Ok(()) => 0,
+        Err(r) => number(r) + 256 * (place(r) % 4294967296),
     }
 }
 
@@ -98,4 +83,16 @@ pub fn value(v: usize) -> u64
     ensures { result ≡ 256 * v }
 {
     256 * (v as u64)
+}
+
+// The answer of a C call that has a value: the value, or the refusal.
+#[tactic(auto, unfolding(crate::specs::Values::answer_of))]
+pub fn answer(r: Result<usize, Refusal>) -> u64
+    requires { IfOk r (λ v. v < 72057594037927936) }
+    ensures { result ≡ answer_of r }
+{
+    match r {
+        Ok(v) => value(v),
+        Err(r) => code(Err(r)),
+    }
 }

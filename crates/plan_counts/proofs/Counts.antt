@@ -12,6 +12,7 @@ use native.Mathlib.Numerals.{add-one}
 use native.Mathlib.Omega.{arith}
 use borrow.Author.Rules.{rules}
 use borrow.Author.Tests.{le-leb, lt-leb, eqb-true, eq-eqb, ne_eqb}
+use mir.Val.{bool_byte}
 use lib.Dec.{eqb, leb}
 use lib.ListN.{length, get_or, take, drop, replicate, take-append-drop}
 use lib.Seq.{take-suc, take_all}
@@ -30,6 +31,7 @@ use Rattle.plan.specs.declared.Layout.{Layout}
 use Rattle.plan.specs.Plans.{Plan, party_count, dealer_count, kind_of, is_kind, kind_count, operands_of, is_input_of, first_dealings, multiply_dealings, dealings_at, coin_owners_at, coin_owners, last_call, out_wires_of, out_wires, input_count, own_input_count, coin_count, own_coin_count, own_out_count}
 use Rattle.plan.specs.File.{between, layout_of, gate_place, gate_of, gate_from, gate_at, gate_ok, out_at, plan_of}
 use Rattle.plan.specs.Planned.{Planned, Within}
+use Rattle.plan_counts.specs.declared.Tally.{Tally}
 use Rattle.plan_counts.specs.Counts.{Tallied, IsGate, is_out_of}
 use Rattle.plan.proofs.Planned.{plan_n, plan_t, plan_gates, plan_gate, plan_outs, plan_out, plan_dealers, between-true, gate_within}
 use Rattle.plan.proofs.Valid.{plain, gate-kept}
@@ -145,21 +147,10 @@ module _ (bs : List ℕ) (h : Header) (p : Planned bs h) (i : ℕ) (gate : Gate)
   unfolding coin_owners_at dealings_at
   coins_random r t e f q = rw (e, count_first i (plan_of bs) (party_count (plan_of bs)), plan_n p, plan_t p, ← f) q
 
-  pub coins-add : (a b : ℕ) → gate ≡ Add a b → 0 ≡ count_where (eqb i) (coin_owners_at (plan_of bs) gate)
-  unfolding coin_owners_at dealings_at flat_map count_where
-  coins-add a b e = rw e
-
-  pub coins-scale : (a b : ℕ) → gate ≡ Scale a b → 0 ≡ count_where (eqb i) (coin_owners_at (plan_of bs) gate)
-  unfolding coin_owners_at dealings_at flat_map count_where
-  coins-scale a b e = rw e
-
-  pub coins_offset : (a b : ℕ) → gate ≡ Offset a b → 0 ≡ count_where (eqb i) (coin_owners_at (plan_of bs) gate)
-  unfolding coin_owners_at dealings_at flat_map count_where
-  coins_offset a b e = rw e
-
-  pub coins-spend : (a b : ℕ) → gate ≡ Spend a b → 0 ≡ count_where (eqb i) (coin_owners_at (plan_of bs) gate)
-  unfolding coin_owners_at dealings_at flat_map count_where
-  coins-spend a b e = rw e
+-- a gate without dealings takes none
+pub coins_none : (plan : Plan) (i : ℕ) (gate : Gate) → dealings_at plan gate ≡ [] → 0 ≡ count_where (eqb i) (coin_owners_at plan gate)
+unfolding coin_owners_at flat_map count_where
+coins_none plan i gate e = rw e
 
 -- the same by a gate's kind
 module _ (bs : List ℕ) (h : Header) (p : Planned bs h) (i k : ℕ) (x : Gate) (ek : k ≡ kind_of x) where
@@ -177,14 +168,14 @@ module _ (bs : List ℕ) (h : Header) (p : Planned bs h) (i k : ℕ) (x : Gate) 
       of (Spend a b) e = absurd (omega arith)
 
   pub coins_of_local : (t : Bool) → t ≡ between 2 4 k → t ≡ true → 0 ≡ count_where (eqb i) (coin_owners_at (plan_of bs) x)
-  unfolding kind_of
+  unfolding kind_of dealings_at
   coins_of_local t et e = of x (rw ek at (between-true 2 4 k (sym et ∙ e)))
     where
       of : (y : Gate) → (2 ≤ kind_of y) × (kind_of y ≤ 4) → 0 ≡ count_where (eqb i) (coin_owners_at (plan_of bs) y)
       of (Input s) l = absurd (omega arith)
-      of (Add a b) l = coins-add bs h p i (Add a b) a b refl
-      of (Scale a c) l = coins-scale bs h p i (Scale a c) a c refl
-      of (Offset a c) l = coins_offset bs h p i (Offset a c) a c refl
+      of (Add a b) l = coins_none (plan_of bs) i (Add a b) refl
+      of (Scale a c) l = coins_none (plan_of bs) i (Scale a c) refl
+      of (Offset a c) l = coins_none (plan_of bs) i (Offset a c) refl
       of (Multiply a b) l = absurd (omega arith)
       of Random l = absurd (omega arith)
       of (Spend a b) l = absurd (omega arith)
@@ -208,7 +199,7 @@ pub first_from_lem : (k i : ℕ) → 1 ≤ i → leb i k ≡ between 1 k i
 unfolding between
 first_from_lem k i l = rw (le-leb 1 i l)
 
-pub ruleset coining = (rules, first_under, first_from_lem, coins_input, coins_multiply, coins_random, coins-add, coins-scale, coins_offset, coins-spend, coins_of_five, coins_of_local, coins_of_lem, local_under, local_from)
+pub ruleset coining = (rules, first_under, first_from_lem, coins_input, coins_multiply, coins_random, coins_none, coins_of_five, coins_of_local, coins_of_lem, local_under, local_from)
 
 -- ---- a loop over the gates that counts: k of the first g pass
 module _ (f : Gate → Bool) (bs : List ℕ) (h : Header) (k g : ℕ) (p : Planned bs h) (c : Counted f (plan_of bs).gates k g) where
@@ -261,12 +252,17 @@ module _ (bs : List ℕ) (i top : ℕ) where
         c.is ∙ ap (λ (n : ℕ). count_where (eqb i) (flat_map (coin_owners_at (plan_of bs)) (take n (plan_of bs).gates))) e
 
 -- the loop of a tally
-pub record Tallying (bs : List ℕ) (top i a b m d g : ℕ) : Type 0 where
-  pub inputs : Counted (is_kind 1) (plan_of bs).gates a g
-  pub own : Counted (is_input_of i) (plan_of bs).gates b g
-  pub multiplies : Counted (is_kind 5) (plan_of bs).gates m g
-  pub few : a + m ≤ g
-  pub coins : Coining bs i top d g
+pub record Tallying (bs : List ℕ) (top i : ℕ) (c : Tally) (g : ℕ) : Type 0 where
+  pub inputs : Counted (is_kind 1) (plan_of bs).gates c.inputs g
+  pub own : Counted (is_input_of i) (plan_of bs).gates c.own g
+  pub multiplies : Counted (is_kind 5) (plan_of bs).gates c.multiplies g
+  pub few : c.inputs + c.multiplies ≤ g
+  pub coins : Coining bs i top c.coins g
+
+-- a test as a number
+pub as_count : (t : Bool) {o : ℕ} → o ≡ bool_byte t → o ≡ cond t 1 0
+as_count true e = e
+as_count false e = e
 
 one_kind : (g : Gate) → cond (is_kind 1 g) 1 0 + cond (is_kind 5 g) 1 0 ≤ 1
 unfolding is_kind kind_of
@@ -279,7 +275,7 @@ one_kind Random = omega arith
 one_kind (Spend a b) = omega arith
 
 module _ (bs : List ℕ) (i : ℕ) where
-  pub tally-none : (top : ℕ) → Tallying bs top i 0 0 0 0 0
+  pub tally-none : (top : ℕ) → Tallying bs top i (record { inputs = 0; own = 0; multiplies = 0; coins = 0 }) 0
   tally-none top = record {
     inputs = count_none (is_kind 1) (plan_of bs).gates;
     own = count_none (is_input_of i) (plan_of bs).gates;
@@ -288,32 +284,32 @@ module _ (bs : List ℕ) (i : ℕ) where
     coins = coin-none bs i top;
   }
 
-  module _ (h : Header) (a b m d g : ℕ) (p : Planned bs h) (c : Tallying bs h.gates i a b m d g) where
+  module _ (h : Header) (c : Tally) (g : ℕ) (p : Planned bs h) (w : Tallying bs h.gates i c g) where
     pub tally-next : g < h.gates → (k : ℕ) → k ≡ kind_of (gate_at bs g) → (tb : Bool) (oa ob om od : ℕ)
-        → oa ≡ cond (eqb k 1) 1 0 → tb ≡ is_input_of i (gate_at bs g) → ob ≡ cond tb 1 0 → om ≡ cond (eqb k 5) 1 0
+        → oa ≡ bool_byte (eqb k 1) → tb ≡ is_input_of i (gate_at bs g) → ob ≡ bool_byte tb → om ≡ bool_byte (eqb k 5)
         → od ≡ count_where (eqb i) (coin_owners_at (plan_of bs) (gate_at bs g)) → od ≤ 14
-        → Tallying bs h.gates i (a + oa) (b + ob) (m + om) (d + od) (g + 1)
+        → Tallying bs h.gates i (record { inputs = c.inputs + oa; own = c.own + ob; multiplies = c.multiplies + om; coins = c.coins + od }) (g + 1)
     unfolding is_kind
     tally-next l k ek tb oa ob om od ea et eb em ed few = record {
-      inputs = gates_next (is_kind 1) bs h a g p c.inputs l oa (rw (← ek) ea);
-      own = gates_next (is_input_of i) bs h b g p c.own l ob (rw (← et) eb);
-      multiplies = gates_next (is_kind 5) bs h m g p c.multiplies l om (rw (← ek) em);
-      few = let one : cond (eqb k 1) 1 0 + cond (eqb k 5) 1 0 ≤ 1 = rw ek (one_kind (gate_at bs g)) in omega (arith, c.few);
-      coins = coin-more bs i h.gates h d g p (omega arith) c.coins l od ed few;
+      inputs = gates_next (is_kind 1) bs h c.inputs g p w.inputs l oa (as_count (eqb k 1) ea ∙ rw ek);
+      own = gates_next (is_input_of i) bs h c.own g p w.own l ob (as_count tb eb ∙ rw et);
+      multiplies = gates_next (is_kind 5) bs h c.multiplies g p w.multiplies l om (as_count (eqb k 5) em ∙ rw ek);
+      few = let one : cond (eqb k 1) 1 0 + cond (eqb k 5) 1 0 ≤ 1 = rw ek (one_kind (gate_at bs g)) in omega (arith, w.few, as_count (eqb k 1) ea, as_count (eqb k 5) em);
+      coins = coin-more bs i h.gates h c.coins g p (omega arith) w.coins l od ed few;
     }
 
-    pub tally-fits : d ≤ 14336
-    tally-fits = coin-few bs i h.gates h d g p (omega arith) c.coins
+    pub tally-fits : c.coins ≤ 14336
+    tally-fits = coin-few bs i h.gates h c.coins g p (omega arith) w.coins
 
-    pub tallied : h.gates ≤ g → Tallied (plan_of bs) i (record { inputs = a; own = b; multiplies = m; coins = d })
+    pub tallied : h.gates ≤ g → Tallied (plan_of bs) i c
     unfolding kind_count own_coin_count coin_owners
     tallied l = record {
-      inputs = gates_done (is_kind 1) bs h a g p c.inputs l;
-      own = gates_done (is_input_of i) bs h b g p c.own l;
-      multiplies = gates_done (is_kind 5) bs h m g p c.multiplies l;
-      coins = coin-done bs i h.gates h d g p (omega arith) c.coins l ∙ ap (λ (gs : List Gate). count_where (eqb i) (flat_map (coin_owners_at (plan_of bs)) gs)) (take_all h.gates (plan_of bs).gates (omega (arith, plan_gates p)));
-      few = omega (arith, c.few, c.inputs.within, plan_gates p, p.gates-high);
-      own_few = gates_few (is_input_of i) bs h b g p c.own;
+      inputs = gates_done (is_kind 1) bs h c.inputs g p w.inputs l;
+      own = gates_done (is_input_of i) bs h c.own g p w.own l;
+      multiplies = gates_done (is_kind 5) bs h c.multiplies g p w.multiplies l;
+      coins = coin-done bs i h.gates h c.coins g p (omega arith) w.coins l ∙ ap (λ (gs : List Gate). count_where (eqb i) (flat_map (coin_owners_at (plan_of bs)) gs)) (take_all h.gates (plan_of bs).gates (omega (arith, plan_gates p)));
+      few = omega (arith, w.few, w.inputs.within, plan_gates p, p.gates-high);
+      own_few = gates_few (is_input_of i) bs h c.own g p w.own;
       coins_few = tally-fits;
     }
 
@@ -391,9 +387,9 @@ is_out_of_lem i o = refl
 
 -- the loop over the outs: k of the first o are party i's
 module _ (bs : List ℕ) (h : Header) (i k o : ℕ) (p : Planned bs h) (c : Counted (is_out_of i) (plan_of bs).outs k o) where
-  pub outs_next : o < h.outs → (out : Output) (t : Bool) (one : ℕ) → out ≡ out_at bs o → t ≡ is_out_of i out → one ≡ cond t 1 0 → Counted (is_out_of i) (plan_of bs).outs (k + one) (o + 1)
+  pub outs_next : o < h.outs → (out : Output) (t : Bool) (one : ℕ) → out ≡ out_at bs o → t ≡ is_out_of i out → one ≡ bool_byte t → Counted (is_out_of i) (plan_of bs).outs (k + one) (o + 1)
   outs_next l out t one eo et e1 =
-      count_next (is_out_of i) (plan_of bs).outs k o c one (record { party = 0; wire = 0 }) (rw (plan_outs p) l) (rw (plan_out p o l, ← eo, ← et) e1)
+      count_next (is_out_of i) (plan_of bs).outs k o c one (record { party = 0; wire = 0 }) (rw (plan_outs p) l) (rw (plan_out p o l, ← eo, ← et) (as_count t e1))
 
   pub outs_few : k ≤ 64
   outs_few = omega (arith, c.small, c.within, plan_outs p, p.outs-high)

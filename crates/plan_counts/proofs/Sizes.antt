@@ -1,11 +1,11 @@
 -- The sizes of a run: what each way through the code says of them, and their bounds.
---     sizing, bringing, sending, mailing, totalling     what closes the needs of the functions that give them
+--     seats, sizing, bringing, sending, mailing, totalling     what closes the needs of the functions that give them
 -- Assumes nothing.
-use mathlib.Core.Path.{◌≡◌, refl, sym, ap, ◌∙◌}
-use mathlib.Core.Logic.{⊎_elim}
+use mathlib.Core.Path.{◌≡◌, sym, ap, ◌∙◌}
+use mathlib.Core.Logic.{◌⊎◌, ⊎_elim}
 use mathlib.Core.Bool.{cond}
 use mathlib.Core.List.{List}
-use Prim.Native.Nat.{ℕ, zero, suc, ◌+◌, ◌-◌, ◌*◌, ◌<◌, ◌≤◌}
+use Prim.Native.Nat.{ℕ, suc, ◌+◌, ◌-◌, ◌*◌, ◌<◌, ◌≤◌}
 use native.Mathlib.Nat.{mul-le-mul}
 use native.Mathlib.Omega.{arith}
 use borrow.Author.Rules.{rules}
@@ -13,19 +13,29 @@ use borrow.Author.Tests.{lt-ltb, le-ltb, le-leb, lt-leb}
 use mir.Syntax.{w64}
 use mir.Val.{Fits}
 use lib.Dec.{leb}
-use lib.ListN.{length}
 use Rattle.numbers.specs.Tables.{count_where}
 use Rattle.plan.specs.declared.Step.{Step}
 use Rattle.plan.specs.declared.Step.TheVariants.{DealInputs, DealProduct, DealZero, DealMasked, SendTruncated, DealDraws, OpenSpent, SendOuts}
 use Rattle.plan.specs.declared.Header.{Header}
-use Rattle.plan.specs.Plans.{Plan, is_input_of, kind_count, own_out_count, last_call, step_at, received, sent_by, mail_count, written_count, sent_count}
+use Rattle.plan.specs.Plans.{Plan, is_input_of, kind_count, own_input_count, own_out_count, last_call, step_at, received, sent_by, mail_count, written_count, sent_count}
 use Rattle.plan.specs.File.{plan_of}
 use Rattle.plan.specs.Planned.{Planned}
 use Rattle.plan.proofs.Planned.{plan_n, plan_dealers, plan_outs}
 use Rattle.plan.proofs.Valid.{plain, planned_or}
 use Rattle.plan.proofs.Counts.{plain-sent}
 use Rattle.plan.proofs.Wires.{length-input_wires}
+use Rattle.plan_counts.specs.declared.Seat.{Seat}
 use Rattle.plan_counts.proofs.Counts.{last-is, own_is, inputs_are, coins_are}
+
+-- ---- of a seat
+module _ (s : Seat) where
+  pub seat-last : s.tally.multiplies + 2 ≡ last_call (plan_of s.plan.now.bytes.now)
+  seat-last = last-is s.plan.now.bytes.now s.plan.now.header s.plan.now.planned s.tally.multiplies s.tallied.multiplies
+
+  pub seat_own : s.tally.own ≡ own_input_count (plan_of s.plan.now.bytes.now) s.party
+  seat_own = own_is s.plan.now.bytes.now s.plan.now.header s.plan.now.planned s.party s.tally.own s.tallied.own
+
+pub ruleset seats = (rules, seat-last, seat_own)
 
 -- ---- products that fit, by the bounds of the contents
 module _ (bs : List ℕ) (h : Header) (p : Planned bs h) where
@@ -55,6 +65,9 @@ module _ (bs : List ℕ) (h : Header) (p : Planned bs h) where
 
     pub coins-fit : Fits w64 (h.t * (a + m * (h.t + h.t + 1)))
     coins-fit = record { fits = omega (arith, coins-le) }
+
+  pub one-to-each : (b : ℕ) → 15 ≤ b → h.n ≤ b
+  one-to-each b l = omega (arith, p.n-high)
 
   by_n : (x b : ℕ) → x ≤ b → h.n * x ≤ 15 * b
   by_n x b l = mul-le-mul p.n-high l
@@ -91,21 +104,13 @@ module _ (bs : List ℕ) (h : Header) (p : Planned bs h) where
     unfolding received
     brings-product g a b e = rw e (sym (plan_dealers p))
 
-    pub brings-zero : (g : ℕ) → s ≡ DealZero g → h.n ≡ received (plan_of bs) i s
+    pub brings_one : ((g : ℕ) × (s ≡ DealZero g)) ⊎ (((g : ℕ) × (a : ℕ) × (b : ℕ) × (s ≡ DealMasked g a b)) ⊎ (((g : ℕ) × (s ≡ SendTruncated g)) ⊎ ((g : ℕ) × (s ≡ DealDraws g)))) → h.n ≡ received (plan_of bs) i s
     unfolding received
-    brings-zero g e = rw e (sym (plan_n p))
-
-    pub brings-masked : (g a b : ℕ) → s ≡ DealMasked g a b → h.n ≡ received (plan_of bs) i s
-    unfolding received
-    brings-masked g a b e = rw e (sym (plan_n p))
-
-    pub brings-truncated : (g : ℕ) → s ≡ SendTruncated g → h.n ≡ received (plan_of bs) i s
-    unfolding received
-    brings-truncated g e = rw e (sym (plan_n p))
-
-    pub brings-draws : (g : ℕ) → s ≡ DealDraws g → h.n ≡ received (plan_of bs) i s
-    unfolding received
-    brings-draws g e = rw e (sym (plan_n p))
+    brings_one = ⊎_elim
+        (λ (e : (g : ℕ) × (s ≡ DealZero g)). rw e.1 (sym (plan_n p)))
+        (⊎_elim
+        (λ (e : (g : ℕ) × (a : ℕ) × (b : ℕ) × (s ≡ DealMasked g a b)). rw e.3 (sym (plan_n p)))
+        (⊎_elim (λ (e : (g : ℕ) × (s ≡ SendTruncated g)). rw e.1 (sym (plan_n p))) (λ (e : (g : ℕ) × (s ≡ DealDraws g)). rw e.1 (sym (plan_n p)))))
 
     pub brings-spent : (g a b : ℕ) → s ≡ OpenSpent g a b → 2 * h.n ≡ received (plan_of bs) i s
     unfolding received
@@ -123,21 +128,13 @@ module _ (bs : List ℕ) (h : Header) (p : Planned bs h) where
     unfolding sent_by
     sends-product g a b r e f = rw (e, plan_dealers p, plan_n p) f
 
-    pub sends-zero : (g : ℕ) → s ≡ DealZero g → h.n ≡ sent_by (plan_of bs) i s
+    pub sends_one : ((g : ℕ) × (s ≡ DealZero g)) ⊎ (((g : ℕ) × (a : ℕ) × (b : ℕ) × (s ≡ DealMasked g a b)) ⊎ (((g : ℕ) × (s ≡ SendTruncated g)) ⊎ ((g : ℕ) × (s ≡ DealDraws g)))) → h.n ≡ sent_by (plan_of bs) i s
     unfolding sent_by
-    sends-zero g e = rw e (sym (plan_n p))
-
-    pub sends-masked : (g a b : ℕ) → s ≡ DealMasked g a b → h.n ≡ sent_by (plan_of bs) i s
-    unfolding sent_by
-    sends-masked g a b e = rw e (sym (plan_n p))
-
-    pub sends-truncated : (g : ℕ) → s ≡ SendTruncated g → h.n ≡ sent_by (plan_of bs) i s
-    unfolding sent_by
-    sends-truncated g e = rw e (sym (plan_n p))
-
-    pub sends-draws : (g : ℕ) → s ≡ DealDraws g → h.n ≡ sent_by (plan_of bs) i s
-    unfolding sent_by
-    sends-draws g e = rw e (sym (plan_n p))
+    sends_one = ⊎_elim
+        (λ (e : (g : ℕ) × (s ≡ DealZero g)). rw e.1 (sym (plan_n p)))
+        (⊎_elim
+        (λ (e : (g : ℕ) × (a : ℕ) × (b : ℕ) × (s ≡ DealMasked g a b)). rw e.3 (sym (plan_n p)))
+        (⊎_elim (λ (e : (g : ℕ) × (s ≡ SendTruncated g)). rw e.1 (sym (plan_n p))) (λ (e : (g : ℕ) × (s ≡ DealDraws g)). rw e.1 (sym (plan_n p)))))
 
     pub sends-spent : (g a b : ℕ) → s ≡ OpenSpent g a b → 2 * h.n ≡ sent_by (plan_of bs) i s
     unfolding sent_by
@@ -178,9 +175,9 @@ sent-none n i d l = rw (lt-leb i d l)
 
 pub ruleset sizing = (rules, by-dealers-fits, dealt-fits, coins-le, coins-fit, last-is, own_is, inputs_are, coins_are)
 
-pub ruleset bringing = (rules, by-n-64, by-n-64-fits, brings-inputs, brings-product, brings-zero, brings-masked, brings-truncated, brings-draws, brings-spent, brings-outs)
+pub ruleset bringing = (rules, one-to-each, by-n-64, by-n-64-fits, brings-inputs, brings-product, brings_one, brings-spent, brings-outs)
 
-pub ruleset sending = (rules, by-n-1024, by-n-1024-fits, sends-inputs, sends-product, sends-zero, sends-masked, sends-truncated, sends-draws, sends-spent, sends-outs, sent-some, sent-none)
+pub ruleset sending = (rules, one-to-each, by-n-1024, by-n-1024-fits, sends-inputs, sends-product, sends_one, sends-spent, sends-outs, sent-some, sent-none)
 
 pub ruleset mailing = (rules, mail-zero, mail-later, written-sent, written-results)
 

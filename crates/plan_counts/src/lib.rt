@@ -7,11 +7,11 @@ ghost use Rattle.numbers.specs.Tables.{count_where};
 ghost use Rattle.plan.specs.declared.Step.TheVariants.{SendOuts};
 ghost use Rattle.plan.specs.declared.Rule.TheVariants.{Reduction};
 ghost use Rattle.plan.specs.File.{between, gate_at, plan_of};
-ghost use Rattle.plan.specs.Planned.{Planned, Within};
+ghost use Rattle.plan.specs.Planned.{Within};
 ghost use Rattle.plan.specs.Plans.{kind_of, is_input_of, coin_owners_at, steps_at, step_at, last_call, input_count, own_input_count, coin_count, own_coin_count};
 ghost use Rattle.plan_counts.specs.Counts.{Tallied, Stepped};
 
-use plan::{Gate, Header, Layout, Step};
+use plan::{Gate, Layout, PlanFile, Step};
 
 // Counts of a plan's gates, for one party.
 #[derive(Clone, Copy)]
@@ -25,227 +25,239 @@ pub struct Tally {
     pub coins: usize,
 }
 
-// A gate's kind in the plan file; from 5 on it takes rounds.
+// The kinds of gates in the plan file: gates from ADD to OFFSET are worked on shares alone, those from MULTIPLY on take rounds.
+const INPUT: usize = 1;
+
+const ADD: usize = 2;
+
+const SCALE: usize = 3;
+
+const OFFSET: usize = 4;
+
+const MULTIPLY: usize = 5;
+
+const RANDOM: usize = 6;
+
+const SPEND: usize = 7;
+
+// A party's seat at a plan: the plan's tally for the party, with the plan and the party that it is of.
+#[derive(Clone, Copy)]
+pub struct Seat<'a> {
+    pub plan: &'a PlanFile<'a>,
+    pub party: usize,
+    pub tally: Tally,
+    pub ghost tallied: { Tallied (plan_of plan.now.bytes.now) party tally },
+}
+
+impl<'a> Seat<'a> {
+    pub fn new(plan: &'a PlanFile<'a>, party: usize) -> Seat<'a>
+        ensures { record { plan : result.plan.now ≡ plan.now; party : result.party ≡ party } }
+    {
+        Seat {
+            plan,
+            party,
+            tally: tally_of(plan, party),
+        }
+    }
+
+    // The call that gives the results: the steps are the inputs, one for each multiply gate, and the outs.
+    #[tactic(auto, using(crate::proofs::Sizes::seats))]
+    pub fn last_call(&self) -> usize
+        ensures { record { eq : result ≡ last_call (plan_of self.now.plan.now.bytes.now); low : 2 ≤ result; le : result ≤ 1026 } }
+    {
+        self.tally.multiplies + 2
+    }
+
+    #[tactic(auto, using(crate::proofs::Sizes::seats))]
+    pub fn own_inputs(&self) -> usize
+        ensures { record { eq : result ≡ own_input_count (plan_of self.now.plan.now.bytes.now) self.now.party; le : result ≤ 1024 } }
+    {
+        self.tally.own
+    }
+}
+
+// A gate's kind in the plan file.
+// As it is: the file's byte is the kind, and a tally compares it as it stands; an enum would be made of it only to be compared.
+#[tactic(auto, unfolding(plan::specs::Plans::kind_of))]
 pub fn kind(gate: Gate) -> usize
     ensures { result ≡ kind_of gate }
 {
     match gate {
-        Gate::Input(_) => 1,
-        Gate::Add(_, _) => 2,
-        Gate::Scale(_, _) => 3,
-        Gate::Offset(_, _) => 4,
-        Gate::Multiply(_, _) => 5,
-        Gate::Random => 6,
-        Gate::Spend(_, _) => 7,
+        Gate::Input(_) => INPUT,
+        Gate::Add(_, _) => ADD,
+        Gate::Scale(_, _) => SCALE,
+        Gate::Offset(_, _) => OFFSET,
+        Gate::Multiply(_, _) => MULTIPLY,
+        Gate::Random => RANDOM,
+        Gate::Spend(_, _) => SPEND,
     }
 }
 
+#[tactic(auto, using(crate::proofs::Counts::kinds))]
 pub fn takes_rounds(gate: Gate) -> bool
     ensures { result ≡ leb 5 (kind_of gate) }
 {
-    5 <= kind(gate)
+    MULTIPLY <= kind(gate)
 }
 
+#[tactic(auto, unfolding(plan::specs::Plans::is_input_of, plan::specs::Plans::is_kind, plan::specs::Plans::kind_of, plan::specs::Plans::operands_of))]
 pub fn is_input_of(i: usize, gate: Gate) -> bool
     ensures { result ≡ is_input_of i gate }
 {
     match gate {
         Gate::Input(party) => i == party,
-        Gate::Add(_, _) => false,
-        Gate::Scale(_, _) => false,
-        Gate::Offset(_, _) => false,
-        Gate::Multiply(_, _) => false,
-        Gate::Random => false,
-        Gate::Spend(_, _) => false,
+        _ => false,
     }
 }
 
 // Whether i is one of 1 to k.
+#[tactic(auto, using(crate::proofs::Counts::coining))]
 fn is_first(k: usize, i: usize) -> bool
     ensures { result ≡ between 1 k i }
 {
-    if i < 1 {
-        return false;
-    }
-    i <= k
+    1 <= i && i <= k
 }
 
 // t coins where something holds, else none.
 fn coins_if(t: usize, b: bool) -> usize
     ensures { record { eq : result ≡ cond b t 0; le : result ≤ t } }
 {
-    if b {
-        return t;
-    }
-    0
+    if b { t } else { 0 }
 }
 
 // Party i's coins at a gate: t at its own inputs, t at each multiply gate if it is one of the 2t + 1 dealers.
-pub fn own_coins_at(plan: &[u8], h: Header, i: usize, gate: Gate) -> usize
-    requires { Planned plan.now h }
-    ensures { record { eq : result ≡ count_where (eqb i) (coin_owners_at (plan_of plan.now) gate); le : result ≤ 14 } }
+#[tactic(auto, using(crate::proofs::Counts::coining), unfolding(plan::specs::Plans::dealings_at))]
+pub fn own_coins_at(plan: &PlanFile, i: usize, gate: Gate) -> usize
+    ensures { record { eq : result ≡ count_where (eqb i) (coin_owners_at (plan_of plan.now.bytes.now) gate); le : result ≤ 14 } }
 {
+    let t = plan.header.t;
     match gate {
-        Gate::Input(dealer) => coins_if(h.t, i == dealer),
-        Gate::Add(_, _) => 0,
-        Gate::Scale(_, _) => 0,
-        Gate::Offset(_, _) => 0,
-        Gate::Multiply(_, _) => coins_if(h.t, is_first(h.t + h.t + 1, i)),
-        Gate::Random => coins_if(h.t, is_first(h.n, i)),
-        Gate::Spend(_, _) => 0,
+        Gate::Input(dealer) => coins_if(t, i == dealer),
+        Gate::Multiply(_, _) => coins_if(t, is_first(t + t + 1, i)),
+        Gate::Random => coins_if(t, is_first(plan.header.n, i)),
+        _ => 0,
     }
 }
 
 // ---- by a gate's kind, which its first byte gives: every gate of a plan that passes keeps its kind's rule
 
-fn kind_of(plan: &[u8], h: Header, l: Layout, g: usize) -> usize
-    requires planned { Planned plan.now h }
-    requires within { Within plan.now l g }
-    requires g_lt_gates { g < h.gates }
-    ensures { result ≡ kind_of (gate_at plan.now g) }
+#[tactic(auto, using(crate::proofs::Counts::kinds))]
+fn kind_of(plan: &PlanFile, l: Layout, g: usize) -> usize
+    requires within { Within plan.now.bytes.now l g }
+    requires g_lt_gates { g < plan.now.header.gates }
+    ensures { result ≡ kind_of (gate_at plan.now.bytes.now g) }
 {
-    plan::kind_in(plan, l, g)
+    plan::kind_in(plan.bytes, l, g)
 }
 
 // Whether gate g, of kind k, is an input of party i.
+#[tactic(auto, using(crate::proofs::Counts::kinds))]
 fn own_by_kind(plan: &[u8], l: Layout, i: usize, g: usize, k: usize) -> bool
     requires within { Within plan.now l g }
     requires k_value { k ≡ kind_of (gate_at plan.now g) }
     ensures { result ≡ is_input_of i (gate_at plan.now g) }
 {
-    if k != 1 {
-        return false;
-    }
-    is_input_of(i, plan::gate_in(plan, l, g))
+    k == INPUT && is_input_of(i, plan::gate_in(plan, l, g))
 }
 
 // Party i's coins at gate g, of kind k.
-fn coins_by_kind(plan: &[u8], h: Header, l: Layout, i: usize, g: usize, k: usize) -> usize
-    requires planned { Planned plan.now h }
-    requires within { Within plan.now l g }
-    requires k_value { k ≡ kind_of (gate_at plan.now g) }
-    ensures { record { eq : result ≡ count_where (eqb i) (coin_owners_at (plan_of plan.now) (gate_at plan.now g)); le : result ≤ 14 } }
+#[tactic(auto, using(crate::proofs::Counts::coining))]
+fn coins_by_kind(plan: &PlanFile, l: Layout, i: usize, g: usize, k: usize) -> usize
+    requires within { Within plan.now.bytes.now l g }
+    requires k_value { k ≡ kind_of (gate_at plan.now.bytes.now g) }
+    ensures { record { eq : result ≡ count_where (eqb i) (coin_owners_at (plan_of plan.now.bytes.now) (gate_at plan.now.bytes.now g)); le : result ≤ 14 } }
 {
-    if k == 5 {
-        return coins_if(h.t, is_first(h.t + h.t + 1, i));
+    if k == MULTIPLY {
+        return coins_if(
+            plan.header.t,
+            is_first(plan.header.t + plan.header.t + 1, i),
+        );
     }
     if is_local(k) {
         return 0;
     }
-    own_coins_at(plan, h, i, plan::gate_in(plan, l, g))
+    own_coins_at(plan, i, plan::gate_in(plan.bytes, l, g))
 }
 
 // Whether the gates of a kind are worked on shares alone.
+#[tactic(auto, using(crate::proofs::Counts::coining))]
 fn is_local(k: usize) -> bool
     ensures { result ≡ between 2 4 k }
 {
-    if k < 2 {
-        return false;
-    }
-    k <= 4
+    ADD <= k && k <= OFFSET
 }
 
 // A plan's tally for party i, in one pass over its gates.
-pub fn tally_of(plan: &[u8], h: Header, i: usize) -> Tally
-    requires { Planned plan.now h }
-    ensures { Tallied (plan_of plan.now) i result }
+#[tactic(auto, using(crate::proofs::Counts::counting))]
+pub fn tally_of(plan: &PlanFile, i: usize) -> Tally
+    ensures { Tallied (plan_of plan.now.bytes.now) i result }
 {
-    let gates = h.gates;
-    let l = plan::layout_of(plan);
-    let mut inputs: usize = 0;
-    let mut own: usize = 0;
-    let mut multiplies: usize = 0;
-    let mut coins: usize = 0;
-    let mut g: usize = 0;
-    while g < gates {
-        let k = kind_of(plan, h, l, g);
-        inputs += numbers::one_if(k == 1);
-        own += numbers::one_if(own_by_kind(plan, l, i, g, k));
-        multiplies += numbers::one_if(k == 5);
-        coins += coins_by_kind(plan, h, l, i, g, k);
-        g += 1;
+    let l = plan.layout();
+    let mut tally = Tally {
+        inputs: 0,
+        own: 0,
+        multiplies: 0,
+        coins: 0,
+    };
+    for g in 0..plan.header.gates {
+        let k = kind_of(plan, l, g);
+        tally.inputs += usize::from(k == INPUT);
+        tally.own += usize::from(own_by_kind(plan.bytes, l, i, g, k));
+        tally.multiplies += usize::from(k == MULTIPLY);
+        tally.coins += coins_by_kind(plan, l, i, g, k);
     }
-    Tally {
-        inputs,
-        own,
-        multiplies,
-        coins,
-    }
-}
-
-// ---- what follows from a tally
-
-// The call that gives the results: the steps are the inputs, one for each multiply gate, and the outs.
-pub fn last_call_by(plan: &[u8], h: Header, i: usize, c: Tally) -> usize
-    requires planned { Planned plan.now h }
-    requires tallied { Tallied (plan_of plan.now) i c }
-    ensures { record { eq : result ≡ last_call (plan_of plan.now); low : 2 ≤ result; le : result ≤ 1026 } }
-{
-    c.multiplies + 2
-}
-
-pub fn own_inputs_by(plan: &[u8], h: Header, i: usize, c: Tally) -> usize
-    requires planned { Planned plan.now h }
-    requires tallied { Tallied (plan_of plan.now) i c }
-    ensures { record { eq : result ≡ own_input_count (plan_of plan.now) i; le : result ≤ 1024 } }
-{
-    c.own
+    tally
 }
 
 // ---- the same from the plan alone
 
-pub fn last_call(plan: &[u8], h: Header) -> usize
-    requires { Planned plan.now h }
-    ensures { record { eq : result ≡ last_call (plan_of plan.now); low : 2 ≤ result; le : result ≤ 1026 } }
+pub fn last_call(plan: &PlanFile) -> usize
+    ensures { record { eq : result ≡ last_call (plan_of plan.now.bytes.now); low : 2 ≤ result; le : result ≤ 1026 } }
 {
-    last_call_by(plan, h, 0, tally_of(plan, h, 0))
+    Seat::new(plan, 0).last_call()
 }
 
-pub fn own_input_count(plan: &[u8], h: Header, i: usize) -> usize
-    requires { Planned plan.now h }
-    ensures { record { eq : result ≡ own_input_count (plan_of plan.now) i; le : result ≤ 1024 } }
+pub fn own_input_count(plan: &PlanFile, i: usize) -> usize
+    ensures { record { eq : result ≡ own_input_count (plan_of plan.now.bytes.now) i; le : result ≤ 1024 } }
 {
-    own_inputs_by(plan, h, i, tally_of(plan, h, i))
+    Seat::new(plan, i).own_inputs()
 }
 
-pub fn own_coin_count(plan: &[u8], h: Header, i: usize) -> usize
-    requires { Planned plan.now h }
-    ensures { record { eq : result ≡ own_coin_count (plan_of plan.now) i; le : result ≤ 14336 } }
+pub fn own_coin_count(plan: &PlanFile, i: usize) -> usize
+    ensures { record { eq : result ≡ own_coin_count (plan_of plan.now.bytes.now) i; le : result ≤ 14336 } }
 {
-    tally_of(plan, h, i).coins
+    tally_of(plan, i).coins
 }
 
-pub fn input_count(plan: &[u8], h: Header) -> usize
-    requires { Planned plan.now h }
-    ensures { record { eq : result ≡ input_count (plan_of plan.now); le : result ≤ 1024 } }
+#[tactic(auto, using(crate::proofs::Sizes::sizing))]
+pub fn input_count(plan: &PlanFile) -> usize
+    ensures { record { eq : result ≡ input_count (plan_of plan.now.bytes.now); le : result ≤ 1024 } }
 {
-    tally_of(plan, h, 0).inputs
+    tally_of(plan, 0).inputs
 }
 
 // The coins of a run: t for each input gate, and for each of the 2t + 1 dealings of each multiply gate.
-pub fn coin_count(plan: &[u8], h: Header) -> usize
-    requires { Planned plan.now h }
-    ensures { record { eq : result ≡ coin_count (plan_of plan.now); le : result ≤ 107520 } }
+#[tactic(auto, using(crate::proofs::Sizes::sizing))]
+pub fn coin_count(plan: &PlanFile) -> usize
+    ensures { record { eq : result ≡ coin_count (plan_of plan.now.bytes.now); le : result ≤ 107520 } }
 {
-    let c = tally_of(plan, h, 0);
-    h.t * (c.inputs + c.multiplies * (h.t + h.t + 1))
+    let c = tally_of(plan, 0);
+    plan.header.t * (c.inputs + c.multiplies * (plan.header.t + plan.header.t + 1))
 }
 
 // Party i's coins at gates below g.
-pub fn coins_below(plan: &[u8], h: Header, i: usize, g: usize) -> usize
-    requires planned { Planned plan.now h }
-    requires g_le_gates { g ≤ h.gates }
+#[tactic(auto, using(crate::proofs::Counts::counting))]
+pub fn coins_below(plan: &PlanFile, i: usize, g: usize) -> usize
+    requires g_le_gates { g ≤ plan.now.header.gates }
     ensures { record {
-      eq : result ≡ count_where (eqb i) (flat_map (coin_owners_at (plan_of plan.now)) (take g (plan_of plan.now).gates));
+      eq : result ≡ count_where (eqb i) (flat_map (coin_owners_at (plan_of plan.now.bytes.now)) (take g (plan_of plan.now.bytes.now).gates));
       le : result ≤ 14336;
     } }
 {
-    let l = plan::layout_of(plan);
-    let mut k: usize = 0;
-    let mut below: usize = 0;
-    while below < g {
-        k += coins_by_kind(plan, h, l, i, below, kind_of(plan, h, l, below));
-        below += 1;
+    let l = plan.layout();
+    let mut k = 0;
+    for below in 0..g {
+        k += coins_by_kind(plan, l, i, below, kind_of(plan, l, below));
     }
     k
 }
@@ -253,58 +265,53 @@ pub fn coins_below(plan: &[u8], h: Header, i: usize, g: usize) -> usize
 // ---- steps
 
 // The step of gate g, where it takes rounds.
+#[tactic(auto, unfolding(plan::specs::Plans::steps_at, plan::specs::Plans::multiply_steps))]
 fn step_of(g: usize, gate: Gate) -> Step
     ensures { result ≡ get_or (steps_at Reduction g gate) 0 SendOuts }
 {
     match gate {
-        Gate::Input(_) => Step::SendOuts,
-        Gate::Add(_, _) => Step::SendOuts,
-        Gate::Scale(_, _) => Step::SendOuts,
-        Gate::Offset(_, _) => Step::SendOuts,
         Gate::Multiply(a, b) => Step::DealProduct(g, a, b),
         Gate::Random => Step::DealDraws(g),
         Gate::Spend(a, b) => Step::OpenSpent(g, a, b),
+        _ => Step::SendOuts,
     }
 }
 
 // Whether gate g takes rounds.
-fn rounds_at(plan: &[u8], h: Header, l: Layout, g: usize) -> bool
-    requires planned { Planned plan.now h }
-    requires within { Within plan.now l g }
-    requires g_lt_gates { g < h.gates }
-    ensures { result ≡ leb 5 (kind_of (gate_at plan.now g)) }
+#[tactic(auto, using(crate::proofs::Steps::stepping))]
+fn rounds_at(plan: &PlanFile, l: Layout, g: usize) -> bool
+    requires within { Within plan.now.bytes.now l g }
+    requires g_lt_gates { g < plan.now.header.gates }
+    ensures { result ≡ leb 5 (kind_of (gate_at plan.now.bytes.now g)) }
 {
-    5 <= kind_of(plan, h, l, g)
+    MULTIPLY <= kind_of(plan, l, g)
 }
 
 // The step that the calls of number k send.
-pub fn step_at(plan: &[u8], h: Header, k: usize) -> Step
-    requires { Planned plan.now h }
-    ensures { record { eq : result ≡ step_at (plan_of plan.now) k; of : Stepped (plan_of plan.now) result } }
+#[tactic(auto, using(crate::proofs::Steps::stepping))]
+pub fn step_at(plan: &PlanFile, k: usize) -> Step
+    ensures { record { eq : result ≡ step_at (plan_of plan.now.bytes.now) k; of : Stepped (plan_of plan.now.bytes.now) result } }
 {
     if k == 0 {
         return Step::DealInputs;
     }
-    step_after(plan, h, k - 1)
+    step_after(plan, k - 1)
 }
 
 // The same with the inputs' step left out.
-fn step_after(plan: &[u8], h: Header, k: usize) -> Step
-    requires { Planned plan.now h }
-    ensures { record { eq : result ≡ step_at (plan_of plan.now) (suc k); of : Stepped (plan_of plan.now) result } }
+#[tactic(auto, using(crate::proofs::Steps::stepping))]
+fn step_after(plan: &PlanFile, k: usize) -> Step
+    ensures { record { eq : result ≡ step_at (plan_of plan.now.bytes.now) (suc k); of : Stepped (plan_of plan.now.bytes.now) result } }
 {
-    let gates = h.gates;
-    let l = plan::layout_of(plan);
+    let l = plan.layout();
     let mut left = k;
-    let mut g: usize = 0;
-    while g < gates {
-        if rounds_at(plan, h, l, g) {
+    for g in 0..plan.header.gates {
+        if rounds_at(plan, l, g) {
             if left == 0 {
-                return step_of(g, plan::known_gate(plan, h, g));
+                return step_of(g, plan.gate(g));
             }
             left -= 1;
         }
-        g += 1;
     }
     Step::SendOuts
 }

@@ -6,21 +6,21 @@
 --     file_majority                       25 does not fall on it where 2t < n
 --     file_bytes                          a file that passes is a list of bytes
 -- Assumes nothing.
+use Rattle.std.proofs.Common.{None, Ok, Err}
 use Prim.Native.Nat.{ℕ, zero, suc, ◌+◌, ◌*◌, ◌/◌, ◌%◌, ◌<◌, ◌≤◌}
 use mathlib.Core.Path.{◌≡◌, refl, sym, ap, ap₂, ◌∙◌}
 use mathlib.Core.Bool.{Bool, true, false, cond, ◌&&◌}
 use mathlib.Core.List.{List, [], ◌∷◌, ◌++◌, flat_map, append-nil, append_assoc}
 use native.Mathlib.Omega.{arith}
 use native.Mathlib.Nat.{mul-le-mul_left, mul-zero}
-use borrow.Author.Tests.{ltb-true, eqb-true, eqb-false, eq-eqb, ne_eqb, le-leb, lt-ltb, le-ltb}
+use borrow.Author.Tests.{ltb-true, eqb-true, eqb-false, eq-eqb, ne_eqb, le-leb, lt-ltb}
 use lib.Dec.{eqb, leb, ltb}
 use lib.ListN.{length, take, drop, get_or, length-append, get_or-append}
 use lib.Seq.{get_or-append-add, get_or-take, get_or-drop}
 use Rattle.numbers.specs.Tables.{tab, first_failing}
 use Rattle.numbers.specs.Bytes.{number_at, bytes_from, word_at, all_below}
-use Rattle.numbers.proofs.Tables.{is-tab, tab-ext, length-tab, get_or-tab}
-use Rattle.numbers.specs.declared.Found.TheVariants.{Nothing}
-use Rattle.numbers.proofs.Bytes.{span, number_same, word_number, length-bytes_from, bytes_number}
+use Rattle.numbers.proofs.Tables.{is-tab, length-tab, get_or-tab}
+use Rattle.numbers.proofs.Bytes.{span, number_same, length-bytes_from, bytes_number}
 use Rattle.numbers.proofs.Rows.{flat-length, flat-part}
 use Rattle.numbers.proofs.Searches.{passes-nothing, first_ext}
 use Rattle.numbers.proofs.Below.{all_below-append}
@@ -28,14 +28,12 @@ use Rattle.numbers.proofs.Truth.{both_true}
 use Rattle.plan.specs.declared.Gate.{Gate}
 use Rattle.plan.specs.declared.Gate.TheVariants.{Input, Add, Scale, Offset, Multiply, Random, Spend}
 use Rattle.plan.specs.declared.Output.{Output}
-use Rattle.plan.specs.declared.Layout.{Layout}
 use Rattle.plan.specs.declared.Rule.TheVariants.{Reduction}
-use Rattle.plan.specs.declared.Checked.{Checked}
-use Rattle.plan.specs.declared.Checked.TheVariants.{Passed, Refused}
+use Rattle.plan.specs.Refusals.{Checked}
 use Rattle.plan.specs.declared.Refusal.TheVariants as refusal
 use Rattle.plan.specs.Refusals.{and_then, first_of, need, unless_found}
 use Rattle.plan.specs.Plans.{Plan, party_count, kind_of, operands_of}
-use Rattle.plan.specs.File.{version_at, layout_for, layout_of, field_at, gate_start, gate_place, out_place, point_place, point_at, points_placed, magic, same_bytes, between, gate_of, gate_from, gate_at, out_at, gate_ok, out_ok, gate_kept, out_kept, gate_count_at, out_count_at, n_at, t_at, p_at, parties_ok, threshold_ok, modulus_ok, layout_ok, point_kept, majority_check, points_check, plan_checks, plan_check, plan_of}
+use Rattle.plan.specs.File.{version_at, layout_for, field_at, gate_start, gate_place, out_place, point_place, point_at, points_placed, magic, same_bytes, between, gate_of, gate_from, gate_at, out_at, gate_ok, out_ok, gate_kept, out_kept, gate_count_at, out_count_at, n_at, t_at, p_at, parties_ok, threshold_ok, modulus_ok, layout_ok, point_kept, majority_check, points_check, plan_checks, plan_check, plan_of}
 use Rattle.plan.proofs.Gates.{layout_rows}
 use Rattle.plan.proofs.Planned.{between-true, modulus_small, modulus_above}
 use Rattle.plan.proofs.Ways.{majority-all, majority-there, points-pass, points-right}
@@ -573,7 +571,7 @@ module _ (n p : ℕ) (b : Bodies) (n-small : n ≤ 15) (p-small : p < 4294967296
 
   module _ (wired : Wired n p b) (t : ℕ) (few_outs : length b.outs ≤ 64) where
     -- 7 falls on no gate
-    gates-pass : first_failing (gate_kept (file_of_plan n t p b)) (gate_count_at (file_of_plan n t p b)) ≡ Nothing
+    gates-pass : first_failing (gate_kept (file_of_plan n t p b)) (gate_count_at (file_of_plan n t p b)) ≡ None
     unfolding gate_kept
     gates-pass =
         passes-nothing (gate_kept (file_of_plan n t p b)) (gate_count_at (file_of_plan n t p b))
@@ -589,7 +587,7 @@ module _ (n p : ℕ) (b : Bodies) (n-small : n ≤ 15) (p-small : p < 4294967296
         (λ o l. unfold out_kept in unfold out_made in rw (made_n n t p b, made-gates n t p b few-gates few_outs, made-out n t p b few-gates few_outs n-small (wired_room wired) o l)))
 
     -- 26 falls on no point
-    points-made : n < p → points_check (file_of_plan n t p b) ≡ Passed
+    points-made : n < p → points_check (file_of_plan n t p b) ≡ (Ok tt)
     points-made above =
         sym (points-right (file_of_plan n t p b) (first_failing (point_kept (file_of_plan n t p b)) (n_at (file_of_plan n t p b))) refl
         (points-pass (file_of_plan n t p b)
@@ -627,9 +625,9 @@ module _ (n t p : ℕ) (b : Bodies) (few-gates : length b.gates ≤ 1024) (few_o
       made : Checked
       made = and_then (unless_found refusal.OutputRule (first_failing (out_made n b) (length b.outs))) (majority_check (file_of_plan n t p b))
 
-      only : (c : Checked) → and_then c Passed ≡ c
-      only Passed = refl
-      only (Refused r) = refl
+      only : (c : Checked) → and_then c (Ok tt) ≡ c
+      only (Ok tt) = refl
+      only (Err r) = refl
 
       by : (x y z w : Bool) → parties_ok n ≡ x → modulus_ok n p ≡ z
           → first_of (need refusal.Parties x ∷ need refusal.Threshold y ∷ need refusal.Modulus z ∷ need refusal.Layout w ∷ rest)
@@ -662,17 +660,17 @@ module _ (n t p : ℕ) (b : Bodies) (few-gates : length b.gates ≤ 1024) (few_o
 
       by : (x z : Bool) → parties_ok n ≡ x → modulus_ok n p ≡ z → and_then (first_of whole) (and_then rest major) ≡ and_then (first_of whole) major
       by true true e f =
-          let none : first_failing (out_made n b) (length b.outs) ≡ Nothing = passes-nothing (out_made n b) (length b.outs) (λ o l. unfold out_made in (sound e f).outs o l) in
+          let none : first_failing (out_made n b) (length b.outs) ≡ None = passes-nothing (out_made n b) (length b.outs) (λ o l. unfold out_made in (sound e f).outs o l) in
           rw none (unfold unless_found in unfold and_then in refl)
       by false z e f = unfold content_checks in unfold first_of in unfold need in unfold and_then in rw e
       by true false e f = unfold content_checks in unfold first_of in unfold need in unfold and_then in rw (e, f) (late (threshold_ok n t))
         where
-          late : (y : Bool) → and_then (and_then (need refusal.Threshold y) (Refused refusal.Modulus)) (and_then rest major) ≡ and_then (and_then (need refusal.Threshold y) (Refused refusal.Modulus)) major
+          late : (y : Bool) → and_then (and_then (need refusal.Threshold y) (Err refusal.Modulus)) (and_then rest major) ≡ and_then (and_then (need refusal.Threshold y) (Err refusal.Modulus)) major
           late true = unfold need in unfold and_then in refl
           late false = unfold need in unfold and_then in refl
 
 -- ---- the majority
-pub file_majority : (n t p : ℕ) (b : Bodies) → 2 * t < n → Passed ≡ majority_check (file_of_plan n t p b)
+pub file_majority : (n t p : ℕ) (b : Bodies) → 2 * t < n → (Ok tt) ≡ majority_check (file_of_plan n t p b)
 file_majority n t p b l =
     majority-there (file_of_plan n t p b) _ refl (sym (majority-all (file_of_plan n t p b) n t (sym (made_n n t p b)) (sym (made_t n t p b)) l))
 

@@ -2,37 +2,36 @@
 --     same-plan     it reads back as the plan
 --     same-passes   no refusal falls on it
 -- Assumes nothing.
-use Prim.Native.Nat.{ℕ, suc, ◌<◌, ◌≤◌}
+use Rattle.std.proofs.Common.{None, Ok}
+use Prim.Native.Nat.{ℕ, ◌<◌, ◌≤◌}
 use mathlib.Core.Path.{◌≡◌, refl, sym, ap, ◌∙◌}
 use mathlib.Core.Bool.{Bool, true, false, cond, ◌&&◌}
-use mathlib.Core.List.{List, [], ◌∷◌}
+use mathlib.Core.List.{List}
 use native.Mathlib.Omega.{arith}
 use borrow.Author.Tests.{le-leb, ne_eqb}
 use lib.Dec.{eqb, leb}
 use lib.ListN.{length, take, get_or}
-use Rattle.numbers.specs.Tables.{tab, first_failing}
-use Rattle.numbers.specs.declared.Found.TheVariants.{Nothing}
+use Rattle.numbers.specs.Tables.{first_failing}
 use Rattle.numbers.proofs.Tables.{length-tab, get_or-tab}
 use Rattle.numbers.proofs.Bytes.{span}
 use Rattle.numbers.proofs.Searches.{first_ext}
 use Rattle.sharing_laws.proofs.Alls.{all_at}
 use Rattle.plan.specs.declared.Gate.TheVariants.{Input}
 use Rattle.plan.specs.declared.Layout.{Layout}
-use Rattle.plan.specs.declared.Checked.TheVariants.{Passed}
 use Rattle.plan.specs.declared.Refusal.{Refusal}
 use Rattle.plan.specs.declared.Refusal.TheVariants as refusal
-use Rattle.plan.specs.Refusals.{first_of, unless_found}
+use Rattle.plan.specs.Refusals.{unless_found}
 use Rattle.plan.specs.Plans.{Plan, party_count}
 use Rattle.plan.specs.File.{magic, same_bytes, between, layout_for, gate_start, version_at, n_at, t_at, p_at, gate_count_at, out_count_at, gate_at, out_at, point_at, gate_kept, out_kept, majority_kept, point_apart, point_kept, layout_ok, majority_check, points_check, plan_checks, plan_check, plan_of}
 use Rattle.plan.proofs.Refusals.{need-true, next_passes, first_of-nil}
 use Rattle.plan.proofs.Gates.{layout_rows}
-use Rattle.plan.proofs.Planned.{Passing, passing, Laid, laid, between-true, length_gates, length_outs}
+use Rattle.plan.proofs.Planned.{Passing, passing, laid, between-true, length_gates, length_outs}
 use Rattle.plan.proofs.Valid.{Valid, valid, plain}
 use Rattle.plan_file.specs.Bodies.{started, contents, place_in, out_start, file_size, file_as, field_limit}
 use Rattle.plan_file.proofs.Writing.{limit_span}
 use Rattle.plan_file.proofs.Files.{Roomy, a_room, b_room, out_parts, field_room, file_long, version_back, n_back, t_back, p_back, gates-back, outs_back, layout-back, gate-back, out-back, point-back, plan-back}
 
-module _ (bs : List ℕ) (passes : plan_check bs ≡ Passed) (v : ℕ) (known : between 2 3 v ≡ true) (fits : p_at bs < field_limit v) where
+module _ (bs : List ℕ) (passes : plan_check bs ≡ (Ok tt)) (v : ℕ) (known : between 2 3 v ≡ true) (fits : p_at bs < field_limit v) where
   abbrev plan : Plan
   plan = plan_of bs
 
@@ -139,17 +138,17 @@ module _ (bs : List ℕ) (passes : plan_check bs ≡ Passed) (v : ℕ) (known : 
   laid-file : layout_ok file ≡ true
   laid-file = layout-back v plan gates_few outs_few ∙ rw (length_gates bs, length_outs bs, (laid bs checks.layout).gates, (laid bs checks.layout).outs)
 
-  gates-kept : first_failing (gate_kept file) (gate_count_at file) ≡ Nothing
+  gates-kept : first_failing (gate_kept file) (gate_count_at file) ≡ None
   gates-kept =
       ap (first_failing (gate_kept file)) gates_same
       ∙ first_ext (gate_kept file) (gate_kept bs) (gate_count_at bs) (λ g l. unfold gate_kept in rw (n-same, p-same, gate_same g l)) ∙ checks.gates
 
-  outs-kept : first_failing (out_kept file) (out_count_at file) ≡ Nothing
+  outs-kept : first_failing (out_kept file) (out_count_at file) ≡ None
   outs-kept =
       ap (first_failing (out_kept file)) outs_same
       ∙ first_ext (out_kept file) (out_kept bs) (out_count_at bs) (λ o l. unfold out_kept in rw (n-same, gates_same, out-same o l)) ∙ checks.outs
 
-  majority-kept : first_failing (majority_kept file) (gate_count_at file) ≡ Nothing
+  majority-kept : first_failing (majority_kept file) (gate_count_at file) ≡ None
   majority-kept =
       ap (first_failing (majority_kept file)) gates_same
       ∙ first_ext (majority_kept file) (majority_kept bs) (gate_count_at bs) (λ g l. unfold majority_kept in rw (n-same, t_same, gate_same g l)) ∙ checks.majority
@@ -163,10 +162,10 @@ module _ (bs : List ℕ) (passes : plan_check bs ≡ Passed) (v : ℕ) (known : 
         first_ext (point_apart file i) (point_apart bs i) i (λ j m. unfold point_apart in rw (point-same i l, point-same j (omega arith))),
       )
 
-  points_kept : first_failing (point_kept file) (n_at file) ≡ Nothing
+  points_kept : first_failing (point_kept file) (n_at file) ≡ None
   points_kept = ap (first_failing (point_kept file)) n-same ∙ first_ext (point_kept file) (point_kept bs) (n_at bs) point-kept ∙ checks.points
 
-  pub same-passes : plan_check file ≡ Passed
+  pub same-passes : plan_check file ≡ (Ok tt)
   unfolding plan_check plan_checks majority_check points_check
   same-passes =
       next_passes _ _ (need-true refusal.Magic _ begun)
@@ -180,5 +179,5 @@ module _ (bs : List ℕ) (passes : plan_check bs ≡ Passed) (v : ℕ) (known : 
       (next_passes _ _ (ap (unless_found (λ g. refusal.Majority)) majority-kept ∙ none (λ g. refusal.Majority))
       (next_passes _ _ (ap (unless_found (λ i. refusal.Points)) points_kept ∙ none (λ i. refusal.Points)) first_of-nil)))))))))
     where
-      none : (r : ℕ → Refusal) → unless_found r Nothing ≡ Passed
+      none : (r : ℕ → Refusal) → unless_found r None ≡ (Ok tt)
       none r = unfold unless_found in refl

@@ -7,7 +7,7 @@ use mathlib.Core.List.{List, ◌++◌}
 use native.Mathlib.Omega.{arith}
 use lib.ListN.{length, take, drop, length-append}
 use lib.Seq.{take_at, length-take-le}
-use Rattle.plan.specs.declared.Checked.{Checked}
+use Rattle.plan.specs.Refusals.{Checked}
 use Rattle.plan.specs.File.{majority_check}
 
 module _ (size : ℕ) (room : List ℕ) (long : length room ≡ 10524) (few : size ≤ 10524) where

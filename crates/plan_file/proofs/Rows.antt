@@ -8,7 +8,7 @@ use mathlib.Core.Path.{◌≡◌, refl, sym, ap, ◌∙◌}
 use mathlib.Core.List.{List, [], ◌∷◌, ◌++◌, flat_map, append-nil}
 use native.Mathlib.Omega.{arith}
 use native.Mathlib.Nat.{mul-add}
-use lib.ListN.{length, length-append}
+use lib.ListN.{length}
 use Rattle.numbers.proofs.Rows.{flat_append, flat-length}
 use Rattle.plan.specs.declared.Gate.{Gate}
 use Rattle.plan.specs.Plans.{Plan, party_count}

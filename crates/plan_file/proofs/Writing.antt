@@ -1,46 +1,75 @@
 -- What each way through the writer says of the bytes, and of refusals 3 to 6.
 --     writing, sizing, checking     what closes the needs of the functions
 -- Assumes nothing.
-use Prim.Native.Nat.{ℕ, zero, suc, ◌+◌, ◌*◌, ◌/◌, ◌%◌, ◌<◌, ◌≤◌}
+use Rattle.std.proofs.Common.{Option, Some, None, Ok, Err}
+use Prim.Native.Nat.{ℕ, zero, suc, min, ◌+◌, ◌-◌, ◌*◌, ◌/◌, ◌%◌, ◌<◌, ◌≤◌}
 use mathlib.Core.Path.{◌≡◌, refl, sym, ap, ◌∙◌}
 use mathlib.Core.Bool.{Bool, true, false, cond, ◌&&◌}
 use mathlib.Core.List.{List, [], ◌∷◌, ◌++◌, flat_map, append-nil}
+use native.Mathlib.Decide.{dec_le}
+use native.Mathlib.Nat.{mul-le-mul, min-le_left, min-le_right, min-eq_right}
+use borrow.Rule.Slice.PartMut.{put_mid}
+use Rattle.std.proofs.lemmas.Slice.{put_mid-paste}
 use native.Mathlib.Omega.{arith}
+use Rattle.std.specs.Int.{to_le_bytes}
 use native.Mathlib.Numerals.{add-one}
 use borrow.Author.Rules.{rules}
 use borrow.Author.Tests.{not-true, not-false, ltb-true, lt-ltb, le-ltb, eq-eqb, ne_eqb}
 use lib.Dec.{eqb, ltb}
-use lib.ListN.{length, get_or, take, set}
-use lib.Seq.{sets, set_out, length-sets, take-suc, take_all, length-take-le}
+use mir.Syntax.{w64}
+use mir.Val.{Fits}
+use lib.ListN.{length, get_or, take, drop, take-append-drop, drop_of_length-le}
+use lib.Seq.{sets, sets-eq, length-sets, take-suc, take_all, length-take-le}
 use Rattle.numbers.specs.Tables.{tab}
 use Rattle.numbers.specs.Bytes.{bytes_from}
 use Rattle.numbers.proofs.Bytes.{span, length-bytes_from}
 use Rattle.numbers.proofs.Tables.{length-tab, get_or-tab}
 use Rattle.numbers.proofs.Rows.{flat-length, flat_append, flat-snoc, sets-append, sets_all, sets_out}
 use Rattle.field.specs.declared.Field.{Field}
-use Rattle.field.specs.declared.Made.{Made}
-use Rattle.field.specs.declared.Made.TheVariants as made
-use Rattle.plan.specs.declared.Gate.{Gate}
-use Rattle.plan.specs.declared.Gate.TheVariants.{Input, Add, Scale, Offset, Multiply, Random, Spend}
+use Rattle.field.specs.declared.Field.{Field}
 use Rattle.plan.specs.declared.Output.{Output}
 use Rattle.plan.specs.declared.Layout.{Layout}
-use Rattle.plan.specs.declared.Checked.TheVariants.{Passed, Refused}
 use Rattle.plan.specs.declared.Refusal.TheVariants as refusal
 use Rattle.plan.specs.Refusals.{and_then, first_of, need}
-use Rattle.plan.specs.Plans.{kind_of, operands_of}
 use Rattle.plan.specs.File.{magic, layout_for, gate_start, between, parties_ok, threshold_ok, field_above}
-use Rattle.plan.proofs.Gates.{layout_rows, field_long, point_long}
-use Rattle.plan.proofs.Ways.{above-not, above-is}
-use Rattle.plan_file.specs.Bodies.{written, bytes_each, open_from, gate_bytes, out_bytes, points_bytes, place_in, out_start, started, counted, contents, file_size, version_for, content_checks, field_limit}
+use Rattle.plan.proofs.Gates.{layout_rows}
+use Rattle.plan.proofs.Ways.{above-not, above-is, modulus_in}
+use Rattle.plan_file.specs.Bodies.{written, bytes_each, open_from, out_bytes, points_bytes, place_in, out_start, started, counted, contents, file_size, version_for, content_checks, field_limit}
 
 -- ---- bytes
-pub put-past : (s : List ℕ) (at v : ℕ) → length s ≤ at → s ≡ written s at (v ∷ [])
+-- as many of them as there is room for
+pub put_cut : (s vs ys : List ℕ) (at room : ℕ) → at < length s → room ≡ min (length vs) (length s - at) → ys ≡ take room vs → put_mid at (at + room - at) s ys ≡ written s at vs
 unfolding written
-put-past s at v l = sym (set_out s at v l)
+put_cut s vs ys at room l e f =
+    let few : room ≤ length vs = omega (arith, e, min-le_left (length vs) (length s - at)) in
+    let fits : room ≤ length s - at = omega (arith, e, min-le_right (length vs) (length s - at)) in
+    let long : length (take room vs) ≡ room = length-take-le room vs few in
+    let one : put_mid at (at + room - at) s ys ≡ take at s ++ take room (take room vs) ++ drop (at + room) s = put_mid-paste at (at + room - at) s ys (take room vs) room f (omega arith) (sym long) in
+    let some : sets s at (take room vs) ≡ take at s ++ take room vs ++ drop (at + room) s = sets-eq (take room vs) s at (omega arith) ∙ ap (λ (k : ℕ). take at s ++ take room vs ++ drop (at + k) s) long in
+    let same : take room (take room vs) ≡ take room vs = take_all room (take room vs) (omega arith) in
+    let all : sets s at vs ≡ sets (sets s at (take room vs)) (at + length (take room vs)) (drop room vs) = ap (sets s at) (sym (take-append-drop room vs)) ∙ sets-append s at (take room vs) (drop room vs) in
+    let rest : sets (sets s at (take room vs)) (at + length (take room vs)) (drop room vs) ≡ sets s at (take room vs) = pick few long (dec_le (length vs) room) in
+    one ∙ rw same (sym some ∙ sym (all ∙ rest))
+  where
+    pick : room ≤ length vs → length (take room vs) ≡ room → Dec (length vs ≤ room) → sets (sets s at (take room vs)) (at + length (take room vs)) (drop room vs) ≡ sets s at (take room vs)
+    pick few long (yes k) = rw (drop_of_length-le vs {i = room} k)
+    pick few long (no k) =
+        let full : room ≡ length s - at = e ∙ min-eq_right (omega arith) in
+        sets_out (sets s at (take room vs)) (at + length (take room vs)) (drop room vs) (omega (arith, length-sets s at (take room vs)))
 
-pub put_at : (s : List ℕ) (at v : ℕ) → set s at v ≡ written s at (v ∷ [])
+pub put-past : (s : List ℕ) (at : ℕ) (vs : List ℕ) → length s ≤ at → s ≡ written s at vs
 unfolding written
-put_at s at v = refl
+put-past s at vs l = sym (sets_out s at vs l)
+
+-- a number's low bytes
+pub low_bytes : (w x : ℕ) → w ≤ 4 → take w (to_le_bytes w64 x) ≡ bytes_from w x
+unfolding bytes_from
+low_bytes zero x l = refl
+low_bytes (suc zero) x l = refl
+low_bytes (suc (suc zero)) x l = refl
+low_bytes (suc (suc (suc zero))) x l = let e : x / 65536 ≡ x / 256 / 256 = omega arith in rw e
+low_bytes (suc (suc (suc (suc zero)))) x l = let e : x / 65536 ≡ x / 256 / 256 = omega arith in let f : x / 16777216 ≡ x / 256 / 256 / 256 = omega arith in rw (e, f)
+low_bytes (suc (suc (suc (suc (suc w))))) x l = absurd (omega arith)
 
 -- bytes, then others right after them
 pub written_then : (s s1 s2 vs ws : List ℕ) (at next : ℕ) → s1 ≡ written s at vs → s2 ≡ written s1 next ws → next ≡ at + length vs → s2 ≡ written s at (vs ++ ws)
@@ -56,114 +85,9 @@ pub written-whole : (s vs : List ℕ) → length vs ≡ length s → written s 0
 unfolding written
 written-whole s vs e = sets_all s vs e
 
-pub two_put : (s s1 s2 : List ℕ) (at v w : ℕ) → s1 ≡ written s at (v ∷ []) → s2 ≡ written s1 (at + 1) (w ∷ []) → s2 ≡ written s at (v ∷ w ∷ [])
-two_put s s1 s2 at v w e f = written_then s s1 s2 (v ∷ []) (w ∷ []) at (at + 1) e f (omega arith)
-
-pub word_put : (s new : List ℕ) (at v : ℕ) → new ≡ written s at (v % 256 ∷ v / 256 % 256 ∷ []) → new ≡ written s at (bytes_from 2 v)
-unfolding bytes_from
-word_put s new at v e = e
-
-pub long_put : (s s1 s2 : List ℕ) (at v : ℕ) → s1 ≡ written s at (bytes_from 2 v) → s2 ≡ written s1 (at + 2) (bytes_from 2 (v / 65536)) → s2 ≡ written s at (bytes_from 4 v)
-unfolding bytes_from
-long_put s s1 s2 at v e f =
-    let high : v / 65536 ≡ v / 256 / 256 = omega arith in
-    written_then s s1 s2 (v % 256 ∷ v / 256 % 256 ∷ []) (v / 256 / 256 % 256 ∷ v / 256 / 256 / 256 % 256 ∷ []) at (at + 2) e (rw high at f) (omega arith)
-
-pub letters_put : (s s1 s2 : List ℕ) → s1 ≡ written s 0 (80 ∷ 79 ∷ []) → s2 ≡ written s1 2 (79 ∷ 76 ∷ []) → s2 ≡ written s 0 magic
-unfolding magic
-letters_put s s1 s2 a b = written_then s s1 s2 (80 ∷ 79 ∷ []) (79 ∷ 76 ∷ []) 0 2 a b refl
-
-pub start_put : (v n t : ℕ) (s s1 s2 s3 : List ℕ) → s1 ≡ written s 0 magic → s2 ≡ written s1 4 (v ∷ n ∷ []) → s3 ≡ written s2 6 (t ∷ 0 ∷ []) → s3 ≡ written s 0 (started v n t)
+pub start_put : (v n t : ℕ) (s s1 s2 : List ℕ) → s1 ≡ written s 0 (80 ∷ 79 ∷ 79 ∷ 76 ∷ []) → s2 ≡ written s1 4 (v ∷ n ∷ t ∷ 0 ∷ []) → s2 ≡ written s 0 (started v n t)
 unfolding started magic
-start_put v n t s s1 s2 s3 a b c =
-    written_then s s2 s3 (magic ++ (v ∷ n ∷ [])) (t ∷ 0 ∷ []) 0 6 (written_then s s1 s2 magic (v ∷ n ∷ []) 0 4 a b refl) c refl
-
--- ---- what stands where
-module _ (v : ℕ) (l : Layout) (el : l ≡ layout_for v) where
-  is_field : (layout_for v).field ≡ l.field
-  is_field = ap (λ (x : Layout). x.field) (sym el)
-
-  is_point : (layout_for v).point ≡ l.point
-  is_point = ap (λ (x : Layout). x.point) (sym el)
-
-  four : (l.field ≡ 2 → ⊥) → (layout_for v).field ≡ 4
-  four h = field_long v (λ e. h (sym is_field ∙ e))
-
-  pub place_narrow : (g : ℕ) → l.field ≡ 2 → l.head + 6 * g ≡ place_in v g
-  unfolding place_in gate_start
-  place_narrow g e = rw (is_field ∙ e, ← el) (omega arith)
-
-  pub place_wide : (g : ℕ) → (l.field ≡ 2 → ⊥) → l.head + 10 * g ≡ place_in v g
-  unfolding place_in gate_start
-  place_wide g h = rw (four h, ← el) (omega arith)
-
-  module _ (n gates outs at : ℕ) (ea : at ≡ out_start v gates outs) where
-    pub size_none : l.point ≡ 0 → at ≡ file_size v n gates outs
-    unfolding file_size
-    size_none e = ea ∙ rw (is_point ∙ e) (omega arith)
-
-    pub size-two : l.point ≡ 2 → at + 2 * n ≡ file_size v n gates outs
-    unfolding file_size
-    size-two e = rw (is_point ∙ e, ← ea)
-
-    pub size-four : (l.point ≡ 0 → ⊥) → (l.point ≡ 2 → ⊥) → at + 4 * n ≡ file_size v n gates outs
-    unfolding file_size
-    size-four h k = rw (point_long v (λ e. h (sym is_point ∙ e)) (λ e. k (sym is_point ∙ e)), ← ea)
-
-  -- a field
-  module _ (s new : List ℕ) (k x : ℕ) where
-    pub field-narrow : l.field ≡ 2 → new ≡ written s (8 + 2 * k) (bytes_from 2 x) → new ≡ written s (8 + (layout_for v).field * k) (bytes_from (layout_for v).field x)
-    field-narrow e h = rw (is_field ∙ e) h
-
-    pub field-wide : (l.field ≡ 2 → ⊥) → new ≡ written s (8 + 4 * k) (bytes_from 4 x) → new ≡ written s (8 + (layout_for v).field * k) (bytes_from (layout_for v).field x)
-    field-wide e h = rw (four e) h
-
-  -- the points' offset
-  module _ (s : List ℕ) (at : ℕ) where
-    pub offset-none : l.point ≡ 0 → s ≡ written s (8 + (layout_for v).field * 5) (bytes_each (layout_for v).field (cond (eqb (layout_for v).point 0) [] (at ∷ [])))
-    unfolding bytes_each flat_map written
-    offset-none e = rw (eq-eqb (layout_for v).point 0 (is_point ∙ e))
-
-    pub offset-some : (new : List ℕ) → (l.point ≡ 0 → ⊥) → new ≡ written s (8 + (layout_for v).field * 5) (bytes_from (layout_for v).field at)
-        → new ≡ written s (8 + (layout_for v).field * 5) (bytes_each (layout_for v).field (cond (eqb (layout_for v).point 0) [] (at ∷ [])))
-    unfolding bytes_each flat_map
-    offset-some new h e =
-        rw (ne_eqb (layout_for v).point 0 (λ z. h (sym is_point ∙ z))) (e ∙ ap (written s (8 + (layout_for v).field * 5)) (sym (append-nil (bytes_from (layout_for v).field at))))
-
-  -- a gate's fields
-  module _ (s new : List ℕ) (g k a b : ℕ) where
-    pub fields-narrow : l.field ≡ 2 → new ≡ written s (l.head + 6 * g) (k ∷ 0 ∷ bytes_each 2 (a ∷ b ∷ [])) → new ≡ written s (place_in v g) (k ∷ 0 ∷ bytes_each (layout_for v).field (a ∷ b ∷ []))
-    fields-narrow e h = rw (← place_narrow g e, is_field ∙ e) h
-
-    pub fields-wide : (l.field ≡ 2 → ⊥) → new ≡ written s (l.head + 10 * g) (k ∷ 0 ∷ bytes_each 4 (a ∷ b ∷ [])) → new ≡ written s (place_in v g) (k ∷ 0 ∷ bytes_each (layout_for v).field (a ∷ b ∷ []))
-    fields-wide e h = rw (← place_wide g e, four e) h
-
-  -- a point
-  module _ (s : List ℕ) (at i x : ℕ) where
-    pub point-none : l.point ≡ 0 → s ≡ written s (at + (layout_for v).point * i) (bytes_from (layout_for v).point x)
-    unfolding bytes_from written
-    point-none e = rw (is_point ∙ e)
-
-    module _ (new : List ℕ) where
-      pub point-narrow : l.point ≡ 2 → new ≡ written s (at + 2 * i) (bytes_from 2 x) → new ≡ written s (at + (layout_for v).point * i) (bytes_from (layout_for v).point x)
-      point-narrow e h = rw (is_point ∙ e) h
-
-      pub point-wide : (l.point ≡ 0 → ⊥) → (l.point ≡ 2 → ⊥) → new ≡ written s (at + 4 * i) (bytes_from 4 x) → new ≡ written s (at + (layout_for v).point * i) (bytes_from (layout_for v).point x)
-      point-wide h k e = rw (point_long v (λ z. h (sym is_point ∙ z)) (λ z. k (sym is_point ∙ z))) e
-
-pub out_starts : (v gates o at : ℕ) → at ≡ place_in v gates → at + 3 * o ≡ out_start v gates o
-unfolding out_start
-out_starts v gates o at e = rw e
-
-pub version_first : (p : ℕ) → p < 65536 → 1 ≡ version_for p
-unfolding version_for
-version_first p l = rw (lt-ltb p 65536 l)
-
-pub version_third : (p : ℕ) → 65536 ≤ p → 3 ≡ version_for p
-unfolding version_for
-version_third p l = rw (le-ltb p 65536 l)
-
-pub ruleset sizing = (rules, version_first, version_third, place_narrow, place_wide, out_starts, size_none, size-two, size-four)
+start_put v n t s s1 s2 a b = written_then s s1 s2 magic (v ∷ n ∷ t ∷ 0 ∷ []) 0 4 a b refl
 
 -- ---- numbers one after the other
 pub each-cons : (w x : ℕ) (xs : List ℕ) → bytes_each w (x ∷ xs) ≡ bytes_from w x ++ bytes_each w xs
@@ -178,6 +102,121 @@ each_long w xs = flat-length (bytes_from w) w (length-bytes_from w) xs
 each_then : (w : ℕ) (s s1 s2 : List ℕ) (at next x : ℕ) (xs : List ℕ) → s1 ≡ written s at (bytes_from w x) → s2 ≡ written s1 next (bytes_each w xs) → next ≡ at + w → s2 ≡ written s at (bytes_each w (x ∷ xs))
 each_then w s s1 s2 at next x xs e f n =
     written_then s s1 s2 (bytes_from w x) (bytes_each w xs) at next e f (n ∙ ap (λ (k : ℕ). at + k) (sym (length-bytes_from w x))) ∙ ap (written s at) (sym (each-cons w x xs))
+
+-- ---- what stands where
+point_low : (v : ℕ) → (layout_for v).point ≤ 4
+point_low = layout_rows (λ l. l.point ≤ 4) (omega arith) (omega arith) (omega arith)
+
+field_low : (v : ℕ) → (layout_for v).field ≤ 4
+field_low = layout_rows (λ l. l.field ≤ 4) (omega arith) (omega arith) (omega arith)
+
+head_low : (v : ℕ) → (layout_for v).head ≤ 32
+head_low = layout_rows (λ l. l.head ≤ 32) (omega arith) (omega arith) (omega arith)
+
+module _ (v : ℕ) (l : Layout) (el : l ≡ layout_for v) where
+  is_point : (layout_for v).point ≡ l.point
+  is_point = ap (λ (x : Layout). x.point) (sym el)
+
+  pub points_narrow : l.point ≤ 4
+  points_narrow = rw el (point_low v)
+
+  gates_le : (g : ℕ) → g ≤ 1024 → (2 + 2 * l.field) * g ≤ 10240
+  gates_le g few = mul-le-mul {n₁ = 2 + 2 * l.field} {m₁ = g} {n₂ = 10} {m₂ = 1024} (let n : l.field ≤ 4 = rw el (field_low v) in omega arith) few
+
+  pub gates-fit : (g : ℕ) → g ≤ 1024 → Fits w64 ((2 + 2 * l.field) * g)
+  gates-fit g few = record { fits = omega (arith, gates_le g few) }
+
+  pub place-fits : (g : ℕ) → g ≤ 1024 → Fits w64 (l.head + (2 + 2 * l.field) * g)
+  place-fits g few = record { fits = let h : l.head ≤ 32 = rw el (head_low v) in omega (arith, gates_le g few) }
+
+  pub place-le : (g : ℕ) → g ≤ 1024 → l.head + (2 + 2 * l.field) * g ≤ 10272
+  place-le g few = let h : l.head ≤ 32 = rw el (head_low v) in omega (arith, gates_le g few)
+
+  pub place_is : (g : ℕ) → l.head + (2 + 2 * l.field) * g ≡ place_in v g
+  unfolding place_in gate_start
+  place_is g = rw el
+
+  points_le : (n most : ℕ) → n ≤ most → l.point * n ≤ 4 * most
+  points_le n most few = mul-le-mul {n₁ = l.point} {m₁ = n} {n₂ = 4} {m₂ = most} points_narrow few
+
+  pub points-fit : (n : ℕ) → n ≤ 256 → Fits w64 (l.point * n)
+  points-fit n few = record { fits = omega (arith, points_le n 256 few) }
+
+  pub point-fits : (at i : ℕ) → at ≤ 10464 → i ≤ 256 → Fits w64 (at + l.point * i)
+  point-fits at i low few = record { fits = omega (arith, points_le i 256 few) }
+
+  module _ (n gates outs at : ℕ) (ea : at ≡ out_start v gates outs) where
+    pub size_is : at + l.point * n ≡ file_size v n gates outs
+    unfolding file_size
+    size_is = rw (ea, el)
+
+    pub size-le : at ≤ 10464 → n ≤ 15 → at + l.point * n ≤ 10524
+    size-le low few = omega (arith, points_le n 15 few)
+
+  -- a field
+  fields_le : (k : ℕ) → k < 6 → l.field * k ≤ 24
+  fields_le k few = mul-le-mul {n₁ = l.field} {m₁ = k} {n₂ = 4} {m₂ = 6} (rw el (field_low v)) (omega arith)
+
+  pub fields-fit : (k : ℕ) → k < 6 → Fits w64 (l.field * k)
+  fields-fit k few = record { fits = omega (arith, fields_le k few) }
+
+  pub field-fits : (k : ℕ) → k < 6 → Fits w64 (8 + l.field * k)
+  field-fits k few = record { fits = omega (arith, fields_le k few) }
+
+  pub field-put : (s new : List ℕ) (k x : ℕ) → new ≡ written s (8 + l.field * k) (bytes_from l.field x) → new ≡ written s (8 + (layout_for v).field * k) (bytes_from (layout_for v).field x)
+  field-put s new k x h = rw (← el) h
+
+  -- the points' offset
+  module _ (s : List ℕ) (at : ℕ) where
+    pub offset-none : l.point ≡ 0 → s ≡ written s (8 + (layout_for v).field * 5) (bytes_each (layout_for v).field (cond (eqb (layout_for v).point 0) [] (at ∷ [])))
+    unfolding bytes_each flat_map written
+    offset-none e = rw (eq-eqb (layout_for v).point 0 (is_point ∙ e))
+
+    pub offset-some : (new : List ℕ) → (l.point ≡ 0 → ⊥) → new ≡ written s (8 + (layout_for v).field * 5) (bytes_from (layout_for v).field at)
+        → new ≡ written s (8 + (layout_for v).field * 5) (bytes_each (layout_for v).field (cond (eqb (layout_for v).point 0) [] (at ∷ [])))
+    unfolding bytes_each flat_map
+    offset-some new h e =
+        rw (ne_eqb (layout_for v).point 0 (λ z. h (sym is_point ∙ z))) (e ∙ ap (written s (8 + (layout_for v).field * 5)) (sym (append-nil (bytes_from (layout_for v).field at))))
+
+  -- a gate's fields
+  module _ (g long : ℕ) where
+    pub gate-room : g ≤ long / (2 + 2 * l.field) → (2 + 2 * l.field) * g ≤ long
+    gate-room = rw el (layout_rows (λ (w : Layout). g ≤ long / (2 + 2 * w.field) → (2 + 2 * w.field) * g ≤ long) (λ h. omega arith) (λ h. omega arith) (λ h. omega arith) v)
+
+    pub gate-room-fits : g ≤ long / (2 + 2 * l.field) → long < 18446744073709551616 → Fits w64 ((2 + 2 * l.field) * g)
+    gate-room-fits h m = record { fits = omega (arith, gate-room h) }
+
+    past-room : long / (2 + 2 * l.field) < g → long ≤ l.head + (2 + 2 * l.field) * g
+    past-room = rw el (layout_rows (λ (w : Layout). long / (2 + 2 * w.field) < g → long ≤ w.head + (2 + 2 * w.field) * g) (λ h. omega arith) (λ h. omega arith) (λ h. omega arith) v)
+
+  pub gate-past : (s : List ℕ) (g k a b : ℕ) → length s / (2 + 2 * l.field) < g → s ≡ written s (place_in v g) (k ∷ 0 ∷ bytes_each (layout_for v).field (a ∷ b ∷ []))
+  gate-past s g k a b h = rw (← place_is g) (put-past s (l.head + (2 + 2 * l.field) * g) (k ∷ 0 ∷ bytes_each (layout_for v).field (a ∷ b ∷ [])) (past-room g (length s) h))
+
+  pub fields_put : (s s1 s2 s3 : List ℕ) (g k a b : ℕ) → s1 ≡ written s (l.head + (2 + 2 * l.field) * g) (k ∷ 0 ∷ []) → s2 ≡ written s1 (l.head + (2 + 2 * l.field) * g + 2) (bytes_from l.field a)
+      → s3 ≡ written s2 (l.head + (2 + 2 * l.field) * g + 2 + l.field) (bytes_from l.field b) → s3 ≡ written s (place_in v g) (k ∷ 0 ∷ bytes_each (layout_for v).field (a ∷ b ∷ []))
+  fields_put s s1 s2 s3 g k a b e f h =
+      let at : ℕ = l.head + (2 + 2 * l.field) * g in
+      rw (← place_is g, ← el) (
+      written_then s s1 s3 (k ∷ 0 ∷ []) (bytes_each l.field (a ∷ b ∷ [])) at (at + 2) e
+      (each_then l.field s1 s2 s3 (at + 2) (at + 2 + l.field) a (b ∷ []) f (h ∙ ap (written s2 (at + 2 + l.field)) (unfold bytes_each in unfold flat_map in sym (append-nil (bytes_from l.field b)))) refl) refl)
+
+  -- a point
+  pub point_put : (s new : List ℕ) (at i x : ℕ) → new ≡ written s (at + l.point * i) (bytes_from l.point x) → new ≡ written s (at + (layout_for v).point * i) (bytes_from (layout_for v).point x)
+  point_put s new at i x h = rw (← el) h
+
+pub out_starts : (v gates o at : ℕ) → at ≡ place_in v gates → at + 3 * o ≡ out_start v gates o
+unfolding out_start
+out_starts v gates o at e = rw e
+
+pub version_first : (p : ℕ) → p < 65536 → 1 ≡ version_for p
+unfolding version_for
+version_first p l = rw (lt-ltb p 65536 l)
+
+pub version_third : (p : ℕ) → 65536 ≤ p → 3 ≡ version_for p
+unfolding version_for
+version_third p l = rw (le-ltb p 65536 l)
+
+pub ruleset sizing = (rules, version_first, version_third, gates-fit, place-fits, place-le, place_is, points-fit, point-fits, size_is, size-le, out_starts)
 
 pub pair_put : (v k a b : ℕ) (s s1 s2 : List ℕ) → s1 ≡ written s (8 + (layout_for v).field * k) (bytes_from (layout_for v).field a)
     → s2 ≡ written s1 (8 + (layout_for v).field * (k + 1)) (bytes_from (layout_for v).field b) → s2 ≡ written s (8 + (layout_for v).field * k) (bytes_each (layout_for v).field (a ∷ b ∷ []))
@@ -249,64 +288,7 @@ fits_for p l = pick (ltb p 65536) refl
     pick true e = ltb-true p 65536 e
     pick false e = l
 
--- ---- gates and outs
-module _ (s : List ℕ) (h g k a b : ℕ) where
-  pub narrow-past : length s / 6 < g → s ≡ written s (h + 6 * g) (k ∷ 0 ∷ bytes_each 2 (a ∷ b ∷ []))
-  unfolding written
-  narrow-past l = sym (sets_out s (h + 6 * g) (k ∷ 0 ∷ bytes_each 2 (a ∷ b ∷ [])) (omega arith))
-
-  pub wide-past : length s / 10 < g → s ≡ written s (h + 10 * g) (k ∷ 0 ∷ bytes_each 4 (a ∷ b ∷ []))
-  unfolding written
-  wide-past l = sym (sets_out s (h + 10 * g) (k ∷ 0 ∷ bytes_each 4 (a ∷ b ∷ [])) (omega arith))
-
--- two bytes, then two numbers
-fields_then : (w : ℕ) (s s1 s2 s3 : List ℕ) (at n1 n2 k a b : ℕ) → s1 ≡ written s at (k ∷ 0 ∷ []) → s2 ≡ written s1 n1 (bytes_from w a) → s3 ≡ written s2 n2 (bytes_from w b)
-    → n1 ≡ at + 2 → n2 ≡ n1 + w → s3 ≡ written s at (k ∷ 0 ∷ bytes_each w (a ∷ b ∷ []))
-fields_then w s s1 s2 s3 at n1 n2 k a b e f h i j =
-    written_then s s1 s3 (k ∷ 0 ∷ []) (bytes_each w (a ∷ b ∷ [])) at n1 e
-    (each_then w s1 s2 s3 n1 n2 a (b ∷ []) f (h ∙ ap (written s2 n2) (unfold bytes_each in unfold flat_map in sym (append-nil (bytes_from w b)))) j) i
-
-pub narrow_put : (s s1 s2 s3 : List ℕ) (at k a b : ℕ) → s1 ≡ written s at (k ∷ 0 ∷ []) → s2 ≡ written s1 (at + 2) (bytes_from 2 a) → s3 ≡ written s2 (at + 4) (bytes_from 2 b)
-    → s3 ≡ written s at (k ∷ 0 ∷ bytes_each 2 (a ∷ b ∷ []))
-narrow_put s s1 s2 s3 at k a b e f h = fields_then 2 s s1 s2 s3 at (at + 2) (at + 4) k a b e f h refl (omega arith)
-
-pub wide_put : (s s1 s2 s3 : List ℕ) (at k a b : ℕ) → s1 ≡ written s at (k ∷ 0 ∷ []) → s2 ≡ written s1 (at + 2) (bytes_from 4 a) → s3 ≡ written s2 (at + 6) (bytes_from 4 b)
-    → s3 ≡ written s at (k ∷ 0 ∷ bytes_each 4 (a ∷ b ∷ []))
-wide_put s s1 s2 s3 at k a b e f h = fields_then 4 s s1 s2 s3 at (at + 2) (at + 6) k a b e f h refl (omega arith)
-
-module _ (s new : List ℕ) (v g : ℕ) (gate : Gate) where
-  gate_put : (k a b : ℕ) → kind_of gate ≡ k → operands_of gate ≡ a ∷ b ∷ [] → new ≡ written s (place_in v g) (k ∷ 0 ∷ bytes_each (layout_for v).field (a ∷ b ∷ [])) → new ≡ written s (place_in v g) (gate_bytes v gate)
-  unfolding gate_bytes
-  gate_put k a b e f h = rw (e, f) h
-
-  pub input_put : (x : ℕ) → gate ≡ Input x → new ≡ written s (place_in v g) (1 ∷ 0 ∷ bytes_each (layout_for v).field (x ∷ 0 ∷ [])) → new ≡ written s (place_in v g) (gate_bytes v gate)
-  unfolding kind_of operands_of
-  input_put x e h = gate_put 1 x 0 (rw e) (rw e) h
-
-  pub add_put : (a b : ℕ) → gate ≡ Add a b → new ≡ written s (place_in v g) (2 ∷ 0 ∷ bytes_each (layout_for v).field (a ∷ b ∷ [])) → new ≡ written s (place_in v g) (gate_bytes v gate)
-  unfolding kind_of operands_of
-  add_put a b e h = gate_put 2 a b (rw e) (rw e) h
-
-  pub scale_put : (a c : ℕ) → gate ≡ Scale a c → new ≡ written s (place_in v g) (3 ∷ 0 ∷ bytes_each (layout_for v).field (a ∷ c ∷ [])) → new ≡ written s (place_in v g) (gate_bytes v gate)
-  unfolding kind_of operands_of
-  scale_put a c e h = gate_put 3 a c (rw e) (rw e) h
-
-  pub offset_put : (a c : ℕ) → gate ≡ Offset a c → new ≡ written s (place_in v g) (4 ∷ 0 ∷ bytes_each (layout_for v).field (a ∷ c ∷ [])) → new ≡ written s (place_in v g) (gate_bytes v gate)
-  unfolding kind_of operands_of
-  offset_put a c e h = gate_put 4 a c (rw e) (rw e) h
-
-  pub multiply_put : (a b : ℕ) → gate ≡ Multiply a b → new ≡ written s (place_in v g) (5 ∷ 0 ∷ bytes_each (layout_for v).field (a ∷ b ∷ [])) → new ≡ written s (place_in v g) (gate_bytes v gate)
-  unfolding kind_of operands_of
-  multiply_put a b e h = gate_put 5 a b (rw e) (rw e) h
-
-  pub random_put : gate ≡ Random → new ≡ written s (place_in v g) (6 ∷ 0 ∷ bytes_each (layout_for v).field (0 ∷ 0 ∷ [])) → new ≡ written s (place_in v g) (gate_bytes v gate)
-  unfolding kind_of operands_of
-  random_put e h = gate_put 6 0 0 (rw e) (rw e) h
-
-  pub spend_put : (a b : ℕ) → gate ≡ Spend a b → new ≡ written s (place_in v g) (7 ∷ 0 ∷ bytes_each (layout_for v).field (a ∷ b ∷ [])) → new ≡ written s (place_in v g) (gate_bytes v gate)
-  unfolding kind_of operands_of
-  spend_put a b e h = gate_put 7 a b (rw e) (rw e) h
-
+-- ---- outs
 pub out_put : (s s1 s2 : List ℕ) (v gates o at : ℕ) (x : Output) → at ≡ out_start v gates o → s1 ≡ written s at (x.party ∷ []) → s2 ≡ written s1 (at + 1) (bytes_from 2 x.wire)
     → s2 ≡ written s (out_start v gates o) (out_bytes x)
 unfolding out_bytes bytes_each flat_map
@@ -315,7 +297,7 @@ out_put s s1 s2 v gates o at x ea e f =
     (written_then s s1 s2 (x.party ∷ []) (bytes_from 2 x.wire) at (at + 1) e f (omega arith)
     ∙ ap (λ (ys : List ℕ). written s at (x.party ∷ ys)) (sym (append-nil (bytes_from 2 x.wire))))
 
-pub ruleset writing = (rules, put-past, put_at, two_put, word_put, long_put, letters_put, start_put, field-narrow, field-wide, offset-none, offset-some, pair_put, counts_put, contents_put, narrow-past, wide-past, narrow_put, wide_put, fields-narrow, fields-wide, input_put, add_put, scale_put, offset_put, multiply_put, random_put, spend_put, out_put, point-none, point-narrow, point-wide)
+pub ruleset writing = (rules, put-past, put_cut, low_bytes, points_narrow, start_put, fields-fit, field-fits, field-put, offset-none, offset-some, pair_put, counts_put, contents_put, gate-room, gate-room-fits, gate-past, fields_put, out_put, points-fit, point-fits, point_put)
 
 -- ---- points
 -- so many are written
@@ -367,27 +349,27 @@ module _ (gates outs : ℕ) (x : Bool) (ex : x ≡ between 1 1024 gates) where
   counts_on y h e = rw (← ex, h) e
 
 module _ (n t p gates outs : ℕ) (x : Bool) (ex : x ≡ parties_ok n) where
-  pub check-parties : x ≡ false → Refused refusal.Parties ≡ first_of (content_checks n t p gates outs)
+  pub check-parties : x ≡ false → Err refusal.Parties ≡ first_of (content_checks n t p gates outs)
   unfolding content_checks first_of and_then need
   check-parties h = rw (← ex, h)
 
   module _ (hx : x ≡ true) (y : Bool) (ey : y ≡ threshold_ok n t) where
-    pub check-threshold : y ≡ false → Refused refusal.Threshold ≡ first_of (content_checks n t p gates outs)
+    pub check-threshold : y ≡ false → Err refusal.Threshold ≡ first_of (content_checks n t p gates outs)
     unfolding content_checks first_of and_then need
     check-threshold h = rw (← ex, hx, ← ey, h)
 
-    module _ (hy : y ≡ true) (m : Made) (em : m ≡ field_above n p) where
-      pub check-modulus : m ≡ made.Refused → Refused refusal.Modulus ≡ first_of (content_checks n t p gates outs)
+    module _ (hy : y ≡ true) (m : Option Field) (em : modulus_in m ≡ field_above n p) where
+      pub check-modulus : m ≡ None → Err refusal.Modulus ≡ first_of (content_checks n t p gates outs)
       unfolding content_checks first_of and_then need
-      check-modulus h = rw (← ex, hx, ← ey, hy, above-not n p (sym em ∙ h))
+      check-modulus h = rw (← ex, hx, ← ey, hy, above-not n p (sym em ∙ ap modulus_in h))
 
-      module _ (f : Field) (hf : m ≡ made.Field f) (z : Bool) (ez : z ≡ (between 1 1024 gates && between 1 64 outs)) where
-        pub check-counts : z ≡ false → Refused refusal.Layout ≡ first_of (content_checks n t p gates outs)
+      module _ (f : Field) (hf : m ≡ Some f) (z : Bool) (ez : z ≡ (between 1 1024 gates && between 1 64 outs)) where
+        pub check-counts : z ≡ false → Err refusal.Layout ≡ first_of (content_checks n t p gates outs)
         unfolding content_checks first_of and_then need
-        check-counts h = rw (← ex, hx, ← ey, hy, (above-is n p f (sym em ∙ hf)).0, ← ez, h)
+        check-counts h = rw (← ex, hx, ← ey, hy, (above-is n p f.p (sym em ∙ ap modulus_in hf)).0, ← ez, h)
 
-        pub check-passed : z ≡ true → Passed ≡ first_of (content_checks n t p gates outs)
+        pub check-passed : z ≡ true → (Ok tt) ≡ first_of (content_checks n t p gates outs)
         unfolding content_checks first_of and_then need
-        check-passed h = rw (← ex, hx, ← ey, hy, (above-is n p f (sym em ∙ hf)).0, ← ez, h)
+        check-passed h = rw (← ex, hx, ← ey, hy, (above-is n p f.p (sym em ∙ ap modulus_in hf)).0, ← ez, h)
 
 pub ruleset checking = (rules, not-true, not-false, counts-not, counts_on, check-parties, check-threshold, check-modulus, check-counts, check-passed)

@@ -1,4 +1,4 @@
--- A plan as the bytes of a file (document 01, "The plan file"; R-4 and R-6 of document 02), and a plan that is made: n, t, p and two bodies, gates and outs.
+-- A plan as the bytes of a file, and a plan that is made: n, t, p and two bodies, gates and outs.
 use Rattle.std.specs.Prelude.{ℕ, zero, suc, ◌+◌, ◌*◌, ◌/◌, ◌%◌, Bool, cond, ◌&&◌, eqb, ltb, length, get_or}
 use mathlib.Core.List.{List, [], ◌∷◌, ◌++◌, flat_map}
 use Rattle.std.proofs.lemmas.List.Edits.{sets}
@@ -7,7 +7,7 @@ use Rattle.numbers.specs.Bytes.{bytes_from}
 use Rattle.plan.specs.declared.Gate.{Gate}
 use Rattle.plan.specs.declared.Rule.TheVariants.{Reduction}
 use Rattle.plan.specs.declared.Output.{Output}
-use Rattle.plan.specs.declared.Checked.{Checked}
+use Rattle.plan.specs.Refusals.{Checked}
 use Rattle.plan.specs.declared.Refusal.TheVariants as refusal
 use Rattle.plan.specs.Refusals.{need}
 use Rattle.plan.specs.Plans.{Plan, party_count, kind_of, operands_of}

@@ -3,125 +3,109 @@
 
 ghost use Rattle.std.specs.Prelude.{◌≡◌, cond, ◌<◌, ◌≤◌, leb};
 ghost use Rattle.plan.specs.File.{plan_of};
-ghost use Rattle.plan.specs.Planned.{Planned};
 ghost use Rattle.plan.specs.Plans.{own_out_count, received, sent_by, mail_count, written_count, sent_count};
-ghost use Rattle.plan_counts.specs.Counts.{Tallied, is_out_of};
 
-use plan::{Header, Output, Step};
-use plan_counts::Tally;
-
-fn is_out_of(i: usize, out: Output) -> bool
-    ensures { result ≡ is_out_of i out }
-{
-    i == out.party
-}
+use plan::{PlanFile, Step};
+use plan_counts::Seat;
 
 // How many outs party i gets.
-pub fn own_out_count(plan: &[u8], h: Header, i: usize) -> usize
-    requires { Planned plan.now h }
-    ensures { record { eq : result ≡ own_out_count (plan_of plan.now) i; le : result ≤ 64 } }
+#[tactic(auto, using(plan_counts::proofs::Counts::counting_outs))]
+pub fn own_out_count(plan: &PlanFile, i: usize) -> usize
+    ensures { record { eq : result ≡ own_out_count (plan_of plan.now.bytes.now) i; le : result ≤ 64 } }
 {
-    let outs = h.outs;
-    let mut k: usize = 0;
-    let mut o: usize = 0;
-    while o < outs {
-        k += numbers::one_if(is_out_of(i, plan::out_at(plan, o)));
-        o += 1;
+    let mut k = 0;
+    for o in 0..plan.header.outs {
+        k += usize::from(i == plan::out_at(plan.bytes, o).party);
     }
     k
 }
 
-// The numbers that a step brings party i, by its tally.
-fn received(plan: &[u8], h: Header, i: usize, c: Tally, step: Step) -> usize
-    requires planned { Planned plan.now h }
-    requires tallied { Tallied (plan_of plan.now) i c }
-    ensures { record { eq : result ≡ received (plan_of plan.now) i step; le : result ≤ 1024 } }
+// The numbers that a step brings a seat.
+#[tactic(auto, using(plan_counts::proofs::Sizes::bringing))]
+fn received(seat: &Seat, step: Step) -> usize
+    ensures { record { eq : result ≡ received (plan_of seat.now.plan.now.bytes.now) seat.now.party step; le : result ≤ 1024 } }
 {
+    let h = seat.plan.header;
     match step {
-        Step::DealInputs => c.inputs,
+        Step::DealInputs => seat.tally.inputs,
         Step::DealProduct(_, _, _) => h.t + h.t + 1,
-        Step::DealZero(_) => h.n,
-        Step::DealMasked(_, _, _) => h.n,
-        Step::SendTruncated(_) => h.n,
-        Step::DealDraws(_) => h.n,
+        Step::DealZero(_)
+        | Step::DealMasked(_, _, _)
+        | Step::SendTruncated(_)
+        | Step::DealDraws(_) => h.n,
         Step::OpenSpent(_, _, _) => 2 * h.n,
-        Step::SendOuts => h.n * own_out_count(plan, h, i),
+        Step::SendOuts => h.n * own_out_count(seat.plan, seat.party),
     }
 }
 
-// The numbers that party i sends in a step, by its tally.
-fn sent_by(plan: &[u8], h: Header, i: usize, c: Tally, step: Step) -> usize
-    requires planned { Planned plan.now h }
-    requires tallied { Tallied (plan_of plan.now) i c }
-    ensures { record { eq : result ≡ sent_by (plan_of plan.now) i step; le : result ≤ 15360 } }
+// The numbers that a seat sends in a step.
+#[tactic(auto, using(plan_counts::proofs::Sizes::sending))]
+fn sent_by(seat: &Seat, step: Step) -> usize
+    ensures { record { eq : result ≡ sent_by (plan_of seat.now.plan.now.bytes.now) seat.now.party step; le : result ≤ 15360 } }
 {
+    let h = seat.plan.header;
     match step {
-        Step::DealInputs => h.n * c.own,
-        Step::DealProduct(_, _, _) => sent_upto(h.n, i, h.t + h.t + 1),
-        Step::DealZero(_) => h.n,
-        Step::DealMasked(_, _, _) => h.n,
-        Step::SendTruncated(_) => h.n,
-        Step::DealDraws(_) => h.n,
+        Step::DealInputs => h.n * seat.tally.own,
+        Step::DealProduct(_, _, _) => sent_upto(h.n, seat.party, h.t + h.t + 1),
+        Step::DealZero(_)
+        | Step::DealMasked(_, _, _)
+        | Step::SendTruncated(_)
+        | Step::DealDraws(_) => h.n,
         Step::OpenSpent(_, _, _) => 2 * h.n,
         Step::SendOuts => h.outs,
     }
 }
 
 // One number to each of n parties if party i is one of the dealers.
+#[tactic(auto, using(plan_counts::proofs::Sizes::sending))]
 fn sent_upto(n: usize, i: usize, dealers: usize) -> usize
     ensures { record { eq : result ≡ cond (leb i dealers) n 0; le : result ≤ n } }
 {
-    if i <= dealers {
-        return n;
-    }
-    0
+    if i <= dealers { n } else { 0 }
 }
 
-// The numbers of mail that party i's call number k takes, by its tally.
-pub fn mail_by(plan: &[u8], h: Header, i: usize, c: Tally, k: usize) -> usize
-    requires planned { Planned plan.now h }
-    requires tallied { Tallied (plan_of plan.now) i c }
-    ensures { record { eq : result ≡ mail_count (plan_of plan.now) i k; le : result ≤ 1024 } }
+// The numbers of mail that a seat's call number k takes.
+#[tactic(auto, using(plan_counts::proofs::Sizes::mailing))]
+pub fn mail_by(seat: &Seat, k: usize) -> usize
+    ensures { record { eq : result ≡ mail_count (plan_of seat.now.plan.now.bytes.now) seat.now.party k; le : result ≤ 1024 } }
 {
     if k == 0 {
         return 0;
     }
-    received(plan, h, i, c, plan_counts::step_at(plan, h, k - 1))
+    received(seat, plan_counts::step_at(seat.plan, k - 1))
 }
 
 // The same from the plan alone.
-pub fn mail_count(plan: &[u8], h: Header, i: usize, k: usize) -> usize
-    requires { Planned plan.now h }
-    ensures { record { eq : result ≡ mail_count (plan_of plan.now) i k; le : result ≤ 1024 } }
+pub fn mail_count(plan: &PlanFile, i: usize, k: usize) -> usize
+    ensures { record { eq : result ≡ mail_count (plan_of plan.now.bytes.now) i k; le : result ≤ 1024 } }
 {
-    mail_by(plan, h, i, plan_counts::tally_of(plan, h, i), k)
+    mail_by(&Seat::new(plan, i), k)
 }
 
-// The numbers that party i's call number k writes, by its tally: outgoing mail, or results in the last call.
-pub fn written_by(plan: &[u8], h: Header, i: usize, c: Tally, k: usize) -> usize
-    requires planned { Planned plan.now h }
-    requires tallied { Tallied (plan_of plan.now) i c }
-    ensures { record { eq : result ≡ written_count (plan_of plan.now) i k; le : result ≤ 15360 } }
+// The numbers that a seat's call number k writes: outgoing mail, or results in the last call.
+#[tactic(auto, using(plan_counts::proofs::Sizes::mailing))]
+pub fn written_by(seat: &Seat, k: usize) -> usize
+    ensures { record { eq : result ≡ written_count (plan_of seat.now.plan.now.bytes.now) seat.now.party k; le : result ≤ 15360 } }
 {
-    if k < plan_counts::last_call_by(plan, h, i, c) {
-        return sent_by(plan, h, i, c, plan_counts::step_at(plan, h, k));
+    if k < seat.last_call() {
+        return sent_by(seat, plan_counts::step_at(seat.plan, k));
     }
-    own_out_count(plan, h, i)
+    own_out_count(seat.plan, seat.party)
 }
 
 // The same from the plan alone.
-pub fn written_count(plan: &[u8], h: Header, i: usize, k: usize) -> usize
-    requires { Planned plan.now h }
-    ensures { record { eq : result ≡ written_count (plan_of plan.now) i k; le : result ≤ 15360 } }
+pub fn written_count(plan: &PlanFile, i: usize, k: usize) -> usize
+    ensures { record { eq : result ≡ written_count (plan_of plan.now.bytes.now) i k; le : result ≤ 15360 } }
 {
-    written_by(plan, h, i, plan_counts::tally_of(plan, h, i), k)
+    written_by(&Seat::new(plan, i), k)
 }
 
 // Elements sent in a run, own included.
-pub fn sent_count(plan: &[u8], h: Header) -> usize
-    requires { Planned plan.now h }
-    ensures { record { eq : result ≡ sent_count (plan_of plan.now); le : result ≤ 231360 } }
+#[tactic(auto, using(plan_counts::proofs::Sizes::totalling))]
+pub fn sent_count(plan: &PlanFile) -> usize
+    ensures { record { eq : result ≡ sent_count (plan_of plan.now.bytes.now); le : result ≤ 231360 } }
 {
-    let c = plan_counts::tally_of(plan, h, 0);
+    let c = plan_counts::tally_of(plan, 0);
+    let h = plan.header;
     h.n * (c.inputs + c.multiplies * (h.t + h.t + 1) + h.outs)
 }

@@ -1,111 +1,143 @@
 // The sizes of the lists and of the record that a host lends.
 #![tactic(auto)]
 
-ghost use Rattle.std.specs.Prelude.{◌≡◌, ◌≤◌};
-ghost use Rattle.plan.specs.File.{plan_of};
-ghost use Rattle.plan.specs.Planned.{Planned};
+ghost use Rattle.std.specs.Prelude.{suc, IfOk, ◌≡◌, [], ◌∷◌, ◌++◌, ◌*◌, ◌<◌, ◌≤◌};
+ghost use Rattle.numbers.specs.Bytes.{width};
+ghost use Rattle.plan.specs.declared.Refusal.TheVariants.{Coalition};
+ghost use Rattle.plan.specs.Refusals.{first_of, need};
+ghost use Rattle.plan.specs.Plans.{party_count, last_call};
+ghost use Rattle.plan.specs.File.{between, plan_checks, plan_check, plan_of};
+ghost use Rattle.plan_coalition.specs.Coalitions.{set_ok};
+ghost use Rattle.record_laws.specs.Records.{record_size};
+ghost use Rattle.plan_codes.specs.Values.{Answered};
 ghost use Rattle.pool_sizes.specs.Sizes.{mail_of_call, written_by_call, seat_count, run_count, seat_size, call_count, run_size, stored_size};
 
-use plan::{Checked, Header, Reading, Refusal};
+use plan::{PlanFile, Refusal};
+use plan_counts::Seat;
 
-fn mail_of_call(plan: &[u8], h: Header, i: usize, call: usize) -> usize
-    requires { Planned plan.now h }
-    ensures { record { eq : result ≡ mail_of_call (plan_of plan.now) i call; le : result ≤ 15360 } }
+// As it is: what a call takes and what it writes are two sizes; a closure for which of them would have to carry its bound.
+#[tactic(auto, using(crate::proofs::Sized::counting))]
+fn mail_of_call(seat: &Seat, call: usize) -> usize
+    ensures { record { eq : result ≡ mail_of_call (plan_of seat.now.plan.now.bytes.now) seat.now.party call; le : result ≤ 15360 } }
 {
-    if call <= plan_counts::last_call(plan, h) {
-        return plan_sizes::mail_count(plan, h, i, call);
+    if call <= seat.last_call() {
+        plan_sizes::mail_by(seat, call)
+    } else {
+        0
     }
-    0
 }
 
-fn written_by_call(plan: &[u8], h: Header, i: usize, call: usize) -> usize
-    requires { Planned plan.now h }
-    ensures { record { eq : result ≡ written_by_call (plan_of plan.now) i call; le : result ≤ 15360 } }
+#[tactic(auto, using(crate::proofs::Sized::counting))]
+fn written_by_call(seat: &Seat, call: usize) -> usize
+    ensures { record { eq : result ≡ written_by_call (plan_of seat.now.plan.now.bytes.now) seat.now.party call; le : result ≤ 15360 } }
 {
-    if call <= plan_counts::last_call(plan, h) {
-        return plan_sizes::written_count(plan, h, i, call);
+    if call <= seat.last_call() {
+        plan_sizes::written_by(seat, call)
+    } else {
+        0
     }
-    0
 }
 
-// The numbers of one of a party's lists.
-fn seat_count(plan: &[u8], h: Header, i: usize, call: usize, what: u16) -> usize
-    requires { Planned plan.now h }
-    ensures { record { eq : result ≡ seat_count (plan_of plan.now) i call what; le : result ≤ 15360 } }
+// The numbers of one of a seat's lists.
+// As it is: the C interface names the lists by numbers, here and of a run.
+#[tactic(auto, using(crate::proofs::Sized::counting))]
+fn seat_count(seat: &Seat, call: usize, what: u16) -> usize
+    ensures { record { eq : result ≡ seat_count (plan_of seat.now.plan.now.bytes.now) seat.now.party call what; le : result ≤ 15360 } }
 {
     match what {
-        0 => plan_counts::own_input_count(plan, h, i),
-        1 => plan_counts::own_coin_count(plan, h, i),
-        2 => 1 + h.gates,
-        3 => mail_of_call(plan, h, i, call),
-        4 => written_by_call(plan, h, i, call),
+        0 => seat.own_inputs(),
+        1 => seat.tally.coins,
+        2 => 1 + seat.plan.header.gates,
+        3 => mail_of_call(seat, call),
+        4 => written_by_call(seat, call),
         _ => 0,
     }
 }
 
 // The numbers of one of a run's lists.
-fn run_count(plan: &[u8], h: Header, set: u16, what: u16) -> usize
-    requires { Planned plan.now h }
-    ensures { record { eq : result ≡ run_count (plan_of plan.now) set what; le : result ≤ 524288 } }
+#[tactic(auto, using(crate::proofs::Sized::counting))]
+fn run_count(plan: &PlanFile, set: u16, what: u16) -> usize
+    ensures { record { eq : result ≡ run_count (plan_of plan.now.bytes.now) set what; le : result ≤ 524288 } }
 {
     match what {
-        0 => plan_counts::input_count(plan, h),
-        1 => plan_counts::coin_count(plan, h),
-        2 => run_bench::checking::view_count(plan, h, set),
+        0 => plan_counts::input_count(plan),
+        1 => plan_counts::coin_count(plan),
+        2 => run_bench::checking::view_count(plan, set),
         _ => 0,
     }
 }
 
+#[tactic(auto, using(crate::proofs::Sized::sizing))]
+fn seat_bytes(bytes: &[u8], party: u16, call: u16, what: u16) -> Result<usize, Refusal>
+    ensures is { Answered result (first_of (plan_checks bytes.now ++ (need Coalition (between 1 (party_count (plan_of bytes.now)) party) ∷ []))) (width * seat_count (plan_of bytes.now) party call what) }
+    ensures small { IfOk result (λ s. s < 72057594037927936) }
+{
+    let plan = plan_reading::read(bytes)?;
+    if !plan_reading::is_between(1, plan.header.n, party as usize) {
+        return Err(Refusal::Coalition);
+    }
+    let seat = Seat::new(&plan, party as usize);
+    Ok(numbers::WIDTH * seat_count(&seat, call as usize, what))
+}
+
 // The bytes of one of a party's lists: 0 its own figures, 1 its own coins, 2 its state, 3 a call's mail, 4 what a call writes.
+#[tactic(auto, using(crate::proofs::Sized::sizing))]
 pub fn seat_size(plan: &[u8], seat: u16, call: u16, what: u16) -> u64
     ensures { result ≡ seat_size plan.now seat call what }
 {
-    let r = plan_reading::read(plan);
-    let Reading::Passed(h) = r else {
-        return plan_codes::code(plan_reading::outcome(r));
-    };
-    let i = seat as usize;
-    if i < 1 {
-        return plan_codes::code(Checked::Refused(Refusal::Coalition));
-    }
-    if h.n < i {
-        return plan_codes::code(Checked::Refused(Refusal::Coalition));
-    }
-    plan_codes::value(numbers::WIDTH * seat_count(plan, h, i, call as usize, what))
+    plan_codes::answer(seat_bytes(plan, seat, call, what))
+}
+
+#[tactic(auto, using(crate::proofs::Sized::sizing))]
+fn call_number(bytes: &[u8]) -> Result<usize, Refusal>
+    ensures is { Answered result (plan_check bytes.now) (suc (last_call (plan_of bytes.now))) }
+    ensures small { IfOk result (λ s. s < 72057594037927936) }
+{
+    let plan = plan_reading::read(bytes)?;
+    Ok(plan_counts::last_call(&plan) + 1)
 }
 
 // How many calls each party makes.
+#[tactic(auto, using(crate::proofs::Sized::sizing))]
 pub fn calls(plan: &[u8]) -> u64
     ensures { result ≡ call_count plan.now }
 {
-    let r = plan_reading::read(plan);
-    let Reading::Passed(h) = r else {
-        return plan_codes::code(plan_reading::outcome(r));
-    };
-    plan_codes::value(plan_counts::last_call(plan, h) + 1)
+    plan_codes::answer(call_number(plan))
+}
+
+#[tactic(auto, using(crate::proofs::Sized::sizing))]
+fn run_bytes(bytes: &[u8], set: u16, what: u16) -> Result<usize, Refusal>
+    ensures is { Answered result (first_of (plan_checks bytes.now ++ (need Coalition (set_ok (plan_of bytes.now) set) ∷ []))) (width * run_count (plan_of bytes.now) set what) }
+    ensures small { IfOk result (λ s. s < 72057594037927936) }
+{
+    let plan = plan_reading::read(bytes)?;
+    if !plan_coalition::set_ok(plan.header, set) {
+        return Err(Refusal::Coalition);
+    }
+    Ok(numbers::WIDTH * run_count(&plan, set, what))
 }
 
 // The bytes of one of a run's lists: 0 all figures, 1 all coins, 2 the view of a set.
+#[tactic(auto, using(crate::proofs::Sized::sizing))]
 pub fn run_size(plan: &[u8], set: u16, what: u16) -> u64
     ensures { result ≡ run_size plan.now set what }
 {
-    let r = plan_reading::read(plan);
-    let Reading::Passed(h) = r else {
-        return plan_codes::code(plan_reading::outcome(r));
-    };
-    if !plan_coalition::set_ok(h, set) {
-        return plan_codes::code(Checked::Refused(Refusal::Coalition));
-    }
-    plan_codes::value(numbers::WIDTH * run_count(plan, h, set, what))
+    plan_codes::answer(run_bytes(plan, set, what))
+}
+
+#[tactic(auto, using(crate::proofs::Sized::sizing))]
+fn record_bytes(bytes: &[u8]) -> Result<usize, Refusal>
+    ensures is { Answered result (plan_check bytes.now) (record_size (plan_of bytes.now)) }
+    ensures small { IfOk result (λ s. s < 72057594037927936) }
+{
+    let plan = plan_reading::read(bytes)?;
+    Ok(record_write::record_size(&plan))
 }
 
 // The bytes of a run's record: refusals 1 to 8, 25 and 26.
+#[tactic(auto, using(crate::proofs::Sized::sizing))]
 pub fn record_size(plan: &[u8]) -> u64
     ensures { result ≡ stored_size plan.now }
 {
-    let r = plan_reading::read(plan);
-    let Reading::Passed(h) = r else {
-        return plan_codes::code(plan_reading::outcome(r));
-    };
-    plan_codes::value(record_write::record_size(plan, h))
+    plan_codes::answer(record_bytes(plan))
 }

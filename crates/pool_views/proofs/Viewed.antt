@@ -1,4 +1,5 @@
 -- The size of the list of views.
+use Rattle.std.proofs.Common.{Result, Ok, Err}
 use Prim.Native.Nat.{ℕ, ◌*◌, ◌<◌, ◌≤◌}
 use mathlib.Core.Path.{◌≡◌, refl, sym, ap, ap₂, ◌∙◌}
 use mathlib.Core.Bool.{Bool, true, false}
@@ -8,19 +9,15 @@ use borrow.Author.Rules.{rules}
 use borrow.Author.Tests.{not-true, not-false}
 use Rattle.numbers.specs.Bytes.{width}
 use Rattle.plan.specs.declared.Header.{Header}
-use Rattle.plan.specs.declared.Reading.{Reading}
-use Rattle.plan.specs.declared.Reading.TheVariants as reading
 use Rattle.plan.specs.declared.Refusal.{Refusal}
 use Rattle.plan.specs.declared.Refusal.TheVariants as refusal
-use Rattle.plan.specs.declared.Checked.{Checked}
-use Rattle.plan.specs.declared.Checked.TheVariants.{Passed, Refused}
+use Rattle.plan.specs.Refusals.{Checked}
 use Rattle.plan.specs.Refusals.{code_of, and_then, first_of, need}
-use Rattle.plan.specs.File.{plan_checks, plan_check, plan_of, outcome_of}
-use Rattle.plan.specs.Planned.{Planned, ReadAs}
+use Rattle.plan.specs.File.{plan_checks, plan_check, plan_of}
+use Rattle.plan.specs.Planned.{Planned}
 use Rattle.plan.proofs.Refusals.{first_of-append, and_then_passed, and_then_refused, and_then_end, need-true, need-false}
-use Rattle.plan.proofs.Planned.{planned_read}
-use Rattle.plan_codes.specs.Values.{value_of}
-use Rattle.plan_codes.proofs.Codes.{value_refused, value_passed, plan-refused}
+use Rattle.plan_codes.specs.Values.{answer_of, Answered}
+use Rattle.plan_codes.proofs.Codes.{answered, refused_then}
 use Rattle.plan_coalition.specs.Coalitions.{set_fits, set_ok}
 use Rattle.plan_coalition.proofs.Coalitions.{set_ok_lem}
 use Rattle.count_laws.specs.Settings.{setting_count}
@@ -30,49 +27,43 @@ use Rattle.count_call.proofs.CheckLaws.{few-are, few-ok, over, numbers_fit, size
 use Rattle.pool_views.specs.ViewSizes.{views_size}
 
 -- ---- the size of the list of views
-module _ (bs : List ℕ) (r : Reading) (a : ReadAs bs r) (set k : ℕ) where
-  pub views-refused : (q : Refusal) (c : Checked) → r ≡ reading.Refused q → c ≡ outcome_of r → k ≡ code_of c → k ≡ views_size bs set
-  unfolding views_size count_size_answer
-  views-refused q c e f g = plan-refused bs r q c k a e f g _ (count_size (plan_of bs) set)
+pub views_refused : (bs : List ℕ) (set : ℕ) (q : Refusal) → plan_check bs ≡ Err q → count_size_answer bs set ≡ Err q
+unfolding count_size_answer
+views_refused bs set q e = refused_then bs _ q e
 
-  module _ (h : Header) (e : r ≡ reading.Passed h) (t : Bool) (et : t ≡ set_fits h.n h.t set) where
-    pl : Planned bs h
-    pl = planned_read bs r h a e
+module _ (xs bs : List ℕ) (same : xs ≡ bs) (h : Header) (pl : Planned xs h) (set : ℕ) (t : Bool) (et : t ≡ set_fits h.n h.t set) where
+  set-as : set_ok (plan_of xs) set ≡ t
+  set-as = sym (et ∙ set_ok_lem xs h set pl)
 
-    set-as : set_ok (plan_of bs) set ≡ t
-    set-as = sym (et ∙ set_ok_lem bs h set pl)
+  size-parts : count_size_answer xs set ≡ and_then (need refusal.Coalition t) (need refusal.Settings (settings_ok (plan_of xs) set))
+  unfolding count_size_answer plan_check first_of
+  size-parts =
+      first_of-append (plan_checks xs) (need refusal.Coalition (set_ok (plan_of xs) set) ∷ need refusal.Settings (settings_ok (plan_of xs) set) ∷ [])
+      ∙ and_then_passed _ _ pl.passes
+      ∙ ap₂ (λ (b : Bool) (c : Checked). and_then (need refusal.Coalition b) c) set-as (and_then_end (need refusal.Settings (settings_ok (plan_of xs) set)))
 
-    size-parts : count_size_answer bs set ≡ and_then (need refusal.Coalition t) (need refusal.Settings (settings_ok (plan_of bs) set))
-    unfolding count_size_answer plan_check first_of
-    size-parts =
-        first_of-append (plan_checks bs) (need refusal.Coalition (set_ok (plan_of bs) set) ∷ need refusal.Settings (settings_ok (plan_of bs) set) ∷ [])
-        ∙ and_then_passed _ _ pl.passes
-        ∙ ap₂ (λ (b : Bool) (c : Checked). and_then (need refusal.Coalition b) c) set-as (and_then_end (need refusal.Settings (settings_ok (plan_of bs) set)))
+  pub views_set : t ≡ false → count_size_answer bs set ≡ Err refusal.Coalition
+  views_set f = rw (← same) (size-parts ∙ and_then_refused _ _ refusal.Coalition (need-false refusal.Coalition t f))
 
-    pub views-set : t ≡ false → k ≡ code_of (Refused refusal.Coalition) → k ≡ views_size bs set
-    unfolding views_size
-    views-set f g =
-        let whole : count_size_answer bs set ≡ Refused refusal.Coalition = size-parts ∙ and_then_refused _ _ refusal.Coalition (need-false refusal.Coalition t f) in
-        g ∙ ap code_of (sym whole) ∙ sym (value_refused (count_size_answer bs set) refusal.Coalition (count_size (plan_of bs) set) whole)
+  module _ (y : t ≡ true) (n : ℕ) (en : n ≡ capped (setting_count (plan_of xs) set)) where
+    past-set : count_size_answer xs set ≡ need refusal.Settings (settings_ok (plan_of xs) set)
+    past-set = size-parts ∙ and_then_passed _ _ (need-true refusal.Coalition t y)
 
-    module _ (y : t ≡ true) (n : ℕ) (en : n ≡ capped (setting_count (plan_of bs) set)) where
-      past-set : count_size_answer bs set ≡ need refusal.Settings (settings_ok (plan_of bs) set)
-      past-set = size-parts ∙ and_then_passed _ _ (need-true refusal.Coalition t y)
+    pub views_many : 65536 < n → count_size_answer bs set ≡ Err refusal.Settings
+    views_many l = rw (← same) (past-set ∙ need-false refusal.Settings (settings_ok (plan_of xs) set) (over xs h pl set n en l))
 
-      pub views-many : 65536 < n → k ≡ code_of (Refused refusal.Settings) → k ≡ views_size bs set
-      unfolding views_size
-      views-many l g =
-          let whole : count_size_answer bs set ≡ Refused refusal.Settings = past-set ∙ need-false refusal.Settings (settings_ok (plan_of bs) set) (over bs h pl set n en l) in
-          g ∙ ap code_of (sym whole) ∙ sym (value_refused (count_size_answer bs set) refusal.Settings (count_size (plan_of bs) set) whole)
+    pub views_passed : n ≤ 65536 → count_size_answer bs set ≡ Ok tt
+    views_passed l = rw (← same) (past-set ∙ need-true refusal.Settings (settings_ok (plan_of xs) set) (few-ok xs h pl set n en l))
 
-      pub views-sized : n ≤ 65536 → (w : ℕ) → w ≡ row_width (plan_of bs) set → k ≡ 256 * (width * (w * n)) → k ≡ views_size bs set
-      unfolding views_size count_size
-      views-sized l w ew g =
-          let size : width * (w * n) ≡ width * (row_width (plan_of bs) set * setting_count (plan_of bs) set) = ap₂ (λ (x y : ℕ). width * (x * y)) ew (few-are bs h pl set n en l) in
-          g ∙ ap (λ (s : ℕ). 256 * s) size
-          ∙ sym (value_passed (count_size_answer bs set) _ (past-set ∙ need-true refusal.Settings (settings_ok (plan_of bs) set) (few-ok bs h pl set n en l)))
+    pub views_long : n ≤ 65536 → (w : ℕ) → w ≡ row_width (plan_of xs) set → width * (w * n) ≡ count_size (plan_of bs) set
+    unfolding count_size
+    views_long l w ew = rw (← same) (ap₂ (λ (x y : ℕ). width * (x * y)) ew (few-are xs h pl set n en l))
+
+pub views-sized : (bs : List ℕ) (set : ℕ) (r : Result ℕ Refusal) (k : ℕ) → k ≡ answer_of r → Answered r (count_size_answer bs set) (count_size (plan_of bs) set) → k ≡ views_size bs set
+unfolding views_size
+views-sized bs set r k e h = answered _ _ r k h e
 
 pub views_small : (w n : ℕ) → w ≤ 524289 → n ≤ 65536 → width * (w * n) < 72057594037927936
 views_small w n l m = omega (arith, few-numbers w n l m)
 
-pub ruleset viewing = (rules, not-true, not-false, planned_read, views-refused, views-set, views-many, views-sized, views_small, numbers_fit, size_fits)
+pub ruleset viewing = (rules, views_refused, views_set, views_many, views_passed, views_long, views-sized, views_small, numbers_fit, size_fits)

@@ -6,6 +6,7 @@
 --     bytes-flat_map                             bytes of lists one after the other
 --     run-size, run_ok, run-body, run-bodies    the record of a run
 -- Assumes nothing.
+use Rattle.std.proofs.Common.{Option, None}
 use Prim.Native.Nat.{ℕ, zero, suc, ◌+◌, ◌-◌, ◌*◌, ◌<◌, ◌≤◌}
 use mathlib.Core.Path.{◌≡◌, refl, sym, ap, ap₂, ◌∙◌}
 use mathlib.Core.Bool.{true, ◌&&◌}
@@ -15,8 +16,6 @@ use borrow.Author.Tests.{eq-eqb, eqb-true}
 use lib.Dec.{eqb}
 use lib.ListN.{length, take, drop, get_or, length-append, length-drop, get_or-append}
 use lib.Seq.{take_all, take-add, drop-drop, take_at, drop_at, get_or-take, get_or-drop, get_or-append-add}
-use Rattle.numbers.specs.declared.Found.{Found}
-use Rattle.numbers.specs.declared.Found.TheVariants.{Nothing}
 use Rattle.numbers.specs.Tables.{tab, first_failing, total}
 use Rattle.numbers.specs.Bytes.{limit, number_at, bytes_from, bytes_of}
 use Rattle.numbers.proofs.Truth.{both_true}
@@ -72,7 +71,7 @@ module _ (plan : Plan) (r s : List ℕ) (contents : take (8 * party_count plan) 
   pub ok_same : length r ≡ length s → record_ok plan r ≡ record_ok plan s
   unfolding record_ok content_kept
   ok_same e =
-      ap₂ (λ (n : ℕ) (f : Found). eqb n (record_size plan) && found_none f) e
+      ap₂ (λ (n : ℕ) (f : Option ℕ). eqb n (record_size plan) && found_none f) e
       (first_ext (content_kept plan r) (content_kept plan s) (party_count plan)
       (λ k l.
       ap₂ (λ (a b : ℕ). eqb a (body_start plan k) && eqb b (body_size plan (suc k))) (number-kept (8 * k) (omega arith)) (number-kept (8 * k + 4) (omega arith))))
@@ -152,7 +151,7 @@ module _ (plan : Plan) where
       unfolding record_ok found_none
       made_ok_lem =
           let whole : eqb (length (contents_of plan ++ bodies)) (record_size plan) ≡ true = eq-eqb _ _ made-size in
-          let none : first_failing (content_kept plan (contents_of plan ++ bodies)) (party_count plan) ≡ Nothing =
+          let none : first_failing (content_kept plan (contents_of plan ++ bodies)) (party_count plan) ≡ None =
           passes-nothing (content_kept plan (contents_of plan ++ bodies)) (party_count plan) content-kept in
           rw (whole, none) refl
 

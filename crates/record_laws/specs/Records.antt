@@ -1,10 +1,10 @@
--- The run record (document 02, R-8): contents first, an offset from the file's start and a length in bytes for each party; then each party's inputs, coins,
+-- The run record: contents first, an offset from the file's start and a length in bytes for each party; then each party's inputs, coins,
 -- mail and results, which are its view of the run. All numbers have four bytes.
 use Rattle.std.specs.Prelude.{ℕ, zero, suc, ◌+◌, ◌-◌, ◌*◌, Bool, ◌&&◌, eqb, length, take, drop}
 use mathlib.Core.List.{List, [], ◌∷◌, ◌++◌, flat_map}
 use Rattle.numbers.specs.Tables.{tab, first_failing}
 use Rattle.numbers.specs.Bytes.{width, number_at, bytes_from, numbers, bytes_of}
-use Rattle.plan.specs.declared.Checked.{Checked}
+use Rattle.plan.specs.Refusals.{Checked}
 use Rattle.plan.specs.declared.Refusal.TheVariants as refusal
 use Rattle.plan.specs.Refusals.{first_of, need}
 use Rattle.plan.specs.Plans.{Plan, party_count, parties}

@@ -1,7 +1,7 @@
--- The contents of a record against the plan, party by party, and bytes that are copied.
+-- The contents of a record against the plan, party by party.
 --     contents, tiling     what closes the needs of the functions that check a record
---     Copied, copying      a loop that copies bytes
 -- Assumes nothing.
+use Rattle.std.proofs.Common.{Option, Some, None}
 use Prim.Native.Nat.{ℕ, suc, ◌+◌, ◌-◌, ◌*◌, ◌<◌, ◌≤◌}
 use mathlib.Core.Path.{◌≡◌, refl, sym, ap, ◌∙◌}
 use mathlib.Core.Bool.{Bool, true, false, not, ◌&&◌}
@@ -15,8 +15,6 @@ use lib.ListN.{length, get_or, take, drop, set, length-set, length-drop}
 use lib.Seq.{take-suc, take-suc-set, take_all, get_or-drop}
 use Rattle.numbers.specs.Tables.{first_failing}
 use Rattle.numbers.specs.Bytes.{width, number_at, numbers}
-use Rattle.numbers.specs.declared.Found.{Found}
-use Rattle.numbers.specs.declared.Found.TheVariants.{At, Nothing}
 use Rattle.numbers.proofs.Bytes.{get_or-numbers}
 use Rattle.numbers.proofs.Searches.{Seeking, begin, found, passed, nothing}
 use Rattle.plan.specs.declared.Header.{Header}
@@ -37,7 +35,7 @@ module _ (s : List ℕ) (k x : ℕ) (l : 8 * k + 8 ≤ length s) where
   bytes_are e = let q : width * (2 * k + 1) ≡ 8 * k + 4 = omega arith in e ∙ get_or-numbers s (2 * k + 1) (omega arith) ∙ ap (number_at 4 s) q
 
 module _ (s : List ℕ) (k x y at size : ℕ) (l : 8 * k + 8 ≤ length s) (ex : x ≡ get_or (numbers s) (2 * k) 0) (ey : y ≡ get_or (numbers s) (2 * k + 1) 0) where
-  pub content_elsewhere : (x ≡ at → ⊥) → false ≡ (eqb (number_at 4 s (8 * k)) at && eqb (number_at 4 s (8 * k + 4)) size)
+  pub content_elsewhere : (x ≡ at → ⊥) → eqb x at ≡ (eqb (number_at 4 s (8 * k)) at && eqb (number_at 4 s (8 * k + 4)) size)
   content_elsewhere n = rw (← offset-is s k x l ex, ne_eqb x at n)
 
   pub content_long : x ≡ at → eqb y size ≡ (eqb (number_at 4 s (8 * k)) at && eqb (number_at 4 s (8 * k + 4)) size)
@@ -67,12 +65,12 @@ unfolding record_size
 start_within plan k l = before-le plan k (party_count plan) l
 
 -- ---- the loop over the parties
-not_found : (f : Found) (b : Bool) (i : ℕ) → At i ≡ f → false ≡ (b && found_none f)
+not_found : (f : Option ℕ) (b : Bool) (i : ℕ) → Some i ≡ f → false ≡ (b && found_none f)
 unfolding found_none
 not_found f true i e = rw (← e)
 not_found f false i e = refl
 
-none_found : (f : Found) (b : Bool) → Nothing ≡ f → b ≡ (b && found_none f)
+none_found : (f : Option ℕ) (b : Bool) → None ≡ f → b ≡ (b && found_none f)
 unfolding found_none
 none_found f true e = rw (← e)
 none_found f false e = refl
@@ -136,36 +134,3 @@ module _ (bs : List ℕ) (h : Header) (pl : Planned bs h) (s : List ℕ) where
         ∙ none_found _ (eqb (length s) (record_size (plan_of bs))) (nothing (content_kept (plan_of bs) s) h.n k t.kept l) ∙ sym ok-is
 
 pub ruleset tiling = (rules, not-true, not-false, tile_short, tile-none, tile-room, tile-not, tile-next, tile-end)
-
--- ---- a copy
--- i bytes from `at` on stand in d, which was d₀
-pub record Copied (s : List ℕ) (at : ℕ) (d₀ d : List ℕ) (i : ℕ) : Type 0 where
-  pub within : i ≤ length d₀
-  pub room : at + length d₀ ≤ length s
-  pub long : length d ≡ length d₀
-  pub front : take i d ≡ take i (drop at s)
-
-pub copy-none : (s : List ℕ) (at : ℕ) (d : List ℕ) → at + length d ≤ length s → Copied s at d d 0
-copy-none s at d l = record { within = omega arith; room = l; long = refl; front = refl }
-
-module _ (s : List ℕ) (at : ℕ) (d₀ d : List ℕ) (i : ℕ) (t : Copied s at d₀ d i) where
-  pub copy_room : i < length d → at + i < length s
-  copy_room l = omega (arith, t.room, t.long)
-
-  pub copy_next : (v : ℕ) → i < length d → v ≡ get_or s (at + i) 0 → Copied s at d₀ (set d i v) (i + 1)
-  copy_next v l e =
-      let m : i < length (drop at s) = omega (arith, length-drop at s, t.room, t.long) in
-      record {
-        within = omega (arith, t.long);
-        room = t.room;
-        long = length-set d i v ∙ t.long;
-        front = rw (add-one, take-suc-set d i v l, take-suc (drop at s) i 0 m, get_or-drop at s i 0, t.front, e);
-      }
-
-  pub copy_long : length d ≡ length d₀
-  copy_long = t.long
-
-  pub copied : length d ≤ i → d ≡ take (length d₀) (drop at s)
-  copied l = let q : i ≡ length d₀ = omega (arith, t.within, t.long) in sym (take_all i d l) ∙ t.front ∙ ap (λ (k : ℕ). take k (drop at s)) q
-
-pub ruleset copying = (rules, copy-none, copy_room, copy_next, copy_long, copied)

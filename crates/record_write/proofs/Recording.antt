@@ -2,6 +2,7 @@
 --     writing       the contents and the view of all parties
 --     recording     the call
 -- Assumes nothing.
+use Rattle.std.proofs.Common.{Ok, Err}
 use Prim.Native.Nat.{ℕ, ◌+◌, ◌-◌, ◌*◌, ◌^◌, ◌≤◌}
 use mathlib.Core.Path.{◌≡◌, sym, ap, ap₂, ◌∙◌}
 use mathlib.Core.List.{List, [], ◌∷◌, ◌++◌, append-nil}
@@ -15,18 +16,15 @@ use Rattle.numbers.specs.Bytes.{width, numbers, bytes_of}
 use Rattle.numbers.proofs.Bytes.{holds-length}
 use Rattle.numbers.proofs.Below.{first_over-nothing}
 use Rattle.plan.specs.declared.Header.{Header}
-use Rattle.plan.specs.declared.Checked.{Checked}
-use Rattle.plan.specs.declared.Checked.TheVariants.{Passed, Refused}
-use Rattle.plan.specs.declared.Reading.{Reading}
-use Rattle.plan.specs.declared.Reading.TheVariants as reading
+use Rattle.plan.specs.Refusals.{Checked}
 use Rattle.plan.specs.declared.Refusal.{Refusal}
 use Rattle.plan.specs.declared.Refusal.TheVariants as refusal
 use Rattle.plan.specs.Refusals.{and_then, first_of, need}
 use Rattle.plan.specs.Plans.{Plan, parties, input_count, coin_count}
-use Rattle.plan.specs.File.{plan_checks, plan_check, plan_of, outcome_of}
-use Rattle.plan.specs.Planned.{Planned, ReadAs}
+use Rattle.plan.specs.File.{plan_checks, plan_check, plan_of}
+use Rattle.plan.specs.Planned.{Planned}
 use Rattle.plan.proofs.Refusals.{and_then_passed, and_then_refused, and_then_end, first_of-append, need-true, need-false, passed_both, passed-need, passed_found}
-use Rattle.plan.proofs.Planned.{planned_read, refused_read, plan_n}
+use Rattle.plan.proofs.Planned.{plan_n}
 use Rattle.plan_coalition.specs.Coalitions.{members}
 use Rattle.seat_messages.specs.Calls.{unless_refused}
 use Rattle.seat_admission.specs.Parts.{list_checks}
@@ -80,11 +78,7 @@ module _ {bs : List ℕ} {h : Header} (pl : Planned bs h) where
 pub ruleset writing = (rules, few-parties, contents_fit, everyone_within, contents-room, bodies-start, bodies-room, record_is, record-long)
 
 -- ---- the call
-outcome_refused : (r : Reading) (q : Refusal) (c : Checked) → c ≡ outcome_of r → r ≡ reading.Refused q → c ≡ Refused q
-unfolding outcome_of
-outcome_refused r q c e f = rw f at e
-
-kept : (c : Checked) (r : Refusal) (new old : List ℕ) → c ≡ Refused r → old ≡ unless_refused c new old
+kept : (c : Checked) (r : Refusal) (new old : List ℕ) → c ≡ Err r → old ≡ unless_refused c new old
 unfolding unless_refused
 kept c r new old e = rw e
 
@@ -100,66 +94,65 @@ module _ (bs inputs coins out : List ℕ) where
       first_of-append (plan_checks bs) (given_checks (plan_of bs) inputs coins ++ (room-check ∷ []))
       ∙ ap (and_then (plan_check bs)) (first_of-append (given_checks (plan_of bs) inputs coins) (room-check ∷ []) ∙ ap (and_then (first_of (given_checks (plan_of bs) inputs coins))) (and_then_end room-check))
 
-  module _ (r : Reading) (a : ReadAs bs r) where
-    module _ (q : Refusal) (e : r ≡ reading.Refused q) where
-      no-plan : record_answer bs inputs coins (length out) ≡ Refused q
-      no-plan = answer_parts ∙ and_then_refused (plan_check bs) _ q (refused_read bs r q a e)
+  module _ (q : Refusal) (e : plan_check bs ≡ Err q) where
+    no-plan : record_answer bs inputs coins (length out) ≡ Err q
+    no-plan = answer_parts ∙ and_then_refused (plan_check bs) _ q e
 
-      pub record-no-plan : (c : Checked) → c ≡ outcome_of r → c ≡ record_answer bs inputs coins (length out)
-      record-no-plan c ec = outcome_refused r q c ec e ∙ sym no-plan
+    pub record-no-plan : Err q ≡ record_answer bs inputs coins (length out)
+    record-no-plan = sym no-plan
 
-      pub kept-no-plan : out ≡ record_after bs inputs coins out
+    pub kept-no-plan : out ≡ record_after bs inputs coins out
+    unfolding record_after
+    kept-no-plan = kept (record_answer bs inputs coins (length out)) q _ out no-plan
+
+  module _ (h : Header) (pl : Planned bs h) (c : Checked) (ec : c ≡ first_of (given_checks (plan_of bs) inputs coins)) where
+    past_plan : record_answer bs inputs coins (length out) ≡ and_then c room-check
+    past_plan =
+        answer_parts ∙ and_then_passed (plan_check bs) _ pl.passes
+        ∙ ap (λ (d : Checked). and_then d room-check) (sym ec)
+
+    module _ (q : Refusal) (f : c ≡ Err q) where
+      not-given : record_answer bs inputs coins (length out) ≡ Err q
+      not-given = past_plan ∙ and_then_refused c _ q f
+
+      pub record-not-given : Err q ≡ record_answer bs inputs coins (length out)
+      record-not-given = sym not-given
+
+      pub kept-not-given : out ≡ record_after bs inputs coins out
       unfolding record_after
-      kept-no-plan = kept (record_answer bs inputs coins (length out)) q _ out no-plan
+      kept-not-given = kept (record_answer bs inputs coins (length out)) q _ out not-given
 
-    module _ (h : Header) (e : r ≡ reading.Passed h) (c : Checked) (ec : c ≡ first_of (given_checks (plan_of bs) inputs coins)) where
-      past_plan : record_answer bs inputs coins (length out) ≡ and_then c room-check
-      past_plan =
-          answer_parts ∙ and_then_passed (plan_check bs) _ (planned_read bs r h a e).passes
-          ∙ ap (λ (d : Checked). and_then d room-check) (sym ec)
+    module _ (f : c ≡ (Ok tt)) (size : ℕ) (es : size ≡ record_size (plan_of bs)) where
+      past-given : record_answer bs inputs coins (length out) ≡ need refusal.BufferLength (eqb (length out) size)
+      past-given = past_plan ∙ and_then_passed c _ f ∙ ap (λ (k : ℕ). need refusal.BufferLength (eqb (length out) k)) (sym es)
 
-      module _ (q : Refusal) (f : c ≡ Refused q) where
-        not-given : record_answer bs inputs coins (length out) ≡ Refused q
-        not-given = past_plan ∙ and_then_refused c _ q f
+      module _ (ne : length out ≡ size → ⊥) where
+        short : record_answer bs inputs coins (length out) ≡ Err refusal.BufferLength
+        short = past-given ∙ need-false refusal.BufferLength (eqb (length out) size) (ne_eqb (length out) size ne)
 
-        pub record-not-given : c ≡ record_answer bs inputs coins (length out)
-        record-not-given = f ∙ sym not-given
+        pub record-short : Err refusal.BufferLength ≡ record_answer bs inputs coins (length out)
+        record-short = sym short
 
-        pub kept-not-given : out ≡ record_after bs inputs coins out
+        pub kept-short : out ≡ record_after bs inputs coins out
         unfolding record_after
-        kept-not-given = kept (record_answer bs inputs coins (length out)) q _ out not-given
+        kept-short = kept (record_answer bs inputs coins (length out)) refusal.BufferLength _ out short
 
-      module _ (f : c ≡ Passed) (size : ℕ) (es : size ≡ record_size (plan_of bs)) where
-        past-given : record_answer bs inputs coins (length out) ≡ need refusal.BufferLength (eqb (length out) size)
-        past-given = past_plan ∙ and_then_passed c _ f ∙ ap (λ (k : ℕ). need refusal.BufferLength (eqb (length out) k)) (sym es)
+      module _ (eq : length out ≡ size) where
+        done : record_answer bs inputs coins (length out) ≡ (Ok tt)
+        done = past-given ∙ need-true refusal.BufferLength (eqb (length out) size) (eq-eqb (length out) size eq)
 
-        module _ (ne : length out ≡ size → ⊥) where
-          short : record_answer bs inputs coins (length out) ≡ Refused refusal.BufferLength
-          short = past-given ∙ need-false refusal.BufferLength (eqb (length out) size) (ne_eqb (length out) size ne)
+        pub record-done : (Ok tt) ≡ record_answer bs inputs coins (length out)
+        record-done = sym done
 
-          pub record-short : Refused refusal.BufferLength ≡ record_answer bs inputs coins (length out)
-          record-short = sym short
+        pub record-room : length out ≡ record_size (plan_of bs)
+        record-room = eq ∙ es
 
-          pub kept-short : out ≡ record_after bs inputs coins out
-          unfolding record_after
-          kept-short = kept (record_answer bs inputs coins (length out)) refusal.BufferLength _ out short
-
-        module _ (eq : length out ≡ size) where
-          done : record_answer bs inputs coins (length out) ≡ Passed
-          done = past-given ∙ need-true refusal.BufferLength (eqb (length out) size) (eq-eqb (length out) size eq)
-
-          pub record-done : Passed ≡ record_answer bs inputs coins (length out)
-          record-done = sym done
-
-          pub record-room : length out ≡ record_size (plan_of bs)
-          record-room = eq ∙ es
-
-          pub record-written : (new : List ℕ) → new ≡ record_of (plan_of bs) (numbers inputs) (numbers coins) → new ≡ record_after bs inputs coins out
-          unfolding record_after unless_refused
-          record-written new en = en ∙ rw done
+        pub record-written : (new : List ℕ) → new ≡ record_of (plan_of bs) (numbers inputs) (numbers coins) → new ≡ record_after bs inputs coins out
+        unfolding record_after unless_refused
+        record-written new en = en ∙ rw done
 
 -- what a run whose checks pass is given
-pub given_passed : (plan : Plan) (inputs coins : List ℕ) (c : Checked) → c ≡ first_of (given_checks plan inputs coins) → c ≡ Passed → Given plan inputs coins
+pub given_passed : (plan : Plan) (inputs coins : List ℕ) (c : Checked) → c ≡ first_of (given_checks plan inputs coins) → c ≡ (Ok tt) → Given plan inputs coins
 unfolding given_checks list_checks first_of
 given_passed plan inputs coins c ec f =
     let a = passed_both _ _ (sym ec ∙ f) in
@@ -173,4 +166,4 @@ given_passed plan inputs coins c ec f =
       coins_below = first_over-nothing plan.p (numbers coins) (passed_found refusal.CoinValue _ e.0);
     }
 
-pub ruleset recording = (rules, planned_read, record-no-plan, kept-no-plan, record-not-given, kept-not-given, record-short, kept-short, record-done, record-room, record-written, given_passed)
+pub ruleset recording = (rules, record-no-plan, kept-no-plan, record-not-given, kept-not-given, record-short, kept-short, record-done, record-room, record-written, given_passed)

@@ -1,17 +1,17 @@
-// The run record (document 02, R-8), written: contents first, an offset from the file's start and a length in bytes for each party; then each
+// The run record, written: contents first, an offset from the file's start and a length in bytes for each party; then each
 // party's inputs, coins, mail and results. All numbers have four bytes.
 #![tactic(auto)]
 
 ghost use Rattle.std.specs.Prelude.{◌≡◌, ◌+◌, ◌-◌, ◌*◌, ◌^◌, ◌≤◌, length, take};
 ghost use Rattle.numbers.specs.Bytes.{numbers, stored};
 ghost use Rattle.plan.specs.File.{plan_of};
-ghost use Rattle.plan.specs.Planned.{Planned};
 ghost use Rattle.run_dealings.specs.Rows.{Given};
 ghost use Rattle.record_laws.specs.Records.{body_size, record_size, contents_of, record_of, record_answer, record_after};
 
-use plan::{Checked, Header, Reading, Refusal};
+use plan::{PlanFile, Refusal};
 
 // The set of parties 1 to n.
+#[tactic(auto, using(crate::proofs::Contents::shifting))]
 fn everyone(n: usize) -> u16
     requires { n ≤ 15 }
     ensures { result ≡ 2 ^ n - 1 }
@@ -20,23 +20,25 @@ fn everyone(n: usize) -> u16
 }
 
 // The bytes of party i's body.
-pub fn body_size(plan: &[u8], h: Header, i: usize) -> usize
-    requires { Planned plan.now h }
-    ensures { record { eq : result ≡ body_size (plan_of plan.now) i; le : result ≤ 131072 } }
+#[tactic(auto, using(crate::proofs::Contents::sizing))]
+pub fn body_size(plan: &PlanFile, i: usize) -> usize
+    ensures { record { eq : result ≡ body_size (plan_of plan.now.bytes.now) i; le : result ≤ 131072 } }
 {
-    numbers::WIDTH * run_bench::checking::view_count_of(plan, h, i)
+    numbers::WIDTH * run_bench::checking::view_count_of(plan, i)
 }
 
 // The bytes of a record.
-pub fn record_size(plan: &[u8], h: Header) -> usize
-    requires { Planned plan.now h }
-    ensures { record { eq : result ≡ record_size (plan_of plan.now); le : result ≤ 2097272 } }
+#[tactic(auto, using(crate::proofs::Contents::sizing))]
+pub fn record_size(plan: &PlanFile) -> usize
+    ensures { record { eq : result ≡ record_size (plan_of plan.now.bytes.now); le : result ≤ 2097272 } }
 {
-    let set = everyone(h.n);
-    8 * h.n + numbers::WIDTH * run_bench::checking::view_count(plan, h, set)
+    let set = everyone(plan.header.n);
+    8 * plan.header.n + numbers::WIDTH * run_bench::checking::view_count(plan, set)
 }
 
 // What the contents say of party k + 1: where its body begins, and its bytes.
+// As it is: `size` is a number that is written, and not the length of the list.
+#[tactic(auto, using(crate::proofs::Contents::listing))]
 fn put_content(k: usize, at: usize, size: usize, out: &mut [u8])
     requires { k ≤ 15 }
     ensures { out.new ≡ stored (stored out.old (2 * k) at) (2 * k + 1) size }
@@ -45,51 +47,54 @@ fn put_content(k: usize, at: usize, size: usize, out: &mut [u8])
     numbers::write(out, 2 * k + 1, size as u64);
 }
 
-fn put_contents(plan: &[u8], h: Header, out: &mut [u8])
-    requires planned { Planned plan.now h }
-    requires n_in_bounds { 8 * h.n ≤ length out.old }
-    ensures { take (8 * h.n) out.new ≡ contents_of (plan_of plan.now) }
+#[tactic(auto, using(crate::proofs::Contents::listing))]
+fn put_contents(plan: &PlanFile, out: &mut [u8])
+    requires n_in_bounds { 8 * plan.now.header.n ≤ length out.old }
+    ensures { take (8 * plan.now.header.n) out.new ≡ contents_of (plan_of plan.now.bytes.now) }
 {
-    let mut at: usize = 8 * h.n;
-    let mut k: usize = 0;
-    while k < h.n {
-        let size = body_size(plan, h, k + 1);
+    let mut at = 8 * plan.header.n;
+    for k in 0..plan.header.n {
+        let size = body_size(plan, k + 1);
         put_content(k, at, size, out);
         at += size;
-        k += 1;
     }
 }
 
 // The record of a run that no refusal falls on: the contents, then the view of all parties.
-fn write_record(plan: &[u8], h: Header, inputs: &[u8], coins: &[u8], out: &mut [u8])
-    requires planned { Planned plan.now h }
-    requires given { Given (plan_of plan.now) inputs.now coins.now }
-    requires out_len { length out.old ≡ record_size (plan_of plan.now) }
-    ensures { out.new ≡ record_of (plan_of plan.now) (numbers inputs.now) (numbers coins.now) }
+#[tactic(auto, using(crate::proofs::Recording::writing))]
+fn write_record(plan: &PlanFile, inputs: &[u8], coins: &[u8], out: &mut [u8])
+    requires given { Given (plan_of plan.now.bytes.now) inputs.now coins.now }
+    requires out_len { length out.old ≡ record_size (plan_of plan.now.bytes.now) }
+    ensures { out.new ≡ record_of (plan_of plan.now.bytes.now) (numbers inputs.now) (numbers coins.now) }
 {
-    put_contents(plan, h, out);
-    let set = everyone(h.n);
-    let bodies = 8 * h.n;
-    run_bench::write_run(plan, h, set, inputs, coins, &mut out[bodies..]);
+    put_contents(plan, out);
+    let set = everyone(plan.header.n);
+    let bodies = 8 * plan.header.n;
+    run_bench::write_run(plan, set, inputs, coins, &mut out[bodies..]);
+}
+
+// The record of a plan that passes.
+// As it is: the call's own arguments, of which nothing is known before the checks and all after them.
+#[tactic(auto, using(crate::proofs::Recording::recording))]
+fn record_on(plan: &PlanFile, inputs: &[u8], coins: &[u8], out: &mut [u8]) -> Result<(), Refusal>
+    ensures answer { result ≡ record_answer plan.now.bytes.now inputs.now coins.now (length out.old) }
+    ensures out { out.new ≡ record_after plan.now.bytes.now inputs.now coins.now out.old }
+{
+    run_bench::checking::check_given(plan, inputs, coins)?;
+    if out.len() != record_size(plan) {
+        return Err(Refusal::BufferLength);
+    }
+    write_record(plan, inputs, coins, out);
+    Ok(())
 }
 
 // Runs a plan on all inputs and coins and writes the record of the run; or answers the first of the plan's refusals, 10 to 13 and 19 that falls
 // on it, and writes nothing.
-pub fn record(plan: &[u8], inputs: &[u8], coins: &[u8], out: &mut [u8]) -> Checked
-    ensures answer { result ≡ record_answer plan.now inputs.now coins.now (length out.old) }
-    ensures out { out.new ≡ record_after plan.now inputs.now coins.now out.old }
+#[tactic(auto, using(crate::proofs::Recording::recording))]
+pub fn record(bytes: &[u8], inputs: &[u8], coins: &[u8], out: &mut [u8]) -> Result<(), Refusal>
+    ensures answer { result ≡ record_answer bytes.now inputs.now coins.now (length out.old) }
+    ensures out { out.new ≡ record_after bytes.now inputs.now coins.now out.old }
 {
-    let read = plan_reading::read(plan);
-    let Reading::Passed(h) = read else {
-        return plan_reading::outcome(read);
-    };
-    let given = run_bench::checking::check_given(plan, h, inputs, coins);
-    let Checked::Passed = given else {
-        return given;
-    };
-    if out.len() != record_size(plan, h) {
-        return Checked::Refused(Refusal::BufferLength);
-    }
-    write_record(plan, h, inputs, coins, out);
-    Checked::Passed
+    let plan = plan_reading::read(bytes)?;
+    record_on(&plan, inputs, coins, out)
 }

@@ -1,44 +1,40 @@
 -- What each way through the bench says of its definition.
---     writing-run      the table filled and the views written
+--     writing_run      the table filled and the views written
 --     benching         the answers, and the lent buffer
 -- Assumes nothing.
-use mathlib.Core.Path.{◌≡◌, refl, sym, ap, ◌∙◌}
-use mathlib.Core.Bool.{Bool, true}
-use mathlib.Core.List.{List, [], ◌∷◌, ◌++◌, flat_map}
-use Prim.Native.Nat.{ℕ, ◌+◌, ◌*◌, ◌^◌, ◌<◌, ◌≤◌}
+use Rattle.std.proofs.Common.{Result, Ok, Err}
+use mathlib.Core.Path.{◌≡◌, sym, ap, ◌∙◌}
+use mathlib.Core.Bool.{true}
+use mathlib.Core.List.{List, [], flat_map}
+use Prim.Native.Nat.{ℕ, ◌*◌, ◌^◌, ◌<◌, ◌≤◌}
 use native.Mathlib.Nat.{mul-le-mul}
 use native.Mathlib.Omega.{arith}
 use borrow.Author.Rules.{rules}
 use borrow.Author.Tests.{eqb-true, ltb-true}
-use lib.Dec.{eqb, leb, ltb}
-use lib.ListN.{length, take, length-replicate}
+use lib.Dec.{leb, ltb}
+use lib.ListN.{length, take}
 use lib.Seq.{length-take-le}
 use mir.Syntax.{w64}
 use mir.Val.{Fits}
-use Rattle.numbers.specs.Bytes.{width, numbers, bytes_of, holds_count, first_over, all_below}
+use Rattle.numbers.specs.Bytes.{width, numbers, bytes_of}
 use Rattle.numbers.proofs.Bytes.{numbers-length, holds-length}
 use Rattle.numbers.proofs.Below.{first_over-nothing}
 use Rattle.numbers.proofs.Truth.{both_true}
 use Rattle.sharing_laws.specs.Interp.{All}
 use Rattle.plan.specs.declared.Header.{Header}
-use Rattle.plan.specs.declared.Reading.{Reading}
-use Rattle.plan.specs.declared.Reading.TheVariants as reading
-use Rattle.plan.specs.declared.Checked.{Checked}
-use Rattle.plan.specs.declared.Checked.TheVariants.{Passed, Refused}
+use Rattle.plan.specs.Refusals.{Checked}
 use Rattle.plan.specs.declared.Refusal.{Refusal}
 use Rattle.plan.specs.declared.Refusal.TheVariants as refusal
-use Rattle.plan.specs.Refusals.{and_then, first_of, need, unless_found}
-use Rattle.plan.specs.Plans.{Plan, party_count, input_count, coin_count, sent_count}
-use Rattle.plan.specs.File.{plan_checks, plan_check, plan_of, outcome_of}
-use Rattle.plan.specs.Planned.{Planned, ReadAs}
+use Rattle.plan.specs.Refusals.{and_then, first_of}
+use Rattle.plan.specs.Plans.{party_count, input_count, coin_count, sent_count}
+use Rattle.plan.specs.File.{plan_checks, plan_check, plan_of}
+use Rattle.plan.specs.Planned.{Planned}
 use Rattle.plan_coalition.specs.Coalitions.{members, set_fits, set_ok}
 use Rattle.plan.proofs.Refusals.{and_then_passed, and_then_refused, first_of-append, passed_both, passed-need, passed_found}
-use Rattle.plan.proofs.Planned.{planned_read, refused_read, plan_p, plan_n}
+use Rattle.plan.proofs.Planned.{plan_n}
 use Rattle.plan.proofs.Valid.{valid, plain, plain_no_7}
 use Rattle.plan_coalition.proofs.Coalitions.{set_ok_lem, member_in, all-members}
 use Rattle.seat_messages.specs.Calls.{unless_refused}
-use Rattle.run_bench.specs.declared.Benched.{Benched}
-use Rattle.run_bench.specs.declared.Benched.TheVariants as benched
 use Rattle.run_protocol.specs.Rounds.{view, view_count}
 use Rattle.run_protocol.specs.Tables.{table_view_of}
 use Rattle.run_protocol.proofs.Expected.{Tabled}
@@ -72,80 +68,59 @@ module _ {bs : List ℕ} {h : Header} (pl : Planned bs h) where
         let none : Tabled (plan_of bs) [] [] = tabled-none (plan_of bs) [] (plain_no_7 (plan_of bs) (plain bs pl.passes)) in
         e ∙ ap bytes_of (sym (views-table (plan_of bs) (valid bs pl.passes) (numbers inputs) (numbers coins) [] [] full none (members set) only))
 
-pub ruleset writing-run = (rules, table-room, table_fits, table-enough, used-long, run-written)
+pub ruleset writing_run = (rules, table-room, table_fits, table-enough, used-long, run-written)
 
 -- ---- answers
-pub benched_passed : (c : Checked) (sent : ℕ) → c ≡ Passed → benched.Sent sent ≡ benched_of c sent
-unfolding benched_of
-benched_passed c sent e = rw e
-
-pub benched_refused : (c : Checked) (sent : ℕ) (r : Refusal) → c ≡ Refused r → benched.Refused r ≡ benched_of c sent
-unfolding benched_of
-benched_refused c sent r e = rw e
-
-pub ruleset answering = (rules, benched_passed, benched_refused)
-
--- a refusal is the same for any count
-same_refusal : (c d : Checked) (r : Refusal) (m n : ℕ) → c ≡ Refused r → d ≡ Refused r → benched_of c m ≡ benched_of d n
-unfolding benched_of
-same_refusal c d r m n e f = rw (e, f)
-
-kept : (c : Checked) (r : Refusal) (new old : List ℕ) → c ≡ Refused r → old ≡ unless_refused c new old
-unfolding unless_refused
-kept c r new old e = rw e
-
-written : (c : Checked) (new old : List ℕ) → c ≡ Passed → new ≡ unless_refused c new old
-unfolding unless_refused
-written c new old e = rw e
-
 module _ (bs : List ℕ) (set : ℕ) (inputs coins : List ℕ) (room : ℕ) where
   answer_parts : bench_answer bs set inputs coins room ≡ and_then (plan_check bs) (first_of (run_checks (plan_of bs) set inputs coins room))
   unfolding bench_answer plan_check
   answer_parts = first_of-append (plan_checks bs) (run_checks (plan_of bs) set inputs coins room)
 
   -- the plan is refused
-  plan-refused : (r : Reading) (q : Refusal) → ReadAs bs r → r ≡ reading.Refused q → bench_answer bs set inputs coins room ≡ Refused q
-  plan-refused r q a e = answer_parts ∙ and_then_refused (plan_check bs) _ q (refused_read bs r q a e)
+  plan-refused : (q : Refusal) → plan_check bs ≡ Err q → bench_answer bs set inputs coins room ≡ Err q
+  plan-refused q e = answer_parts ∙ and_then_refused (plan_check bs) _ q e
 
   -- what follows it is refused, or passes
   past_plan : (h : Header) → Planned bs h → bench_answer bs set inputs coins room ≡ first_of (run_checks (plan_of bs) set inputs coins room)
   past_plan h pl = answer_parts ∙ and_then_passed (plan_check bs) _ pl.passes
 
-outcome_refused : (r : Reading) (q : Refusal) (c : Checked) → c ≡ outcome_of r → r ≡ reading.Refused q → c ≡ Refused q
-unfolding outcome_of
-outcome_refused r q c e f = rw f at e
-
 module _ (bs : List ℕ) (set : ℕ) (inputs coins out : List ℕ) where
-  module _ (r : Reading) (q : Refusal) (a : ReadAs bs r) (e : r ≡ reading.Refused q) where
-    pub bench-no-plan : (c : Checked) (b : Benched) → c ≡ outcome_of r → b ≡ benched_of c 0 → b ≡ benched_of (bench_answer bs set inputs coins (length out)) (sent_count (plan_of bs))
-    bench-no-plan c b ec eb = eb ∙ same_refusal c (bench_answer bs set inputs coins (length out)) q 0 (sent_count (plan_of bs)) (outcome_refused r q c ec e) (plan-refused bs set inputs coins (length out) r q a e)
+  refused : (q : Refusal) → bench_answer bs set inputs coins (length out) ≡ Err q → Err q ≡ benched_of (bench_answer bs set inputs coins (length out)) (sent_count (plan_of bs))
+  unfolding benched_of
+  refused q e = rw e
 
-    pub view-no-plan : out ≡ view_after bs set inputs coins out
-    unfolding view_after
-    view-no-plan = kept (bench_answer bs set inputs coins (length out)) q _ out (plan-refused bs set inputs coins (length out) r q a e)
+  kept : (q : Refusal) → bench_answer bs set inputs coins (length out) ≡ Err q → out ≡ view_after bs set inputs coins out
+  unfolding view_after unless_refused
+  kept q e = rw e
 
-  module _ (r : Reading) (h : Header) (a : ReadAs bs r) (e : r ≡ reading.Passed h) (c : Checked) (ec : c ≡ first_of (run_checks (plan_of bs) set inputs coins (length out))) where
+  module _ (q : Refusal) (e : plan_check bs ≡ Err q) where
+    pub bench_no_plan : Err q ≡ benched_of (bench_answer bs set inputs coins (length out)) (sent_count (plan_of bs))
+    bench_no_plan = refused q (plan-refused bs set inputs coins (length out) q e)
+
+    pub view_no_plan : out ≡ view_after bs set inputs coins out
+    view_no_plan = kept q (plan-refused bs set inputs coins (length out) q e)
+
+  module _ (h : Header) (pl : Planned bs h) (c : Checked) (ec : c ≡ first_of (run_checks (plan_of bs) set inputs coins (length out))) where
     answer : bench_answer bs set inputs coins (length out) ≡ c
-    answer = past_plan bs set inputs coins (length out) h (planned_read bs r h a e) ∙ sym ec
+    answer = past_plan bs set inputs coins (length out) h pl ∙ sym ec
 
-    pub bench-refused : (q : Refusal) (b : Benched) → c ≡ Refused q → b ≡ benched_of c 0 → b ≡ benched_of (bench_answer bs set inputs coins (length out)) (sent_count (plan_of bs))
-    bench-refused q b f eb = eb ∙ same_refusal c (bench_answer bs set inputs coins (length out)) q 0 (sent_count (plan_of bs)) f (answer ∙ f)
+    pub bench_refused : (q : Refusal) → c ≡ Err q → Err q ≡ benched_of (bench_answer bs set inputs coins (length out)) (sent_count (plan_of bs))
+    bench_refused q f = refused q (answer ∙ f)
 
-    pub view-refused : (q : Refusal) → c ≡ Refused q → out ≡ view_after bs set inputs coins out
-    unfolding view_after
-    view-refused q f = kept (bench_answer bs set inputs coins (length out)) q _ out (answer ∙ f)
+    pub view_refused : (q : Refusal) → c ≡ Err q → out ≡ view_after bs set inputs coins out
+    view_refused q f = kept q (answer ∙ f)
 
-    module _ (f : c ≡ Passed) where
-      pub bench-sent : (k : ℕ) → k ≡ sent_count (plan_of bs) → benched.Sent k ≡ benched_of (bench_answer bs set inputs coins (length out)) (sent_count (plan_of bs))
+    module _ (f : c ≡ (Ok tt)) where
+      pub bench_sent : (k : ℕ) → k ≡ sent_count (plan_of bs) → Ok k ≡ benched_of (bench_answer bs set inputs coins (length out)) (sent_count (plan_of bs))
       unfolding benched_of
-      bench-sent k ek = rw (answer, f, ek)
+      bench_sent k ek = rw (answer, f, ek)
 
-      pub view-sent : (new : List ℕ) → new ≡ bytes_of (view (plan_of bs) (members set) (numbers inputs) (numbers coins) []) → new ≡ view_after bs set inputs coins out
-      unfolding view_after
-      view-sent new en = en ∙ written (bench_answer bs set inputs coins (length out)) (bytes_of (view (plan_of bs) (members set) (numbers inputs) (numbers coins) [])) out (answer ∙ f)
+      pub view_sent : (new : List ℕ) → new ≡ bytes_of (view (plan_of bs) (members set) (numbers inputs) (numbers coins) []) → new ≡ view_after bs set inputs coins out
+      unfolding view_after unless_refused
+      view_sent new en = rw (answer, f) en
 
 -- ---- what a run whose checks pass is given
-module _ (bs : List ℕ) (set : ℕ) (inputs coins : List ℕ) (room : ℕ) (c : Checked) (ec : c ≡ first_of (run_checks (plan_of bs) set inputs coins room)) (f : c ≡ Passed) where
+module _ (bs : List ℕ) (set : ℕ) (inputs coins : List ℕ) (room : ℕ) (c : Checked) (ec : c ≡ first_of (run_checks (plan_of bs) set inputs coins room)) (f : c ≡ (Ok tt)) where
   pub passed-set : (h : Header) → Planned bs h → set_fits h.n h.t set ≡ true
   unfolding run_checks first_of
   passed-set h pl = set_ok_lem bs h set pl ∙ passed-need refusal.Coalition (set_ok (plan_of bs) set) (passed_both _ _ (sym ec ∙ f)).0
@@ -179,4 +154,4 @@ module _ (bs : List ℕ) (set : ℕ) (inputs coins : List ℕ) (room : ℕ) (c :
       let i = passed_both _ _ g.1 in
       eqb-true room (width * view_count (plan_of bs) (members set)) (passed-need refusal.BufferLength _ i.0)
 
-pub ruleset benching = (rules, planned_read, bench-no-plan, view-no-plan, bench-refused, view-refused, bench-sent, view-sent, passed-within, passed-given, passed-room)
+pub ruleset benching = (rules, bench_no_plan, view_no_plan, bench_refused, view_refused, bench_sent, view_sent, passed-within, passed-given, passed-room)

@@ -4,10 +4,11 @@
 --     Sizing                   the loop over the parties
 --     giving, running          the checks of what a run is given, and all of them
 -- Assumes nothing.
+use Rattle.std.proofs.Common.{Ok, Err}
 use mathlib.Core.Path.{◌≡◌, refl, sym, ap, ap₂, ◌∙◌}
-use mathlib.Core.Bool.{Bool, true, false, cond, not}
+use mathlib.Core.Bool.{Bool, true, false, cond}
 use mathlib.Core.List.{List, [], ◌∷◌, ◌++◌, map}
-use Prim.Native.Nat.{ℕ, zero, suc, ◌+◌, ◌-◌, ◌*◌, ◌<◌, ◌≤◌}
+use Prim.Native.Nat.{ℕ, suc, ◌+◌, ◌-◌, ◌*◌, ◌<◌, ◌≤◌}
 use native.Mathlib.Numerals.{add-one}
 use native.Mathlib.Nat.{mul-zero, mul-suc, mul_comm, mul-le-mul}
 use native.Mathlib.Omega.{arith}
@@ -20,8 +21,7 @@ use mir.Val.{Fits}
 use Rattle.numbers.specs.Tables.{count_where, total}
 use Rattle.numbers.specs.Bytes.{width}
 use Rattle.plan.specs.declared.Header.{Header}
-use Rattle.plan.specs.declared.Checked.{Checked}
-use Rattle.plan.specs.declared.Checked.TheVariants.{Passed, Refused}
+use Rattle.plan.specs.Refusals.{Checked}
 use Rattle.plan.specs.declared.Refusal.{Refusal}
 use Rattle.plan.specs.declared.Refusal.TheVariants as refusal
 use Rattle.plan.specs.Refusals.{and_then, first_of, need}
@@ -31,7 +31,7 @@ use Rattle.plan.specs.declared.Rule.{Rule}
 use Rattle.plan.specs.declared.Rule.TheVariants.{Reduction}
 use Rattle.plan.specs.declared.Step.{Step}
 use Rattle.plan.specs.declared.Step.TheVariants.{DealProduct, SendOuts}
-use Rattle.plan.specs.Plans.{Plan, party_count, dealer_count, kind_of, is_kind, kind_count, is_input_of, multiply_steps, steps_at, steps_from, steps, received, input_count, coin_count, own_input_count, own_coin_count, own_out_count}
+use Rattle.plan.specs.Plans.{Plan, party_count, dealer_count, kind_of, is_kind, kind_count, is_input_of, multiply_steps, steps_at, steps_from, steps, received, input_count, coin_count, own_coin_count, own_out_count}
 use Rattle.plan.specs.File.{plan_of}
 use Rattle.plan.specs.Planned.{Planned}
 use Rattle.plan_coalition.specs.Coalitions.{in_set, members_from, members, set_fits, set_ok}
@@ -121,7 +121,7 @@ module _ (set i k : ℕ) (b : Bool) (e : b ≡ in_set set i) where
   pub size_member : (r : ℕ) → b ≡ true → r ≡ k → r ≡ cond (in_set set i) k 0
   size_member r y q = q ∙ rw (← e, y)
 
-pub ruleset sizing-one = (rules, not-true, not-false, size-not, size_member)
+pub ruleset sizing_one = (rules, not-true, not-false, size-not, size_member)
 
 -- ---- the loop over the parties
 pub record Sizing (plan : Plan) (set k i : ℕ) : Type 0 where
@@ -184,11 +184,11 @@ module _ (bs : List ℕ) (h : Header) (pl : Planned bs h) (inputs coins : List �
         ∙ ap (λ (n : ℕ). and_then (inputs_of h.field.p n) (coins_of_lem h.field.p (coin_count (plan_of bs)))) (sym ek)
         ∙ ap (λ (d : Checked). and_then d (coins_of_lem h.field.p (coin_count (plan_of bs)))) (sym ec)
 
-    pub given-inputs : (r : Refusal) → c ≡ Refused r → c ≡ first_of (given_checks (plan_of bs) inputs coins)
-    given-inputs r e = e ∙ sym (given-parts ∙ and_then_refused c _ r e)
+    pub given-inputs : (r : Refusal) → c ≡ Err r → ◌≡◌ {A = Checked} (Err r) (first_of (given_checks (plan_of bs) inputs coins))
+    given-inputs r e = sym (given-parts ∙ and_then_refused c _ r e)
 
     pub given-coins :
-        c ≡ Passed → (d : ℕ) → d ≡ coin_count (plan_of bs) → (r : Checked) → r ≡ first_of (list_checks refusal.CoinCount refusal.CoinValue h.field.p d coins)
+        c ≡ (Ok tt) → (d : ℕ) → d ≡ coin_count (plan_of bs) → (r : Checked) → r ≡ first_of (list_checks refusal.CoinCount refusal.CoinValue h.field.p d coins)
         → r ≡ first_of (given_checks (plan_of bs) inputs coins)
     unfolding coins_of_lem
     given-coins e d ed r er = er ∙ sym (given-parts ∙ and_then_passed c _ e ∙ ap (coins_of_lem h.field.p) (sym ed))
@@ -209,7 +209,7 @@ module _ (bs : List ℕ) (h : Header) (pl : Planned bs h) (set : ℕ) (inputs co
   set_is : t ≡ set_ok (plan_of bs) set
   set_is = et ∙ set_ok_lem bs h set pl
 
-  pub run-set : t ≡ false → Refused refusal.Coalition ≡ first_of (run_checks (plan_of bs) set inputs coins room)
+  pub run-set : t ≡ false → Err refusal.Coalition ≡ first_of (run_checks (plan_of bs) set inputs coins room)
   run-set e = sym (run_parts ∙ and_then_refused (need refusal.Coalition (set_ok (plan_of bs) set)) _ refusal.Coalition (need-false refusal.Coalition (set_ok (plan_of bs) set) (sym set_is ∙ e)))
 
   module _ (y : t ≡ true) (c : Checked) (ec : c ≡ first_of (given_checks (plan_of bs) inputs coins)) where
@@ -218,17 +218,17 @@ module _ (bs : List ℕ) (h : Header) (pl : Planned bs h) (set : ℕ) (inputs co
         run_parts ∙ and_then_passed (need refusal.Coalition (set_ok (plan_of bs) set)) _ (need-true refusal.Coalition (set_ok (plan_of bs) set) (sym set_is ∙ y))
         ∙ ap (λ (d : Checked). and_then d (need refusal.BufferLength (eqb room (width * view_count (plan_of bs) (members set))))) (sym ec)
 
-    pub run-given : (r : Refusal) → c ≡ Refused r → c ≡ first_of (run_checks (plan_of bs) set inputs coins room)
-    run-given r e = e ∙ sym (past-set ∙ and_then_refused c _ r e)
+    pub run-given : (r : Refusal) → c ≡ Err r → ◌≡◌ {A = Checked} (Err r) (first_of (run_checks (plan_of bs) set inputs coins room))
+    run-given r e = sym (past-set ∙ and_then_refused c _ r e)
 
-    module _ (e : c ≡ Passed) (k : ℕ) (ek : k ≡ view_count (plan_of bs) (members set)) where
+    module _ (e : c ≡ (Ok tt)) (k : ℕ) (ek : k ≡ view_count (plan_of bs) (members set)) where
       past-given : first_of (run_checks (plan_of bs) set inputs coins room) ≡ need refusal.BufferLength (eqb room (width * view_count (plan_of bs) (members set)))
       past-given = past-set ∙ and_then_passed c _ e
 
-      pub run_room : (room ≡ width * k → ⊥) → Refused refusal.BufferLength ≡ first_of (run_checks (plan_of bs) set inputs coins room)
+      pub run_room : (room ≡ width * k → ⊥) → Err refusal.BufferLength ≡ first_of (run_checks (plan_of bs) set inputs coins room)
       run_room n = sym (past-given ∙ need-false refusal.BufferLength (eqb room (width * view_count (plan_of bs) (members set))) (rw (← ek) (ne_eqb room (width * k) n)))
 
-      pub run-passed : room ≡ width * k → Passed ≡ first_of (run_checks (plan_of bs) set inputs coins room)
+      pub run-passed : room ≡ width * k → (Ok tt) ≡ first_of (run_checks (plan_of bs) set inputs coins room)
       run-passed q = sym (past-given ∙ need-true refusal.BufferLength (eqb room (width * view_count (plan_of bs) (members set))) (rw (← ek) (eq-eqb room (width * k) q)))
 
 pub ruleset running = (rules, not-true, not-false, run-set, run-given, run_room, run-passed)

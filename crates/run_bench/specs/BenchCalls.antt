@@ -1,16 +1,14 @@
 -- The bench as its caller sees it: the first refusal or none, the elements sent, and the lent buffer afterwards.
-use Rattle.std.specs.Prelude.{ℕ, ◌*◌, List, [], ◌∷◌, ◌++◌, eqb, length}
+use Rattle.std.specs.Prelude.{Result, Ok, Err, ℕ, ◌*◌, List, [], ◌∷◌, ◌++◌, eqb, length}
 use Rattle.numbers.specs.Bytes.{width, numbers, bytes_of, holds_count, first_over}
-use Rattle.plan.specs.declared.Checked.{Checked}
-use Rattle.plan.specs.declared.Checked.TheVariants.{Passed, Refused}
+use Rattle.plan.specs.Refusals.{Checked}
+use Rattle.plan.specs.declared.Refusal.{Refusal}
 use Rattle.plan.specs.declared.Refusal.TheVariants as refusal
 use Rattle.plan.specs.Refusals.{first_of, need, unless_found}
-use Rattle.plan.specs.Plans.{Plan, input_count, coin_count, sent_count}
+use Rattle.plan.specs.Plans.{Plan, input_count, coin_count}
 use Rattle.plan.specs.File.{plan_checks, plan_of}
 use Rattle.plan_coalition.specs.Coalitions.{members, set_ok}
 use Rattle.seat_messages.specs.Calls.{unless_refused}
-use Rattle.run_bench.specs.declared.Benched.{Benched}
-use Rattle.run_bench.specs.declared.Benched.TheVariants as benched
 use Rattle.run_protocol.specs.Rounds.{view, view_count}
 
 -- refusals 9 to 13 and 19
@@ -27,10 +25,10 @@ run_checks plan set xs coins room =
 unfoldable pub bench_answer : List ℕ → ℕ → List ℕ → List ℕ → ℕ → Checked
 bench_answer bs set xs coins room = first_of (plan_checks bs ++ run_checks (plan_of bs) set xs coins room)
 
--- what the bench answers
-unfoldable pub benched_of : Checked → ℕ → Benched
-benched_of Passed sent = benched.Sent sent
-benched_of (Refused r) sent = benched.Refused r
+-- what the bench answers: the elements sent, or the first refusal
+unfoldable pub benched_of : Checked → ℕ → Result ℕ Refusal
+benched_of (Ok tt) sent = Ok sent
+benched_of (Err r) sent = Err r
 
 -- the lent buffer afterwards: the coalition's view of the run of separate calls; a plan file has no gate that spends a triple
 unfoldable pub view_after : List ℕ → ℕ → List ℕ → List ℕ → List ℕ → List ℕ

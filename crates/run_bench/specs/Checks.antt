@@ -1,6 +1,6 @@
 -- Refusals 10 to 13 of a run as one list: the inputs, then the coins.
 use Rattle.std.specs.Prelude.{List, ◌++◌, ℕ}
-use Rattle.plan.specs.declared.Checked.{Checked}
+use Rattle.plan.specs.Refusals.{Checked}
 use Rattle.plan.specs.declared.Refusal.TheVariants as refusal
 use Rattle.plan.specs.Plans.{Plan, input_count, coin_count}
 use Rattle.seat_admission.specs.Parts.{list_checks}

@@ -2,8 +2,8 @@
 --     coins_input .. coins-spend     by its kind
 -- Assumes nothing.
 use Prim.Native.Nat.{ℕ, ◌+◌, ◌*◌, ◌≤◌}
-use mathlib.Core.Path.{◌≡◌, sym, ap, ap₂, ◌∙◌}
-use mathlib.Core.List.{List, flat_map}
+use mathlib.Core.Path.{◌≡◌, refl, sym, ap, ap₂, ◌∙◌}
+use mathlib.Core.List.{List, [], flat_map}
 use native.Mathlib.Nat.{mul-le-mul}
 use native.Mathlib.Omega.{arith}
 use borrow.Author.Rules.{rules}
@@ -13,7 +13,7 @@ use mir.Val.{Fits}
 use Rattle.plan.specs.declared.Gate.{Gate}
 use Rattle.plan.specs.declared.Gate.TheVariants.{Input, Add, Scale, Offset, Multiply, Random, Spend}
 use Rattle.plan.specs.declared.Header.{Header}
-use Rattle.plan.specs.Plans.{dealings_at, coin_owners_at}
+use Rattle.plan.specs.Plans.{Plan, dealings_at, coin_owners_at}
 use Rattle.plan.specs.File.{gate_at, plan_of}
 use Rattle.plan.specs.Planned.{Planned}
 use Rattle.plan.proofs.Planned.{plan_t, plan_n, plan_dealers}
@@ -22,6 +22,17 @@ use Rattle.run_protocol.proofs.Owners.{length_blocks}
 use Rattle.run_protocol.proofs.Dealt.{input-owners, reduction-owners, random-owners}
 
 -- ---- a gate by its kind
+-- gates of the other kinds take none
+pub no_owners : (plan : Plan) (x : Gate) → ((i : ℕ) → x ≡ Input i → ⊥) → ((a b : ℕ) → x ≡ Multiply a b → ⊥) → (x ≡ Random → ⊥) → coin_owners_at plan x ≡ []
+unfolding coin_owners_at dealings_at flat_map
+no_owners plan (Input i) n m r = absurd (n i refl)
+no_owners plan (Add a b) n m r = refl
+no_owners plan (Scale a c) n m r = refl
+no_owners plan (Offset a c) n m r = refl
+no_owners plan (Multiply a b) n m r = absurd (m a b refl)
+no_owners plan Random n m r = absurd (r refl)
+no_owners plan (Spend a b) n m r = refl
+
 module _ (bs : List ℕ) (h : Header) (k : Planned bs h) where
   pub coins-at-input : (s : ℕ) → length (coin_owners_at (plan_of bs) (Input s)) ≡ h.t
   coins-at-input s = ap length (input-owners (plan_of bs) s) ∙ length-replicate {A = ℕ} (plan_of bs).t s ∙ plan_t k
@@ -37,27 +48,14 @@ module _ (bs : List ℕ) (h : Header) (k : Planned bs h) where
     pub coins_input : (s : ℕ) → gate ≡ Input s → h.t ≡ length (coin_owners_at (plan_of bs) (gate_at bs g))
     coins_input s e = rw (← is, e) (sym (coins-at-input s))
 
-    pub coins-add : (a b : ℕ) → gate ≡ Add a b → 0 ≡ length (coin_owners_at (plan_of bs) (gate_at bs g))
-    unfolding coin_owners_at dealings_at flat_map
-    coins-add a b e = rw (← is, e)
-
-    pub coins-scale : (a c : ℕ) → gate ≡ Scale a c → 0 ≡ length (coin_owners_at (plan_of bs) (gate_at bs g))
-    unfolding coin_owners_at dealings_at flat_map
-    coins-scale a c e = rw (← is, e)
-
-    pub coins_offset : (a c : ℕ) → gate ≡ Offset a c → 0 ≡ length (coin_owners_at (plan_of bs) (gate_at bs g))
-    unfolding coin_owners_at dealings_at flat_map
-    coins_offset a c e = rw (← is, e)
+    pub coins_else : ((i : ℕ) → gate ≡ Input i → ⊥) → ((a b : ℕ) → gate ≡ Multiply a b → ⊥) → (gate ≡ Random → ⊥) → 0 ≡ length (coin_owners_at (plan_of bs) (gate_at bs g))
+    coins_else i m r = rw (← is) (sym (ap length (no_owners (plan_of bs) gate i m r)))
 
     pub coins_multiply : (a b : ℕ) → gate ≡ Multiply a b → h.t * (h.t + h.t + 1) ≡ length (coin_owners_at (plan_of bs) (gate_at bs g))
     coins_multiply a b e = rw (← is, e) (sym (coins-at-multiply a b))
 
     pub coins_random : gate ≡ Random → h.t * h.n ≡ length (coin_owners_at (plan_of bs) (gate_at bs g))
     coins_random e = rw (← is, e) (sym coins-at-random)
-
-    pub coins-spend : (a b : ℕ) → gate ≡ Spend a b → 0 ≡ length (coin_owners_at (plan_of bs) (gate_at bs g))
-    unfolding coin_owners_at dealings_at flat_map
-    coins-spend a b e = rw (← is, e)
 
 -- ---- how many they are
 module _ (bs : List ℕ) (h : Header) (k : Planned bs h) where
@@ -73,4 +71,4 @@ module _ (bs : List ℕ) (h : Header) (k : Planned bs h) where
   pub draws-fit : Fits w64 (h.t * h.n)
   draws-fit = record { fits = omega (arith, draws-few) }
 
-pub ruleset taking_coins = (rules, coins_input, coins-add, coins-scale, coins_offset, coins_multiply, coins_random, coins-spend, coins_few, coins-fit, draws-few, draws-fit)
+pub ruleset taking_coins = (rules, coins_input, coins_multiply, coins_random, coins_else, coins_few, coins-fit, draws-few, draws-fit)

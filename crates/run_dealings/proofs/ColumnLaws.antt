@@ -25,7 +25,7 @@ use Rattle.field.specs.Field.{Below2, Is, kept, reciprocal, Reducible, Ready}
 use Rattle.sharing_laws.specs.Interp.{weights, dot}
 use Rattle.field.proofs.Solve.{canon-lt}
 use Rattle.field.proofs.Inverse.{pos}
-use Rattle.sharing.proofs.Coding.{entry_below, dot_canon, plain-dot, Summed, sum-none, sum-few, sum_more, sum-reducible, sum-whole}
+use Rattle.sharing.proofs.Coding.{entry_below, dot_canon, plain-dot, Summed, sum-none, sum_low, sum_more, sum-small, sum-reducible, is_by, sum-whole}
 use Rattle.sharing_laws.proofs.Interpolation.{length-weights}
 use Rattle.sharing_laws.proofs.Alls.{map-tab}
 use Rattle.plan.specs.Plans.{Plan, dealer_count, dealer_points}
@@ -197,28 +197,31 @@ module _ (p : ℕ) (ws ps fs : List ℕ) (j : ℕ) (grid₀ : List (List ℕ)) w
       x-is = is.eq ∙ rw (add-sub_cancel_left, h.place)
 
       pub piece-below : Below2 p (get_or ws d 0) x
-      piece-below = record { above = r.prime.above; small = r.small; left = entry_below p ws d r hw; right = is.lt }
+      piece-below = record { left = entry_below p ws d r hw; right = is.lt }
 
       pub column-next : (y : ℕ) → y ≡ kept p (sum + get_or ws d 0 * x) → Columning p ws ps fs j grid₀ (set grid d (set (get_or grid d []) j x)) y (at + length ps) (d + 1)
       unfolding pieces
       column-next y e = record {
         place = omega (arith, h.place, add-one d, mul-suc (length ps) d);
-        summed = sum_more p ws pieces r sum d h.summed hw (pieces_below r) y (e ∙ ap (λ (v : ℕ). kept p (sum + get_or ws d 0 * v)) (x-is ∙ sym (piece_at d l))) (omega (arith, pieces_long)) l;
+        summed =
+            sum_more p ws pieces r sum d h.summed hw (pieces_below r) (get_or ws d 0) x
+            (record { within = l; also = omega (arith, pieces_long); left = refl; right = x-is ∙ sym (piece_at d l) })
+            y (d + 1) e refl;
         dealt = rw (h.dealt, x-is) (with_more j (piece_by p (length ps) ps fs) d grid₀);
       }
 
     module _ (r : Ready p) where
       pub column-low : length ws ≤ 15 → sum ≤ 4294967296 * p
       unfolding pieces
-      column-low le = sum-few p ws pieces r sum d h.summed (omega arith)
+      column-low le = sum_low p ws pieces r sum d h.summed (omega arith)
 
       pub column-reducible : (m : ℕ) → m ≡ reciprocal p → length ws ≤ 15 → Reducible p m sum
       unfolding pieces
-      column-reducible m e le = sum-reducible p ws pieces r sum d h.summed m e (omega arith)
+      column-reducible m e le = sum-reducible p m sum (length ws) r e (sum-small p ws pieces r sum d h.summed) (omega arith)
 
       pub column-summed : (y : ℕ) → length ws ≤ d → Is p (sum % p) y → Is p (column_sum p ws (pieces_by p (length ps) ps fs (length ws))) y
       unfolding pieces column_sum
-      column-summed y le e = rw (plain-dot p ws pieces) (sum-whole p ws pieces r sum d h.summed y le e)
+      column-summed y le e = rw (plain-dot p ws pieces) (is_by p (sum % p) (dot p ws pieces) y (sum-whole p ws pieces r sum d h.summed le) e)
 
     pub column-dealt : length ws ≤ d → grid ≡ with_column j (pieces_by p (length ps) ps fs (length ws)) grid₀
     unfolding pieces_by

@@ -4,10 +4,10 @@
 --     filling-mixture        the loop over the coefficients
 --     mixed_sharing          what closes the needs of the function that deals it
 -- Assumes nothing.
-use mathlib.Core.Path.{◌≡◌, refl, sym, ap, ap₂, ◌∙◌, fun_ext}
-use mathlib.Core.Bool.{Bool, true, false}
+use mathlib.Core.Path.{◌≡◌, refl, sym, ap, ◌∙◌, fun_ext}
+use mathlib.Core.Bool.{true}
 use mathlib.Core.List.{List, [], ◌∷◌, ◌++◌, map}
-use Prim.Native.Nat.{ℕ, zero, suc, ◌+◌, ◌-◌, ◌*◌, ◌%◌, ◌^◌, ◌<◌, ◌≤◌}
+use Prim.Native.Nat.{ℕ, zero, suc, ◌+◌, ◌*◌, ◌%◌, ◌^◌, ◌<◌, ◌≤◌}
 use native.Mathlib.Numerals.{add-one}
 use native.Mathlib.Nat.{mul-suc, mul-zero}
 use native.Mathlib.Omega.{arith}
@@ -19,7 +19,7 @@ use mir.Val.{Fits}
 use Rattle.numbers.specs.Tables.{tab}
 use Rattle.numbers.specs.Bytes.{all_below}
 use Rattle.numbers.proofs.Tables.{length-tab, get_or-tab, tab-ext, row_room}
-use Rattle.numbers.proofs.Below.{all_below_at, all_below-tab, at-all_below}
+use Rattle.numbers.proofs.Below.{all_below-tab}
 use Rattle.numbers.proofs.Fills.{Filled, filling, filled}
 use Rattle.field.specs.Mod.{add, mul}
 use Rattle.field.specs.Field.{Below2, Is, kept, reciprocal, Reducible, Ready}
@@ -27,8 +27,8 @@ use Rattle.field.proofs.Solve.{canon-lt, #, quote, solve}
 use Rattle.field.proofs.Inverse.{pos}
 use Rattle.sharing_laws.specs.Poly.{eval}
 use Rattle.sharing_laws.specs.Interp.{dot}
-use Rattle.sharing.proofs.Coding.{entry_below, dot_canon, plain-dot, Summed, sum-none, sum-few, sum_more, sum-reducible, sum-whole}
-use Rattle.run_dealings.specs.Rows.{terms, powers, Powered}
+use Rattle.sharing.proofs.Coding.{entry_below, dot_canon, plain-dot, Summed, sum-none, sum_low, sum_more, sum-small, sum-reducible, is_by, sum-whole}
+use Rattle.run_dealings.specs.Rows.{terms, powers}
 use Rattle.run_dealings.specs.Columns.{column_sum, piece_by, pieces_by, share_at, mixed_coefficient, mixture_of}
 use Rattle.run_dealings.proofs.PowerLaws.{eval-powers, length-powers}
 use Rattle.run_dealings.proofs.DealingLaws.{above-one, front-is, terms_within, few_coins, front-counted, whole_long, dealt-counted, dealt-small, dealt-powered}
@@ -106,17 +106,17 @@ module _ (p k : ℕ) (ws fs : List ℕ) (i : ℕ) where
       mix-place-fits f = record { fits = omega (arith, h.place, row_room k d (length ws) l) }
 
       pub mix-below : Ready p → all_below p ws ≡ true → all_below p fs ≡ true → Below2 p (get_or ws d 0) (get_or fs at 0)
-      mix-below r hw hf = record { above = r.prime.above; small = r.small; left = entry_below p ws d r hw; right = entry_below p fs at r hf }
+      mix-below r hw hf = record { left = entry_below p ws d r hw; right = entry_below p fs at r hf }
 
     pub mix-few : Ready p → length ws ≤ 15 → sum ≤ 4294967296 * p
-    mix-few r m = sum-few p ws (coefficients_at k ws fs i) r sum d h.summed (omega arith)
+    mix-few r m = sum_low p ws (coefficients_at k ws fs i) r sum d h.summed (omega arith)
 
     pub mix-reducible : (m : ℕ) → Ready p → m ≡ reciprocal p → length ws ≤ 15 → Reducible p m sum
-    mix-reducible m r e few = sum-reducible p ws (coefficients_at k ws fs i) r sum d h.summed m e (omega arith)
+    mix-reducible m r e few = sum-reducible p m sum (length ws) r e (sum-small p ws (coefficients_at k ws fs i) r sum d h.summed) (omega arith)
 
     pub mix-whole : (y : ℕ) → Ready p → length ws ≤ d → Is p (sum % p) y → Is p (mixed_coefficient p k ws fs i) y
     unfolding mixed_coefficient
-    mix-whole y r l is = sum-whole p ws (coefficients_at k ws fs i) r sum d h.summed y l is
+    mix-whole y r l is = is_by p (sum % p) (dot p ws (coefficients_at k ws fs i)) y (sum-whole p ws (coefficients_at k ws fs i) r sum d h.summed l) is
 
     module _ (r : Ready p) (hw : all_below p ws ≡ true) (hf : all_below p fs ≡ true) (l : d < length ws) where
       all : List ℕ
@@ -138,7 +138,10 @@ module _ (p k : ℕ) (ws fs : List ℕ) (i : ℕ) where
       unfolding all
       mix_next y e = record {
         place = omega (arith, h.place, add-one d, mul-suc k d);
-        summed = sum_more p ws all r sum d h.summed hw all-below y (e ∙ ap (λ (v : ℕ). kept p (sum + get_or ws d 0 * v)) (sym here)) long l;
+        summed =
+            sum_more p ws all r sum d h.summed hw all-below (get_or ws d 0) (get_or fs at 0)
+            (record { within = l; also = omega (arith, long); left = refl; right = sym here })
+            y (d + 1) e refl;
       }
 
 pub ruleset mixing = (rules, mix-none, mix-within, mix-next-fits, mix-place-fits, mix-below, mix-few, mix-reducible, mix-whole, mix_next)

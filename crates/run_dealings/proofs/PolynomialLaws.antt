@@ -8,8 +8,6 @@ use mathlib.Core.Path.{◌≡◌, refl, sym, ap, ap₂, ◌∙◌}
 use mathlib.Core.Bool.{Bool, true, false}
 use mathlib.Core.List.{List, [], ◌∷◌, ◌++◌, flat_map}
 use Prim.Native.Nat.{ℕ, zero, suc, ◌+◌, ◌-◌, ◌*◌, ◌/◌, ◌^◌, ◌<◌, ◌≤◌}
-use native.Mathlib.Numerals.{add-one}
-use native.Mathlib.Nat.{mul-suc, mul-zero, add-zero}
 use native.Mathlib.Omega.{arith}
 use borrow.Author.Rules.{rules}
 use borrow.Author.Tests.{ltb-true, ltb-false, lt-ltb, le-ltb}
@@ -101,55 +99,59 @@ length-padded n f l = length-append f (replicate (n - length f) 0) ∙ omega (ar
 abbrev pub polynomial_at : ℕ → ℕ → List ℕ → List ℕ → ℕ → List ℕ
 polynomial_at t k vs cs i = padded k (get_or (shared_by t vs cs) i [])
 
-pub record Sharing (t k : ℕ) (vs coins : List ℕ) (at : ℕ) (d₀ d : List ℕ) (place from i : ℕ) : Type 0 where
-  pub taken : place ≡ at + t * i
-  pub written : Written (polynomial_at t k vs (drop at (numbers coins))) k (length vs) d₀ d from i
+pub record Sharing (t k : ℕ) (vs coins : List ℕ) (at : ℕ) (d₀ d : List ℕ) (i : ℕ) : Type 0 where
+  pub written : Written (polynomial_at t k vs (drop at (numbers coins))) k (length vs) d₀ d i
 
 module _ (t k : ℕ) (vs coins : List ℕ) (at : ℕ) where
-  pub share-none : (d : List ℕ) → length d ≡ k * length vs → Sharing t k vs coins at d d at 0 0
-  share-none d e = record { taken = sym (ap (λ (n : ℕ). at + n) (mul-zero t) ∙ add-zero at); written = none_written _ k (length vs) d e }
+  pub share-none : (d : List ℕ) → length d ≡ k * length vs → Sharing t k vs coins at d d 0
+  share-none d e = record { written = none_written _ k (length vs) d e }
 
-  module _ (d₀ d : List ℕ) (place from i : ℕ) (h : Sharing t k vs coins at d₀ d place from i) where
+  module _ (d₀ d : List ℕ) (i : ℕ) (h : Sharing t k vs coins at d₀ d i) where
     module _ (l : i < length vs) where
-      pub share-room : from + k ≤ length d
+      pub share-room : k * i + k ≤ length d
       share-room = room h.written l
 
-      pub share-end-fits : length d₀ * 8 < 2 ^ 63 → Fits w64 (from + k)
+      pub share-end-fits : length d₀ * 8 < 2 ^ 63 → Fits w64 (k * i + k)
       share-end-fits f = record { fits = omega (arith, share-room, h.written.long) }
 
-      pub share-start-fits : length d₀ * 8 < 2 ^ 63 → Fits w64 (from * 8)
+      pub share-start-fits : length d₀ * 8 < 2 ^ 63 → Fits w64 (k * i * 8)
       share-start-fits f = record { fits = omega (arith, share-room, h.written.long) }
 
-      pub share-wide : t < k → t < length (take (from + k - from) (drop from d))
+      pub share-from-fits : length d₀ * 8 < 2 ^ 63 → Fits w64 (k * i)
+      share-from-fits f = record { fits = omega (arith, share-room, h.written.long) }
+
+      pub share-wide : t < k → t < length (take (k * i + k - k * i) (drop (k * i) d))
       share-wide w = rw (piece_long h.written l) w
 
       module _ (here : at + t * length vs ≤ length coins / width) where
-        pub share-coins : place + t ≤ length coins / width
-        share-coins = omega (arith, h.taken, row_room t i (length vs) l)
+        pub share-coins : at + t * i + t ≤ length coins / width
+        share-coins = omega (arith, row_room t i (length vs) l)
 
-        pub share-place-fits : length coins < 2 ^ 64 → Fits w64 (place + t)
+        pub share-step-fits : length coins < 2 ^ 64 → Fits w64 (t * i)
+        share-step-fits f = record { fits = omega (arith, share-coins) }
+
+        pub share-place-fits : length coins < 2 ^ 64 → Fits w64 (at + t * i)
         share-place-fits f = record { fits = omega (arith, share-coins) }
 
-      pub share-next : (ys : List ℕ) → length ys ≡ length (take (from + k - from) (drop from d))
-          → ys ≡ padded (length (take (from + k - from) (drop from d))) (get_or vs i 0 ∷ take t (drop place (numbers coins)))
-          → Sharing t k vs coins at d₀ (take from d ++ (ys ++ drop (from + k - from) (drop from d))) (place + t) (from + k) (i + 1)
+      pub share-next : (ys : List ℕ) → length ys ≡ length (take (k * i + k - k * i) (drop (k * i) d))
+          → ys ≡ padded (length (take (k * i + k - k * i) (drop (k * i) d))) (get_or vs i 0 ∷ take t (drop (at + t * i) (numbers coins)))
+          → Sharing t k vs coins at d₀ (take (k * i) d ++ (ys ++ drop (k * i + k - k * i) (drop (k * i) d))) (i + 1)
       share-next ys kept is = record {
-        taken = omega (arith, h.taken, add-one i, mul-suc t i);
         written = written_next h.written l ys kept (is ∙ ap₂ padded (piece_long h.written l) polynomial-is);
       }
         where
-          polynomial-is : get_or vs i 0 ∷ take t (drop place (numbers coins)) ≡ get_or (shared_by t vs (drop at (numbers coins))) i []
+          polynomial-is : get_or vs i 0 ∷ take t (drop (at + t * i) (numbers coins)) ≡ get_or (shared_by t vs (drop at (numbers coins))) i []
           polynomial-is =
               sym (shared_at t vs (drop at (numbers coins)) i l
-              ∙ ap (λ (r : List ℕ). get_or vs i 0 ∷ take t r) (drop-drop (t * i) at (numbers coins) ∙ ap (λ (n : ℕ). drop n (numbers coins)) (sym h.taken)))
+              ∙ ap (λ (r : List ℕ). get_or vs i 0 ∷ take t r) (drop-drop (t * i) at (numbers coins)))
 
     pub all-shared : length vs ≤ i → d ≡ flat_map (padded k) (shared_by t vs (drop at (numbers coins)))
     all-shared l =
-        written_done _ k (length vs) d₀ d from i l h.written
+        written_done _ k (length vs) d₀ d i l h.written
         ∙ ap (rows_of (polynomial_at t k vs (drop at (numbers coins)))) (sym (length_shared t vs (drop at (numbers coins))))
         ∙ rows-flat (padded k) [] (shared_by t vs (drop at (numbers coins)))
 
-pub ruleset sharing = (rules, share-none, share-room, share-end-fits, share-start-fits, share-wide, share-coins, share-place-fits, share-next, all-shared)
+pub ruleset sharing = (rules, share-none, share-room, share-end-fits, share-start-fits, share-wide, share-coins, share-step-fits, share-from-fits, share-place-fits, share-next, all-shared)
 
 -- ---- the count of coefficients
 pub terms_few : (t : ℕ) → t < 4 → 4 ≡ terms t

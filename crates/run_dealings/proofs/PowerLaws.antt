@@ -113,22 +113,28 @@ rows-flat F d (x ∷ l) = rows-cons (λ i. F (get_or (x ∷ l) i d)) (length l) 
 abbrev pub powers_at : ℕ → ℕ → List ℕ → ℕ → List ℕ
 powers_at p k points i = powers p (get_or points i 0) k
 
-module _ (p k : ℕ) (points d₀ d : List ℕ) (at i : ℕ) (h : Written (powers_at p k points) k (length points) d₀ d at i) where
-  pub row_fits : i < length points → length d₀ < 2 ^ 64 → at + k < 2 ^ 64
+module _ (p k : ℕ) (points d₀ d : List ℕ) (i : ℕ) (h : Written (powers_at p k points) k (length points) d₀ d i) where
+  pub row_end : i < length points → k * i + k ≤ length d
+  row_end l = room h l
+
+  pub row_start_fits : i < length points → length d₀ < 2 ^ 64 → k * i < 2 ^ 64
+  row_start_fits l f = omega (arith, room h l, h.long)
+
+  pub row_fits : i < length points → length d₀ < 2 ^ 64 → k * i + k < 2 ^ 64
   row_fits l f = omega (arith, room h l, h.long)
 
-  pub place_fits : i < length points → length d₀ * 8 < 2 ^ 63 → Fits w64 (at * 8)
+  pub place_fits : i < length points → length d₀ * 8 < 2 ^ 63 → Fits w64 (k * i * 8)
   place_fits l f = record { fits = omega (arith, room h l, h.long) }
 
-  pub row_written : (ys : List ℕ) → i < length points → length ys ≡ length (take (at + k - at) (drop at d)) → ys ≡ powers p (get_or points i 0) (length (take (at + k - at) (drop at d)))
-      → Written (powers_at p k points) k (length points) d₀ (take at d ++ (ys ++ drop (at + k - at) (drop at d))) (at + k) (i + 1)
+  pub row_written : (ys : List ℕ) → i < length points → length ys ≡ length (take (k * i + k - k * i) (drop (k * i) d)) → ys ≡ powers p (get_or points i 0) (length (take (k * i + k - k * i) (drop (k * i) d)))
+      → Written (powers_at p k points) k (length points) d₀ (take (k * i) d ++ (ys ++ drop (k * i + k - k * i) (drop (k * i) d))) (i + 1)
   row_written ys l kept is = written_next h l ys kept (is ∙ ap (powers p (get_or points i 0)) (piece_long h l))
 
   pub rows_written : length points ≤ i → d ≡ power_rows p k points
   unfolding power_rows
-  rows_written l = written_done (powers_at p k points) k (length points) d₀ d at i l h ∙ rows-flat (λ x. powers p x k) 0 points
+  rows_written l = written_done (powers_at p k points) k (length points) d₀ d i l h ∙ rows-flat (λ x. powers p x k) 0 points
 
-pub ruleset writing = (rules, entry_below, none_written, room, row_fits, place_fits, row_written, rows_written)
+pub ruleset writing = (rules, entry_below, none_written, row_end, row_fits, row_start_fits, place_fits, row_written, rows_written)
 
 -- a row of those that stand in front
 pub power-row : (p k : ℕ) (points rows : List ℕ) (j : ℕ) → Powered p k points rows → j < length points → take k (drop (k * j) rows) ≡ powers p (get_or points j 0) k

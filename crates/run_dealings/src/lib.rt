@@ -4,48 +4,41 @@
 ghost use Rattle.std.specs.Prelude.{◌≡◌, true, ◌+◌, ◌-◌, ◌*◌, ◌/◌, ◌<◌, ◌≤◌, length, take, drop, get_or, replicate};
 ghost use mathlib.Core.List.{◌∷◌, map, flat_map};
 ghost use Rattle.numbers.specs.Bytes.{width, numbers, all_below};
-ghost use Rattle.field.specs.Field.{Is, is_wide, reciprocal, Ready};
+ghost use Rattle.field.specs.Field.{Is, is_wide, reciprocal};
 ghost use Rattle.sharing_laws.specs.Poly.{eval, padded};
 ghost use Rattle.plan.specs.Plans.{coin_owners_at};
 ghost use Rattle.plan.specs.File.{gate_at, plan_of};
-ghost use Rattle.plan.specs.Planned.{Planned};
 ghost use Rattle.run_dealings.specs.Rows.{terms, powers, power_rows, products_of, shared_by, mixed_at, Powered, Dealers, Weighted, Coined, Rowed};
 ghost use Rattle.run_dealings.specs.Columns.{pieces_by, column_at, column_sum, share_at, mixed_coefficient, mixture_of, with_column, with_columns};
 
 use field::Field;
-use plan::{Gate, Header};
+use plan::{Gate, PlanFile};
 
 // ---- what is worked out once for a plan
 
 // The powers 1, x, x², .. of a point, as many as there is room for.
+#[tactic(auto, using(crate::proofs::PowerLaws::powering))]
 pub fn powers(f: Field, x: u64, row: &mut [u64])
-    requires ready { Ready f.p }
     requires x_lt_p { x < f.p }
     ensures { row.new ≡ powers f.p x (length row.old) }
 {
     let mut power: u64 = 1;
-    let mut i = 0;
-    while i < row.len() {
-        row[i] = power;
+    for place in row.iter_mut() {
+        *place = power;
         power = f.mul(power, x);
-        i += 1;
     }
 }
 
 // The powers of the points, k of each.
+#[tactic(auto, using(crate::proofs::PowerLaws::writing))]
 fn power_rows(f: Field, k: usize, points: &[u64], rows: &mut [u64])
-    requires ready { Ready f.p }
     requires points_value { all_below f.p points.now ≡ true }
     requires rows_len { length rows.old ≡ k * length points.now }
     ensures { rows.new ≡ power_rows f.p k points.now }
 {
-    let mut at: usize = 0;
-    let mut i: usize = 0;
-    while i < points.len() {
-        let e = at + k;
-        powers(f, points[i], &mut rows[at..e]);
-        at = e;
-        i += 1;
+    for (party, x) in points.iter().enumerate() {
+        let at = k * party;
+        powers(f, *x, &mut rows[at..at + k]);
     }
 }
 
@@ -54,30 +47,25 @@ fn power_rows(f: Field, k: usize, points: &[u64], rows: &mut [u64])
 fn terms(t: usize) -> usize
     ensures { result ≡ terms t }
 {
-    if t < 4 {
-        return 4;
+    match t {
+        0..4 => 4,
+        4..8 => 8,
+        _ => 16,
     }
-    if t < 8 {
-        return 8;
-    }
-    16
 }
 
 // How many dealers there are: 2t + 1, or all parties where these are fewer.
+#[tactic(auto, using(crate::proofs::DealingLaws::counting_dealers))]
 fn dealers(t: usize, points: &[u64]) -> usize
     requires { t < 16 }
     ensures { Dealers t points.now result }
 {
-    let m = t + t + 1;
-    if points.len() < m {
-        return points.len();
-    }
-    m
+    points.len().min(t + t + 1)
 }
 
 // The power rows of the points, and the weights at 0 of the dealers' points, for all dealings of a plan.
+#[tactic(auto, using(crate::proofs::DealingLaws::preparing))]
 pub fn prepare(f: Field, t: usize, points: &[u64], rows: &mut [u64], weights: &mut [u64])
-    requires ready { Ready f.p }
     requires t_in_bounds { (t < length points.now) × (length points.now ≤ 15) }
     requires points_value { all_below f.p points.now ≡ true }
     requires in_bounds { 240 ≤ length rows.old }
@@ -97,56 +85,51 @@ pub fn prepare(f: Field, t: usize, points: &[u64], rows: &mut [u64], weights: &m
 // ---- the polynomials of dealings
 
 // Coefficient i of a dealing's polynomial: the dealt value, then t coins from one place of the list on, then 0.
+#[tactic(auto, using(crate::proofs::PolynomialLaws::coefficients))]
 fn coefficient(value: u64, coins: &[u8], at: usize, t: usize, i: usize) -> u64
     requires { at + t ≤ length coins.now / width }
     ensures { result ≡ get_or (value ∷ take t (drop at (numbers coins.now))) i 0 }
 {
     if i == 0 {
-        return value;
+        value
+    } else if t < i {
+        0
+    } else {
+        numbers::number(coins, at + (i - 1))
     }
-    if t < i {
-        return 0;
-    }
-    numbers::number(coins, at + (i - 1))
 }
 
 // The polynomial of a dealing, with as many coefficients as there is room for.
+#[tactic(auto, using(crate::proofs::PolynomialLaws::padding))]
 fn polynomial(value: u64, coins: &[u8], at: usize, t: usize, out: &mut [u64])
     requires t_in_bounds { at + t ≤ length coins.now / width }
     requires t_in_bounds_2 { t < length out.old }
     ensures { out.new ≡ padded (length out.old) (value ∷ take t (drop at (numbers coins.now))) }
 {
-    let mut i: usize = 0;
-    while i < out.len() {
+    for i in 0..out.len() {
         out[i] = coefficient(value, coins, at, t, i);
-        i += 1;
     }
 }
 
 // The polynomials of the dealings of these values, each with its own t coins and k coefficients, one after the other.
+#[tactic(auto, using(crate::proofs::PolynomialLaws::sharing))]
 fn polynomials(t: usize, k: usize, values: &[u64], coins: &[u8], at: usize, out: &mut [u64])
     requires t_lt_k { t < k }
     requires values_in_bounds { at + t * length values.now ≤ length coins.now / width }
     requires out_len { length out.old ≡ k * length values.now }
     ensures { out.new ≡ flat_map (padded k) (shared_by t values.now (drop at (numbers coins.now))) }
 {
-    let mut place = at;
-    let mut from: usize = 0;
-    let mut d: usize = 0;
-    while d < values.len() {
-        let e = from + k;
-        polynomial(values[d], coins, place, t, &mut out[from..e]);
-        place += t;
-        from = e;
-        d += 1;
+    for (d, value) in values.iter().enumerate() {
+        let from = k * d;
+        polynomial(*value, coins, at + t * d, t, &mut out[from..from + k]);
     }
 }
 
 // ---- multiply gates
 
 // What the first m parties deal: each one's share of wire a times its share of wire b.
+#[tactic(auto, using(crate::proofs::RowLaws::row_reading))]
 pub fn products(f: Field, n: usize, m: usize, a: usize, b: usize, table: &[u64]) -> [u64; 15]
-    requires ready { Ready f.p }
     requires m_le_n { (m ≤ n) × (n ≤ 15) }
     requires rowed { Rowed f.p n a table.now }
     requires rowed_2 { Rowed f.p n b table.now }
@@ -156,10 +139,8 @@ pub fn products(f: Field, n: usize, m: usize, a: usize, b: usize, table: &[u64])
     let left = n * a;
     let right = n * b;
     let mut row = [0u64; 15];
-    let mut j: usize = 0;
-    while j < m {
+    for j in 0..m {
         row[j] = f.mul(table[left + j], table[right + j]);
-        j += 1;
     }
     row
 }
@@ -167,6 +148,7 @@ pub fn products(f: Field, n: usize, m: usize, a: usize, b: usize, table: &[u64])
 // Column j of a grid, row the dealer and column the receiver: the receiver's pieces of these polynomials, by the powers of its point, each
 // weighed and summed where it is dealt. `wide` says whether the prime is, and m is its reciprocal.
 #[inline(always)]
+#[tactic(auto, using(crate::proofs::ColumnLaws::columning))]
 fn column(
     f: Field,
     wide: bool,
@@ -177,7 +159,6 @@ fn column(
     j: usize,
     grid: &mut [[u64; 15]; 15],
 ) -> u64
-    requires ready { Ready f.p }
     requires wide_value { wide ≡ is_wide f.p }
     requires m_value { m ≡ reciprocal f.p }
     requires weights_len_bound { (length weights.now ≤ 15) × (all_below f.p weights.now ≡ true) }
@@ -190,20 +171,19 @@ fn column(
     let k = powers.len();
     let mut sum: u64 = 0;
     let mut at: usize = 0;
-    let mut d: usize = 0;
-    while d < weights.len() {
+    for d in 0..weights.len() {
         let e = at + k;
         let piece = sharing::dot_by(f, wide, m, powers, &polynomials[at..e]);
         grid[d][j] = piece;
         sum = f.add_product(wide, sum, weights[d], piece);
         at = e;
-        d += 1;
     }
     f.reduced(wide, m, sum)
 }
 
 // The columns of all receivers, by their power rows of k powers each, and every column's sum.
 #[inline(always)]
+#[tactic(auto, using(crate::proofs::ColumnLaws::gridding))]
 fn columns(
     f: Field,
     wide: bool,
@@ -215,7 +195,6 @@ fn columns(
     polynomials: &[u64],
     grid: &mut [[u64; 15]; 15],
 ) -> [u64; 15]
-    requires ready { Ready f.p }
     requires wide_value { wide ≡ is_wide f.p }
     requires m_value { m ≡ reciprocal f.p }
     requires k_bound { (k ≤ 16) × (length points.now ≤ 15) }
@@ -227,18 +206,17 @@ fn columns(
 {
     let mut sums = [0u64; 15];
     let mut at: usize = 0;
-    let mut j: usize = 0;
-    while j < points.len() {
+    for j in 0..points.len() {
         let e = at + k;
         sums[j] = column(f, wide, m, weights, &rows[at..e], polynomials, j, grid);
         at = e;
-        j += 1;
     }
     sums
 }
 
 // Every receiver's share: these polynomials are dealt into the grid, and each receiver's column is weighed and summed there.
 #[inline(always)]
+#[tactic(auto, using(crate::proofs::DealingLaws::sharing_by))]
 fn shares_by(
     f: Field,
     wide: bool,
@@ -248,7 +226,6 @@ fn shares_by(
     weights: &[u64],
     polynomials: &[u64],
 ) -> [u64; 15]
-    requires ready { Ready f.p }
     requires wide_value { wide ≡ is_wide f.p }
     requires t_bound { (t < 8) × (length points.now ≤ 15) }
     requires powered { Powered f.p (terms t) points.now rows.now }
@@ -266,6 +243,7 @@ fn shares_by(
 
 // The same, by the prime's range: `wide` is a constant in each call, as the count of coefficients is.
 #[inline(never)]
+#[tactic(auto, using(crate::proofs::DealingLaws::sharing_by))]
 fn shares(
     f: Field,
     t: usize,
@@ -274,7 +252,6 @@ fn shares(
     weights: &[u64],
     polynomials: &[u64],
 ) -> [u64; 15]
-    requires ready { Ready f.p }
     requires t_bound { (t < 8) × (length points.now ≤ 15) }
     requires powered { Powered f.p (terms t) points.now rows.now }
     requires weights_len_bound { (length weights.now ≤ 15) × (all_below f.p weights.now ≡ true) }
@@ -290,8 +267,8 @@ fn shares(
 // ---- one dealing
 
 // The pieces of a dealing: the polynomial's values at the points, by their power rows.
+#[tactic(auto, using(crate::proofs::DealingLaws::dealing))]
 fn dealing(f: Field, points: &[u64], rows: &[u64], polynomial: &[u64]) -> [u64; 15]
-    requires ready { Ready f.p }
     requires points_len_bound { (length points.now ≤ 15) × (length polynomial.now ≤ 16) }
     requires powered { Powered f.p (length polynomial.now) points.now rows.now }
     requires polynomial_value { all_below f.p polynomial.now ≡ true }
@@ -302,12 +279,10 @@ fn dealing(f: Field, points: &[u64], rows: &[u64], polynomial: &[u64]) -> [u64; 
     let k = polynomial.len();
     let mut row = [0u64; 15];
     let mut at: usize = 0;
-    let mut j: usize = 0;
-    while j < points.len() {
+    for j in 0..points.len() {
         let e = at + k;
         row[j] = sharing::dot_by(f, wide, m, &rows[at..e], polynomial);
         at = e;
-        j += 1;
     }
     row
 }
@@ -315,6 +290,7 @@ fn dealing(f: Field, points: &[u64], rows: &[u64], polynomial: &[u64]) -> [u64; 
 // ---- the same where no piece is seen: the polynomials are weighed and summed, and the sum is dealt
 
 // Coefficient i of the weighted sum of these polynomials, k coefficients each. `wide` says whether the prime is, and m is its reciprocal.
+#[tactic(auto, using(crate::proofs::MixtureLaws::mixing))]
 fn mixed_coefficient(
     f: Field,
     wide: bool,
@@ -324,7 +300,6 @@ fn mixed_coefficient(
     polynomials: &[u64],
     i: usize,
 ) -> u64
-    requires ready { Ready f.p }
     requires wide_value { wide ≡ is_wide f.p }
     requires m_value { m ≡ reciprocal f.p }
     requires weights_len_bound { (length weights.now ≤ 15) × (all_below f.p weights.now ≡ true) }
@@ -334,18 +309,15 @@ fn mixed_coefficient(
 {
     let mut sum: u64 = 0;
     let mut at: usize = i;
-    let mut d: usize = 0;
-    while d < weights.len() {
-        sum = f.add_product(wide, sum, weights[d], polynomials[at]);
+    for weight in weights {
+        sum = f.add_product(wide, sum, *weight, polynomials[at]);
         at += k;
-        d += 1;
     }
     f.reduced(wide, m, sum)
 }
 
 // The weighted sum of these polynomials, of as many coefficients each as there is room for.
 fn mix(f: Field, weights: &[u64], polynomials: &[u64], out: &mut [u64])
-    requires ready { Ready f.p }
     requires weights_len_bound { (length weights.now ≤ 15) × (all_below f.p weights.now ≡ true) }
     requires weights_in_bounds { (length out.old * length weights.now ≤ length polynomials.now) × (all_below f.p polynomials.now ≡ true) }
     ensures { out.new ≡ mixture_of f.p (length out.old) weights.now polynomials.now }
@@ -353,14 +325,13 @@ fn mix(f: Field, weights: &[u64], polynomials: &[u64], out: &mut [u64])
     let wide = f.is_wide();
     let m = f.reciprocal();
     let k = out.len();
-    let mut i: usize = 0;
-    while i < out.len() {
+    for i in 0..k {
         out[i] = mixed_coefficient(f, wide, m, weights, k, polynomials, i);
-        i += 1;
     }
 }
 
 // Every receiver's share, by the sum of these polynomials.
+#[tactic(auto, using(crate::proofs::MixtureLaws::mixed_sharing))]
 fn mixed_shares(
     f: Field,
     t: usize,
@@ -369,7 +340,6 @@ fn mixed_shares(
     weights: &[u64],
     polynomials: &[u64],
 ) -> [u64; 15]
-    requires ready { Ready f.p }
     requires t_bound { (t < 8) × (length points.now ≤ 15) }
     requires powered { Powered f.p (terms t) points.now rows.now }
     requires weights_len_bound { (length weights.now ≤ 15) × (all_below f.p weights.now ≡ true) }
@@ -392,7 +362,6 @@ fn shares_of(
     weights: &[u64],
     polynomials: &[u64],
 ) -> [u64; 15]
-    requires ready { Ready f.p }
     requires t_bound { (t < 8) × (length points.now ≤ 15) }
     requires powered { Powered f.p (terms t) points.now rows.now }
     requires weights_len_bound { (length weights.now ≤ 15) × (all_below f.p weights.now ≡ true) }
@@ -406,6 +375,7 @@ fn shares_of(
 }
 
 // A multiply gate's row: the dealers' products are dealt, and each receiver's pieces weighed and summed. `gridded` says whether on the grid of pieces.
+#[tactic(auto, using(crate::proofs::DealingLaws::multiplying))]
 pub fn multiply_row(
     gridded: bool,
     f: Field,
@@ -419,7 +389,6 @@ pub fn multiply_row(
     at: usize,
     table: &[u64],
 ) -> [u64; 15]
-    requires ready { Ready f.p }
     requires t_bound { t < 8 }
     requires weights_in_bounds { (length weights.now ≤ length points.now) × (length points.now ≤ 15) }
     requires powered { Powered f.p (terms t) points.now rows.now }
@@ -441,6 +410,7 @@ pub fn multiply_row(
 // ---- inputs
 
 // An input gate's row: the input is dealt.
+#[tactic(auto, using(crate::proofs::DealingLaws::inputs))]
 pub fn input_row(
     f: Field,
     t: usize,
@@ -450,7 +420,6 @@ pub fn input_row(
     coins: &[u8],
     at: usize,
 ) -> [u64; 15]
-    requires ready { Ready f.p }
     requires t_bound { (t < 16) × (length points.now ≤ 15) }
     requires powered { Powered f.p (terms t) points.now rows.now }
     requires x_lt_p { x < f.p }
@@ -464,19 +433,15 @@ pub fn input_row(
 }
 
 // The coins that gate g takes from the list of all.
-pub fn coins_taken(plan: &[u8], h: Header, g: usize) -> usize
-    requires planned { Planned plan.now h }
-    requires g_lt_gates { g < h.gates }
-    ensures { record { eq : result ≡ length (coin_owners_at (plan_of plan.now) (gate_at plan.now g)); most : result ≤ 406 } }
+pub fn coins_taken(plan: &PlanFile, g: usize) -> usize
+    requires g_lt_gates { g < plan.now.header.gates }
+    ensures { record { eq : result ≡ length (coin_owners_at (plan_of plan.now.bytes.now) (gate_at plan.now.bytes.now g)); most : result ≤ 406 } }
 {
-    let t = h.t;
-    match plan::known_gate(plan, h, g) {
+    let t = plan.header.t;
+    match plan.gate(g) {
         Gate::Input(_) => t,
-        Gate::Add(_, _) => 0,
-        Gate::Scale(_, _) => 0,
-        Gate::Offset(_, _) => 0,
         Gate::Multiply(_, _) => t * (t + t + 1),
-        Gate::Random => t * h.n,
-        Gate::Spend(_, _) => 0,
+        Gate::Random => t * plan.header.n,
+        _ => 0,
     }
 }

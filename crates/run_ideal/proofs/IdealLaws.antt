@@ -14,7 +14,7 @@ use native.Mathlib.Omega.{arith}
 use borrow.Author.Rules.{rules}
 use borrow.Author.Tests.{lt-ltb}
 use lib.ListN.{length, get_or, take, drop, drop_of_length-le, set, length-set, length-append, get_or-eq_default}
-use lib.Seq.{take-suc, take-suc-set, take_all, length-take-le, get_or-drop, drop-drop, drop-cons}
+use lib.Seq.{take-suc, take-suc-set, length-take-le, get_or-drop, drop-drop, drop-cons}
 use Rattle.numbers.specs.Bytes.{all_below}
 use Rattle.numbers.proofs.Tables.{length-tab}
 use Rattle.numbers.proofs.Below.{append_below}
@@ -25,7 +25,7 @@ use Rattle.sharing_laws.proofs.Lists.{flat_map-append}
 use Rattle.plan.specs.declared.Gate.{Gate}
 use Rattle.plan.specs.declared.Gate.TheVariants.{Input, Add, Scale, Offset, Multiply, Random, Spend}
 use Rattle.plan.specs.declared.Header.{Header}
-use Rattle.plan.specs.Plans.{parties, kind_of, input_owners_at}
+use Rattle.plan.specs.Plans.{Plan, parties, kind_of, input_owners_at}
 use Rattle.plan.specs.File.{gate_at, plan_of}
 use Rattle.plan.specs.Planned.{Planned}
 use Rattle.plan.proofs.Planned.{plan_n, plan_p, plan_gates, plan_gate}
@@ -51,29 +51,9 @@ module _ (bs : List ℕ) (h : Header) (k : Planned bs h) (g : ℕ) where
     unfolding inputs_taken input_owners_at
     takes-input s e = rw (← is, e)
 
-    pub takes-add : (a b : ℕ) → gate ≡ Add a b → 0 ≡ inputs_taken (plan_of bs) (gate_at bs g)
-    unfolding inputs_taken input_owners_at
-    takes-add a b e = rw (← is, e)
-
-    pub takes-scale : (a c : ℕ) → gate ≡ Scale a c → 0 ≡ inputs_taken (plan_of bs) (gate_at bs g)
-    unfolding inputs_taken input_owners_at
-    takes-scale a c e = rw (← is, e)
-
-    pub takes-offset : (a c : ℕ) → gate ≡ Offset a c → 0 ≡ inputs_taken (plan_of bs) (gate_at bs g)
-    unfolding inputs_taken input_owners_at
-    takes-offset a c e = rw (← is, e)
-
-    pub takes-multiply : (a b : ℕ) → gate ≡ Multiply a b → 0 ≡ inputs_taken (plan_of bs) (gate_at bs g)
-    unfolding inputs_taken input_owners_at
-    takes-multiply a b e = rw (← is, e)
-
     pub takes-random : gate ≡ Random → h.n ≡ inputs_taken (plan_of bs) (gate_at bs g)
     unfolding inputs_taken input_owners_at parties
     takes-random e = rw (← is, e, length-tab) (sym (plan_n k))
-
-    pub takes-spend : (a b : ℕ) → gate ≡ Spend a b → 0 ≡ inputs_taken (plan_of bs) (gate_at bs g)
-    unfolding inputs_taken input_owners_at
-    takes-spend a b e = rw (← is, e)
 
     -- its constant is an element
     pub scaled-below : (a c : ℕ) → g < h.gates → gate ≡ Scale a c → c < h.field.p
@@ -110,7 +90,21 @@ module _ (bs : List ℕ) (h : Header) (k : Planned bs h) (g : ℕ) where
       unfolding gate_value
       value-spend a b u v e eu ev q = rw (← is, e, plan_p k, ← eu, ← ev) q
 
-pub ruleset taking = (rules, takes-input, takes-add, takes-scale, takes-offset, takes-multiply, takes-random, takes-spend)
+-- a gate that is neither takes none
+takes_none : (plan : Plan) (gate : Gate) → ((s : ℕ) → gate ≡ Input s → ⊥) → (gate ≡ Random → ⊥) → 0 ≡ inputs_taken plan gate
+unfolding inputs_taken input_owners_at
+takes_none plan (Input s) i r = absurd (i s refl)
+takes_none plan (Add a b) i r = refl
+takes_none plan (Scale a c) i r = refl
+takes_none plan (Offset a c) i r = refl
+takes_none plan (Multiply a b) i r = refl
+takes_none plan Random i r = absurd (r refl)
+takes_none plan (Spend a b) i r = refl
+
+pub takes-other : (plan : Plan) (gate g : Gate) → gate ≡ g → ((s : ℕ) → gate ≡ Input s → ⊥) → (gate ≡ Random → ⊥) → 0 ≡ inputs_taken plan g
+takes-other plan gate g e i r = takes_none plan gate i r ∙ ap (inputs_taken plan) e
+
+pub ruleset taking = (rules, takes-input, takes-random, takes-other)
 
 pub wire-none : (wires : List ℕ) (w : ℕ) → length wires ≤ w → 0 ≡ get_or wires w 0
 wire-none wires w l = sym (get_or-eq_default wires 0 l)

@@ -1,4 +1,4 @@
--- R-12: in every order that is ready throughout, each call leaves what the run's call leaves.
+-- In every order that is ready throughout, each call leaves what the run's call leaves.
 --     cat_same                contributions that are whole or not there: where all of the length is there, all of them are
 --     parts_each              and each has its length
 --     by-counts               the statement, given that the run's mail has its count
@@ -22,7 +22,7 @@ use Rattle.sharing_laws.proofs.Lists.{length-map}
 use Rattle.plan.specs.File.{between}
 use Rattle.plan.proofs.Parties.{length-parties}
 use Rattle.plan.specs.Plans.{Plan, party_count, parties, last_call, mail_count}
-use Rattle.seat_messages.specs.Messages.{Called, nothing, call}
+use Rattle.seat_messages.specs.Messages.{Called}
 use Rattle.run_protocol.specs.Rounds.{fresh, no_call, call_of, mail_to, next_call, after}
 use Rattle.run_orders.specs.Orders.{Progress, nobody_called, made_by, latest, mail_so_far, ready, called, called_in, all_ready, reached, AnyOrder}
 use Rattle.plan.proofs.Valid.{Valid}
@@ -97,12 +97,12 @@ cat_ext a b (suc n) h = ap₂ (λ (l m : List ℕ). l ++ m) (h 0 (omega arith)) 
 both : {a b : Bool} → a ≡ true → b ≡ true → (a && b) ≡ true
 both {a} {b} e h = rw (e, h) refl
 
-last-le_by : (f : ℕ → ℕ) (n i v : ℕ) → i < suc (suc n) → ((r : ℕ) → r < suc n → v ≤ f r) → v ≤ f (suc n) → (b : Bool) → eqb i (suc n) ≡ b → v ≤ f i
-last-le_by f n i v l h k true e = let q : i ≡ suc n = eqb-true i (suc n) e in rw q k
-last-le_by f n i v l h k false e = let q : i ≢ suc n = eqb-false i (suc n) e in h i (omega arith)
+last_le_by : (f : ℕ → ℕ) (n i v : ℕ) → i < suc (suc n) → ((r : ℕ) → r < suc n → v ≤ f r) → v ≤ f (suc n) → (b : Bool) → eqb i (suc n) ≡ b → v ≤ f i
+last_le_by f n i v l h k true e = let q : i ≡ suc n = eqb-true i (suc n) e in rw q k
+last_le_by f n i v l h k false e = let q : i ≢ suc n = eqb-false i (suc n) e in h i (omega arith)
 
 last-le : (f : ℕ → ℕ) (n i v : ℕ) → i < suc (suc n) → ((r : ℕ) → r < suc n → v ≤ f r) → v ≤ f (suc n) → v ≤ f i
-last-le f n i v l h k = last-le_by f n i v l h k (eqb i (suc n)) refl
+last-le f n i v l h k = last_le_by f n i v l h k (eqb i (suc n)) refl
 
 -- of n numbers the least
 least_by : (f : ℕ → ℕ) (n m : ℕ) → m < suc n → ((i : ℕ) → i < suc n → f m ≤ f i) → (b : Bool) → leb (f m) (f (suc n)) ≡ b → (m : ℕ) × (m < suc (suc n)) × ((i : ℕ) → i < suc (suc n) → f m ≤ f i)
@@ -391,6 +391,6 @@ module _ (plan : Plan) (xs cs ts : List ℕ) where
           near = λ i j from1 upto from1' upto' some. near_by P good i j from1 upto from1' upto' some (leb (made_by i P) (suc (made_by j P))) refl;
         }
 
--- R-12: whatever the lists
+-- whatever the lists
 pub any_order : (plan : Plan) → Valid plan → (xs cs ts order : List ℕ) → all_ready plan xs cs order (nobody_called plan ts) ≡ true → AnyOrder plan xs cs ts order
 any_order plan valid xs cs ts order e = by-counts plan xs cs ts (λ k i l from1 upto. mail_count_lem plan valid xs cs ts i from1 upto k l) order e

@@ -1,4 +1,4 @@
--- R-12: parties that don't wait for each other. A party may be called when all its mail for that call is there.
+-- Parties that don't wait for each other. A party may be called when all its mail for that call is there.
 use Rattle.std.specs.Prelude.{ℕ, suc, ◌-◌, ◌*◌, ◌≤◌, ◌≡◌, Bool, true, ◌&&◌, eqb, leb, length, get_or, set}
 use mathlib.Core.List.{List, [], ◌∷◌, ◌++◌, map, flat_map}
 use Rattle.plan.specs.File.{between}

@@ -4,6 +4,7 @@
 --     run_accepted                 the call's checks pass
 --     lies_shared                  shares that stand for a value lie on one polynomial: the premise on the table
 -- Assumes nothing; refusal 20 needs that each wire's shares lie on one polynomial (Lies).
+use Rattle.std.proofs.Common.{None, Ok}
 use mathlib.Core.Path.{◌≡◌, refl, sym, ap, ap₂, ◌∙◌}
 use mathlib.Core.Logic.{◌⊎◌, inl, inr}
 use mathlib.Core.Bool.{Bool, true, false, cond, not, ◌&&◌}
@@ -14,7 +15,6 @@ use borrow.Author.Tests.{ltb-true, ltb-false, lt-ltb, le-leb, eqb-true, eq-eqb, 
 use lib.Dec.{eqb, leb, ltb}
 use lib.ListN.{length, get_or, drop, replicate, length-append, length-drop, length-replicate}
 use lib.Seq.{get_or-drop}
-use Rattle.numbers.specs.declared.Found.TheVariants.{Nothing}
 use Rattle.numbers.specs.Bytes.{width, limit, first_over, all_below, numbers, bytes_of, holds_count}
 use Rattle.numbers.proofs.Below.{input_below, all_below_at, at-all_below, all_below-take, all_below-drop, nothing-first_over}
 use Rattle.field.specs.Prime.{Prime}
@@ -30,7 +30,6 @@ use Rattle.plan.specs.declared.Gate.TheVariants.{Input, Add, Scale, Offset, Mult
 use Rattle.plan.specs.declared.Rule.{Rule}
 use Rattle.plan.specs.declared.Rule.TheVariants.{Reduction, Truncation}
 use Rattle.plan.specs.declared.Step.TheVariants.{SendOuts}
-use Rattle.plan.specs.declared.Checked.TheVariants.{Passed}
 use Rattle.plan.specs.declared.Refusal.{Refusal}
 use Rattle.plan.specs.declared.Refusal.TheVariants as refusal
 use Rattle.plan.specs.Refusals.{first_of, unless_found}
@@ -94,7 +93,7 @@ count_holds n l e = eq-eqb (length (bytes_of l)) (width * n) (omega (arith, leng
 pub back : (p : ℕ) (l : List ℕ) → p ≤ limit → all_below p l ≡ true → numbers (bytes_of l) ≡ l
 back p l few h = numbers_of_bytes l (λ i m. omega (arith, all_below_at p l i h m))
 
-pub values_pass : (r : ℕ → Refusal) (p : ℕ) (l : List ℕ) → p ≤ limit → all_below p l ≡ true → unless_found r (first_over p (numbers (bytes_of l))) ≡ Passed
+pub values_pass : (r : ℕ → Refusal) (p : ℕ) (l : List ℕ) → p ≤ limit → all_below p l ≡ true → unless_found r (first_over p (numbers (bytes_of l))) ≡ Ok tt
 unfolding unless_found
 values_pass r p l few h = ap (λ (m : List ℕ). unless_found r (first_over p m)) (back p l few h) ∙ ap (unless_found r) (nothing-first_over p l h)
 
@@ -110,7 +109,7 @@ pub record Taken (plan : Plan) (i k : ℕ) (triples state mail : List ℕ) : Typ
   pub triples_below : all_below plan.p triples ≡ true
   pub mail_count_lem : length mail ≡ mail_count plan i k
   pub mail_below : all_below plan.p mail ≡ true
-  pub opening : opening_check plan i k mail ≡ Passed
+  pub opening : opening_check plan i k mail ≡ Ok tt
 
 module _ (plan : Plan) (few : plan.p ≤ limit) (short : last_call plan < limit) (i k : ℕ) (k-small : k ≤ last_call plan) (triples state mail : List ℕ) (taken : Taken plan i k triples state mail) where
   state-entry : (w : ℕ) → w < length state → get_or state w 0 < limit
@@ -132,7 +131,7 @@ module _ (plan : Plan) (few : plan.p ≤ limit) (short : last_call plan < limit)
       → length inputs ≡ own_input_count plan i → all_below plan.p inputs ≡ true
       → length coins ≡ own_coin_count plan i → all_below plan.p coins ≡ true
       → room ≡ width * written_count plan i k
-      → first_of (party_checks plan i (bytes_of inputs) (bytes_of coins) (bytes_of state) (bytes_of mail) room) ≡ Passed
+      → first_of (party_checks plan i (bytes_of inputs) (bytes_of coins) (bytes_of state) (bytes_of mail) room) ≡ Ok tt
   unfolding party_checks between
   checks_pass inputs coins room from1 upto ni si nc sc fits =
       next_passes _ _ (need-true refusal.Coalition (leb 1 i && leb i (party_count plan)) (both_hold (leb 1 i) (leb i (party_count plan)) (le-leb 1 i from1) (le-leb i (party_count plan) upto)))
@@ -154,7 +153,7 @@ module _ (plan : Plan) (few : plan.p ≤ limit) (short : last_call plan < limit)
 
 -- ---- the premise on the table: each wire's shares lie on one polynomial of degree t or less
 abbrev pub Lies : Plan → List (ℕ → ℕ) → Type 0
-Lies plan table = (w : ℕ) → w < length plan.gates → first_off plan.p plan.t plan.points (map (wire_at table w) plan.points) ≡ Nothing
+Lies plan table = (w : ℕ) → w < length plan.gates → first_off plan.p plan.t plan.points (map (wire_at table w) plan.points) ≡ None
 
 pub lies_shared : (plan : Plan) → Valid plan → Prime plan.p → Distinct plan.p plan.points → (table : List (ℕ → ℕ)) (value : ℕ → ℕ)
     → ((w : ℕ) → w < length plan.gates → Shared plan.p plan.t (wire_at table w) (value w)) → Lies plan table
@@ -189,20 +188,20 @@ module _ (plan : Plan) (ok : Valid plan) (sizes : Sized plan) (xs cs ts : List �
 
   -- every opening of the last call is right
   on_polynomial_lem : (r : ℕ) → r < own_out_count plan i
-      → on_polynomial plan.p plan.t plan.points (from_each (party_count plan) (own_out_count plan i) r (table_mail plan xs cs tf i SendOuts)) ≡ Passed
+      → on_polynomial plan.p plan.t plan.points (from_each (party_count plan) (own_out_count plan i) r (table_mail plan xs cs tf i SendOuts)) ≡ Ok tt
   unfolding on_polynomial own_out_count
   on_polynomial_lem r l =
       found_nothing (λ j. refusal.OffPolynomial (j + 1)) _
       (ap (first_off plan.p plan.t plan.points) (shares-of-out plan ok xs cs ts tf full tabled i r l)
       ∙ lies (get_or (out_wires plan i) r 0) (all_at (λ w. w < length plan.gates) (out_wires plan i) r (out-wires-within plan ok i) l))
 
-  outs_pass : outs_check plan i (table_mail plan xs cs tf i SendOuts) ≡ Passed
+  outs_pass : outs_check plan i (table_mail plan xs cs tf i SendOuts) ≡ Ok tt
   unfolding outs_check
   outs_pass =
       all_pass (λ j. on_polynomial plan.p plan.t plan.points (from_each (party_count plan) (own_out_count plan i) j (table_mail plan xs cs tf i SendOuts)))
       (own_out_count plan i) on_polynomial_lem
 
-  opening_by : (m : ℕ) → m < last_call plan → (b : Bool) → eqb (suc m) (last_call plan) ≡ b → cond b (outs_check plan i (table_mail plan xs cs tf i (step_at plan m))) Passed ≡ Passed
+  opening_by : (m : ℕ) → m < last_call plan → (b : Bool) → eqb (suc m) (last_call plan) ≡ b → cond b (outs_check plan i (table_mail plan xs cs tf i (step_at plan m))) (Ok tt) ≡ Ok tt
   opening_by m l false e = refl
   opening_by m l true e =
       let q : suc m ≡ last_call plan = eqb-true (suc m) (last_call plan) e in
@@ -211,11 +210,11 @@ module _ (plan : Plan) (ok : Valid plan) (sizes : Sized plan) (xs cs ts : List �
       let s : step_at plan m ≡ SendOuts = ap (step_at plan) (sym r) ∙ n.2 in
       rw s outs_pass
 
-  opening_passes : (m : ℕ) → m < last_call plan → opening_check plan i (suc m) (table_mail plan xs cs tf i (step_at plan m)) ≡ Passed
+  opening_passes : (m : ℕ) → m < last_call plan → opening_check plan i (suc m) (table_mail plan xs cs tf i (step_at plan m)) ≡ Ok tt
   unfolding opening_check
   opening_passes m l = opening_by m l (eqb (suc m) (last_call plan)) refl
 
-  opening_first : (mail : List ℕ) → opening_check plan i 0 mail ≡ Passed
+  opening_first : (mail : List ℕ) → opening_check plan i 0 mail ≡ Ok tt
   unfolding opening_check
   opening_first mail = let n = last_step plan in rw (ne_eqb 0 (last_call plan) (λ e. omega (arith, n.1))) refl
 
@@ -269,7 +268,7 @@ module _ (plan : Plan) (ok : Valid plan) (sizes : Sized plan) (xs cs ts : List �
   -- its checks pass
   pub run_accepted : all_below plan.p xs ≡ true → all_below plan.p cs ≡ true → (k : ℕ) → k ≤ last_call plan → (room : ℕ) → room ≡ width * written_count plan i k
       → first_of (party_checks plan i (bytes_of (own_inputs plan i xs)) (bytes_of (own_coins plan i cs)) (bytes_of (call_of i (after plan xs cs ts k)).state) (bytes_of (mail_to i (after plan xs cs ts k))) room)
-      ≡ Passed
+      ≡ Ok tt
   unfolding own_inputs own_coins own_input_count own_coin_count
   run_accepted small-inputs small-coins k l room fits =
       checks_pass plan (omega (arith, sizes.few)) (omega (arith, sizes.short, steps_few plan)) i k l _ _ _ (run_taken k l)

@@ -61,17 +61,17 @@ module _ (right : ℕ → ℕ) where
   set_holds : (shares : List ℕ) (g v w : ℕ) → v ≡ right g → get_or shares w 0 ≡ right w → get_or (set shares g v) w 0 ≡ right w
   set_holds shares g v w h k = pick shares g v w (eqb w g) refl h (ltb g (length shares)) refl k
 
-  pick_or-none : (shares : List ℕ) (g v w : ℕ) (b : Bool) → eqb w g ≡ b → v ≡ right g → (c : Bool) → ltb g (length shares) ≡ c
+  pick_or_none : (shares : List ℕ) (g v w : ℕ) (b : Bool) → eqb w g ≡ b → v ≡ right g → (c : Bool) → ltb g (length shares) ≡ c
       → (get_or shares w 0 ≡ right w) ⊎ (get_or shares w 0 ≡ 0) → (get_or (set shares g v) w 0 ≡ right w) ⊎ (get_or (set shares g v) w 0 ≡ 0)
-  pick_or-none shares g v w false e h c m k = rw (get_or-set_other shares g w v 0 (eqb-false w g e)) k
-  pick_or-none shares g v w true e h true m k =
+  pick_or_none shares g v w false e h c m k = rw (get_or-set_other shares g w v 0 (eqb-false w g e)) k
+  pick_or_none shares g v w true e h true m k =
       let q : w ≡ g = eqb-true w g e in
       inl (rw q (get_or-set_same shares g v 0 (ltb-true g (length shares) m) ∙ h))
-  pick_or-none shares g v w true e h false m k = rw (set_out shares g v (ltb-false g (length shares) m)) k
+  pick_or_none shares g v w true e h false m k = rw (set_out shares g v (ltb-false g (length shares) m)) k
 
-  set_or-none : (shares : List ℕ) (g v w : ℕ) → v ≡ right g
+  set_or_none : (shares : List ℕ) (g v w : ℕ) → v ≡ right g
       → (get_or shares w 0 ≡ right w) ⊎ (get_or shares w 0 ≡ 0) → (get_or (set shares g v) w 0 ≡ right w) ⊎ (get_or (set shares g v) w 0 ≡ 0)
-  set_or-none shares g v w h k = pick_or-none shares g v w (eqb w g) refl h (ltb g (length shares)) refl k
+  set_or_none shares g v w h k = pick_or_none shares g v w (eqb w g) refl h (ltb g (length shares)) refl k
 
   -- all of these wires set to their right shares
   set_all_keeps : (ws shares : List ℕ) (w : ℕ) → get_or shares w 0 ≡ right w → get_or (set_all shares ws (map right ws)) w 0 ≡ right w
@@ -79,11 +79,11 @@ module _ (right : ℕ → ℕ) where
   set_all_keeps [] shares w k = k
   set_all_keeps (u ∷ ws) shares w k = set_all_keeps ws (set shares u (right u)) w (set_holds shares u (right u) w refl k)
 
-  set_all_or-none : (ws shares : List ℕ) (w : ℕ) → (get_or shares w 0 ≡ right w) ⊎ (get_or shares w 0 ≡ 0)
+  set_all_or_none : (ws shares : List ℕ) (w : ℕ) → (get_or shares w 0 ≡ right w) ⊎ (get_or shares w 0 ≡ 0)
       → (get_or (set_all shares ws (map right ws)) w 0 ≡ right w) ⊎ (get_or (set_all shares ws (map right ws)) w 0 ≡ 0)
   unfolding set_all
-  set_all_or-none [] shares w k = k
-  set_all_or-none (u ∷ ws) shares w k = set_all_or-none ws (set shares u (right u)) w (set_or-none shares u (right u) w refl k)
+  set_all_or_none [] shares w k = k
+  set_all_or_none (u ∷ ws) shares w k = set_all_or_none ws (set shares u (right u)) w (set_or_none shares u (right u) w refl k)
 
   set_all_holds : {w : ℕ} {ws : List ℕ} → Memᴰ w ws → (shares : List ℕ) → w < length shares → get_or (set_all shares ws (map right ws)) w 0 ≡ right w
   unfolding set_all
@@ -116,7 +116,7 @@ module _ {gates : List Gate} {right : ℕ → ℕ} {Begun : Type 0} {g : ℕ} {s
     size = length-set shares g v ∙ known.size;
     inputs = λ i w l e. set_holds right shares g v w h (known.inputs i w l e);
     below = λ w l m. below_next (eqb w g) w v refl h l m;
-    others = λ w. set_or-none right shares g v w h (known.others w);
+    others = λ w. set_or_none right shares g v w h (known.others w);
   }
 
   skip_below : Begun → is_kind 1 (get_or gates g (Input 0)) ≡ true → (b : Bool) (w : ℕ) → eqb w g ≡ b → w < suc g → w < length gates → get_or shares w 0 ≡ right w
@@ -156,7 +156,7 @@ start_known {gates} {right} {Begun} {b} {shares} k ws every = record {
   size = length-set_all ws shares (map right ws) ∙ k.size;
   inputs = λ i w l e. set_all_holds right (every w l e) shares (omega (arith, k.size));
   below = λ w l m. absurd (omega arith);
-  others = λ w. set_all_or-none right ws shares w (k.others w);
+  others = λ w. set_all_or_none right ws shares w (k.others w);
 }
 
 -- ---- a party's work on its own shares

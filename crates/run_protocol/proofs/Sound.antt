@@ -6,6 +6,7 @@
 --     opened-value, none-off        the opening of a wire, and that none of its shares is off
 --     results-right                 a party's results
 -- Assumes nothing.
+use Rattle.std.proofs.Common.{None}
 use mathlib.Core.Path.{◌≡◌, refl, sym, ap, ap₂, ◌∙◌, fun_ext}
 use mathlib.Core.Bool.{true}
 use mathlib.Core.List.{List, [], ◌∷◌, ◌++◌, map}
@@ -15,7 +16,6 @@ use native.Mathlib.Omega.{arith}
 use lib.ListN.{length, take, drop, get_or, length-append, length-take, length-map}
 use lib.Seq.{get_or-drop, length-take-le}
 use Rattle.numbers.specs.Bytes.{all_below}
-use Rattle.numbers.specs.declared.Found.TheVariants.{Nothing}
 use Rattle.numbers.specs.Tables.{tab}
 use Rattle.numbers.proofs.Tables.{tab-map, tab-ext, list-tab}
 use Rattle.field.specs.Mod.{add, mul}
@@ -290,8 +290,8 @@ module _ (plan : Plan) (valid : Valid plan) where
         (w : ℕ) → opened p t plan.points (map (wire_at (share_table plan xs cs ts) w) plan.points) ≡ get_or (values plan xs) w 0
     opened-value w = shared-opened valid.prime t plan.points valid.distinct openers _ _ (shared xs cs ts us r small w)
 
-    -- none of its shares is off its polynomial (R-9)
-    pub none-off : (w : ℕ) → first_off p t plan.points (map (wire_at (share_table plan xs cs ts) w) plan.points) ≡ Nothing
+    -- none of its shares is off its polynomial
+    pub none-off : (w : ℕ) → first_off p t plan.points (map (wire_at (share_table plan xs cs ts) w) plan.points) ≡ None
     none-off w = shared_on valid.prime t plan.points valid.distinct openers _ _ (shared xs cs ts us r small w)
 
     pub results-right : (i : ℕ) → table_results plan xs cs ts i ≡ granted plan xs i

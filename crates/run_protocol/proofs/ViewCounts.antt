@@ -67,7 +67,7 @@ module _ (plan : Plan) (ok : Valid plan) (xs cs ts : List ℕ) (tf : List (ℕ �
       total_all (view_of plan xs cs ts) (view_count_of plan) ms
       (all_map (λ i. (1 ≤ i) × (i ≤ party_count plan)) (λ i. length (view_of plan xs cs ts i) ≡ view_count_of plan i) ms (λ i h. view-count-of i h.0 h.1) a)
 
--- ---- a plain plan's, as document 01 has it
+-- ---- a plain plan's
 total-append : (xs ys : List ℕ) → total (xs ++ ys) ≡ total xs + total ys
 unfolding total
 total-append [] ys = omega arith

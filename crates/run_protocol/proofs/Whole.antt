@@ -5,6 +5,7 @@
 --     preparing_right, prepared_right    these are right
 --     whole_read, accepted_read, view_read     for a plan that is read from a file
 -- Assumes nothing.
+use Rattle.std.proofs.Common.{Ok}
 use mathlib.Core.Path.{◌≡◌, refl, sym, subst, ◌∙◌}
 use mathlib.Core.Bool.{true}
 use mathlib.Core.List.{List, [], map, flat_map}
@@ -13,7 +14,6 @@ use lib.ListN.{length, replicate}
 use Rattle.numbers.specs.Bytes.{width, bytes_of, all_below}
 use Rattle.field.proofs.Inverse.{pos}
 use Rattle.sharing_laws.specs.Interp.{All}
-use Rattle.plan.specs.declared.Checked.TheVariants.{Passed}
 use Rattle.plan.specs.declared.Rule.{Rule}
 use Rattle.plan.specs.Refusals.{first_of}
 use Rattle.plan.specs.Plans.{Plan, party_count, parties, kind_count, own_inputs, own_coins, triple_numbers, last_call, written_count, sent_count}
@@ -41,7 +41,7 @@ pub record Whole (plan : Plan) (xs coins ts : List ℕ) : Type 0 where
   pub accepted :
       (k i : ℕ) → k ≤ last_call plan → 1 ≤ i → i ≤ party_count plan → (room : ℕ) → room ≡ width * written_count plan i k
       → first_of (party_checks plan i (bytes_of (own_inputs plan i xs)) (bytes_of (own_coins plan i coins)) (bytes_of (call_of i (after plan xs coins ts k)).state) (bytes_of (mail_to i (after plan xs coins ts k))) room)
-      ≡ Passed
+      ≡ Ok tt
   -- each party's results are the plan's own arithmetic
   pub correct : (i : ℕ) → 1 ≤ i → i ≤ party_count plan → results plan xs coins ts i ≡ granted plan xs i
   -- the elements sent are the documents' count, and a coalition's view has its own
@@ -95,7 +95,7 @@ whole_prepared plan valid sizes xs coins ts inputs setting t =
     (rw t.are (prepared-below plan valid t.prep t.prepared t.draws t.coins t.coins_full.count (pos valid.prime)))
 
 -- ---- for a plan that is read from a file
-module _ (bytes xs coins : List ℕ) (h : plan_check bytes ≡ Passed) (inputs : Inputs (plan_of bytes) xs) (setting : Coins (plan_of bytes) coins) where
+module _ (bytes xs coins : List ℕ) (h : plan_check bytes ≡ Ok tt) (inputs : Inputs (plan_of bytes) xs) (setting : Coins (plan_of bytes) coins) where
   pub whole_read : Whole (plan_of bytes) xs coins []
   whole_read = whole_alone (plan_of bytes) (valid bytes h) (sized bytes h) xs coins inputs setting (plain_no_7 (plan_of bytes) (plain bytes h))
 
@@ -104,7 +104,7 @@ module _ (bytes xs coins : List ℕ) (h : plan_check bytes ≡ Passed) (inputs :
       (k i : ℕ) → k ≤ last_call (plan_of bytes) → 1 ≤ i → i ≤ party_count (plan_of bytes) → (room : ℕ) → room ≡ width * written_count (plan_of bytes) i k
       → call_answer bytes i (bytes_of (own_inputs (plan_of bytes) i xs)) (bytes_of (own_coins (plan_of bytes) i coins)) (bytes_of (call_of i (after (plan_of bytes) xs coins [] k)).state)
       (bytes_of (mail_to i (after (plan_of bytes) xs coins [] k))) room
-      ≡ Passed
+      ≡ Ok tt
   unfolding call_answer call_checks plan_check
   accepted_read k i l from1 upto room fits = both_pass (plan_checks bytes) _ h (whole_read.accepted k i l from1 upto room fits)
 

@@ -1,4 +1,4 @@
--- Worked examples, as one table: plan K as in document 01 (P1 to P3), and one for each later kind of gate, rule and threshold, by computation.
+-- Worked examples, as one table: plan K (P1 to P3), and one for each later kind of gate, rule and threshold, by computation.
 --     K, K4, KRandom, KSpend, four_sum     plan K, by the rule of 1988, with a random wire, with a spent triple; source document 001's example
 -- Assumes nothing.
 use mathlib.Core.Path.{◌≡◌, refl}
@@ -83,21 +83,21 @@ pub record Sums : Type 0 where
   pub k-table : map (table_of K figures coins_k) (0 ∷ 1 ∷ 2 ∷ 3 ∷ []) ≡ (6 ∷ 8 ∷ 10 ∷ []) ∷ (8 ∷ 0 ∷ 3 ∷ []) ∷ (4 ∷ 10 ∷ 5 ∷ []) ∷ (10 ∷ 7 ∷ 4 ∷ []) ∷ []
   pub k-granted : granted K figures 3 ≡ 2 ∷ []
   pub k-view : view K (3 ∷ []) figures coins_k [] ≡ 7 ∷ 10 ∷ 3 ∷ 7 ∷ 4 ∷ 7 ∷ 10 ∷ 7 ∷ 4 ∷ 2 ∷ []
-  pub k-view_count : view_count K (3 ∷ []) ≡ 10
+  pub k_view_count : view_count K (3 ∷ []) ≡ 10
   pub k_sent : sent_all K figures coins_k [] ≡ 18
-  -- R-3
+  -- other thresholds
   pub four_shares : shares_of four_sum (2 ∷ 1 ∷ 1 ∷ 0 ∷ []) four_coins [] 6 ≡ 2 ∷ 1 ∷ 1 ∷ 2 ∷ []
   pub four_result : results four_sum (2 ∷ 1 ∷ 1 ∷ 0 ∷ []) four_coins [] 1 ≡ 4 ∷ []
-  -- R-7
+  -- the 1988 rule
   pub k4_shares : map (shares_of K4 figures coins_k4 []) (2 ∷ 3 ∷ []) ≡ (10 ∷ 0 ∷ 1 ∷ []) ∷ (5 ∷ 8 ∷ 0 ∷ []) ∷ []
   pub k4-table : map (table_of K4 figures coins_k4) (2 ∷ 3 ∷ []) ≡ (10 ∷ 0 ∷ 1 ∷ []) ∷ (5 ∷ 8 ∷ 0 ∷ []) ∷ []
   pub k4-view : view K4 (3 ∷ []) figures coins_k4 [] ≡ 7 ∷ 8 ∷ 9 ∷ 10 ∷ 3 ∷ 10 ∷ 2 ∷ 5 ∷ 7 ∷ 3 ∷ 8 ∷ 10 ∷ 8 ∷ 6 ∷ 5 ∷ 8 ∷ 0 ∷ 2 ∷ []
   pub k4_sent : sent_all K4 figures coins_k4 [] ≡ 36
-  -- R-10
+  -- a random wire
   pub random_result : results KRandom (4 ∷ 1 ∷ 2 ∷ 3 ∷ []) (2 ∷ 3 ∷ 4 ∷ 5 ∷ 1 ∷ 5 ∷ 7 ∷ []) [] 3 ≡ 6 ∷ []
   pub random-granted : granted KRandom (4 ∷ 1 ∷ 2 ∷ 3 ∷ []) 3 ≡ 6 ∷ []
   pub random_sent : sent_all KRandom (4 ∷ 1 ∷ 2 ∷ 3 ∷ []) (2 ∷ 3 ∷ 4 ∷ 5 ∷ 1 ∷ 5 ∷ 7 ∷ []) [] ≡ 24
-  -- R-11
+  -- triples
   pub triples_are : triples_from prepared draws prep_coins ≡ triples
   pub spend-opened : mail_to 1 (after KSpend figures (2 ∷ 3 ∷ []) triples 2) ≡ 5 ∷ 0 ∷ 1 ∷ 10 ∷ 8 ∷ 9 ∷ []
   pub spend_shares : map (shares_of KSpend figures (2 ∷ 3 ∷ []) triples) (2 ∷ 3 ∷ []) ≡ (0 ∷ 2 ∷ 4 ∷ []) ∷ (6 ∷ 10 ∷ 3 ∷ []) ∷ []
@@ -112,7 +112,7 @@ sums = record {
   k-table = refl;
   k-granted = refl;
   k-view = refl;
-  k-view_count = refl;
+  k_view_count = refl;
   k_sent = refl;
   four_shares = refl;
   four_result = refl;

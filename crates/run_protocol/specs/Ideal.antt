@@ -1,4 +1,4 @@
--- The plan's own arithmetic, without shares (document 01: the results granted to a set); a random wire is the sum of its draws.
+-- The plan's own arithmetic, without shares (the results granted to a set); a random wire is the sum of its draws.
 use Rattle.std.specs.Prelude.{ℕ, List, [], ◌∷◌, ◌++◌, map, length, take, drop, get_or}
 use Rattle.field.specs.Mod.{add, mul}
 use Rattle.plan.specs.declared.Gate.{Gate}

@@ -1,4 +1,4 @@
--- Preparing plans (document 02, R-11): they make the triples that a main plan spends.
+-- Preparing plans: they make the triples that a main plan spends.
 use Rattle.std.specs.Prelude.{ℕ, ◌+◌, ◌*◌, Bool, ◌&&◌, eqb, length}
 use mathlib.Core.List.{List, [], ◌∷◌, flat_map}
 use Rattle.numbers.specs.Tables.{tab}

@@ -1,4 +1,4 @@
--- A run (document 01, "Rounds and calls"): every party makes its calls from 0 to its last, with the mail carried over. A coalition's view of it.
+-- A run: every party makes its calls from 0 to its last, with the mail carried over. A coalition's view of it.
 use Rattle.std.specs.Prelude.{ℕ, zero, suc, ◌+◌, ◌-◌, length, drop, get_or, replicate}
 use mathlib.Core.List.{List, [], ◌∷◌, ◌++◌, map, flat_map}
 use Rattle.numbers.specs.Tables.{tab, total}

@@ -3,18 +3,20 @@
 --     before_next, before_all           what stands before a gate, one gate on, and after all gates
 --     taken_within                      what the gates below gate g own is a part of all
 --     stands                            the rows of a run's wires are below p
---     Filling, filling-table            the loop over the gates
+--     Filling, filling_table            the loop over the gates
 -- Assumes nothing.
 use mathlib.Core.Path.{◌≡◌, refl, sym, ap, ap₂, ◌∙◌}
 use mathlib.Core.Bool.{true}
 use mathlib.Core.List.{List, [], ◌∷◌, ◌++◌, map, flat_map}
-use Prim.Native.Nat.{ℕ, suc, ◌+◌, ◌*◌, ◌<◌, ◌≤◌}
+use Prim.Native.Nat.{ℕ, suc, ◌+◌, ◌-◌, ◌*◌, ◌<◌, ◌≤◌}
 use native.Mathlib.Numerals.{add-one}
 use native.Mathlib.Nat.{mul-suc, mul-zero}
 use native.Mathlib.Omega.{arith}
 use borrow.Author.Rules.{rules}
-use lib.ListN.{length, take, drop, get_or, length-append, length-take, take-append-drop}
-use lib.Seq.{paste, take-paste, drop-paste, take-suc, take_all, drop-drop}
+use lib.ListN.{length, take, drop, get_or, length-append, take-append-drop}
+use lib.Seq.{paste, take-paste, drop-paste, take-suc, take_all, drop-drop, length-take-le}
+use borrow.Rule.Slice.PartMut.{put_mid}
+use Rattle.std.proofs.lemmas.Slice.{put_mid-paste}
 use Rattle.numbers.specs.Bytes.{numbers, all_below}
 use Rattle.numbers.proofs.Tables.{row_room}
 use Rattle.numbers.proofs.Below.{all_below-take, all_below-drop, append_below, map_below}
@@ -52,21 +54,23 @@ module _ (n g gates : ℕ) (table : List ℕ) (l : g < gates) (room : n * gates 
   pub row_fits : n * g + n ≤ length table
   row_fits = omega (arith, row_room n g gates l)
 
-pub stepped : (plan : Plan) (n : ℕ) (gate : Gate) (g gates : ℕ) (xs cs old row new : List ℕ) → g < gates → n * gates ≤ length old → n ≤ 15 → length row ≡ 15
-    → Worked plan n gate g xs cs old row → new ≡ paste old (n * g) row n → Stepped plan n gate g xs cs old new
+pub stepped : (plan : Plan) (n : ℕ) (gate : Gate) (g gates : ℕ) (xs cs old row ys : List ℕ) → g < gates → n * gates ≤ length old → n ≤ length row → Worked plan n gate g xs cs old row
+    → ys ≡ take n row → Stepped plan n gate g xs cs old (put_mid (n * g) (n * g + n - n * g) old ys)
 unfolding past
-stepped plan n gate g gates xs cs old row new l room le long w to =
+stepped plan n gate g gates xs cs old row ys l room le w is =
     let fits : n * g + n ≤ length old = row_fits n g gates old l room in
+    let long : length (take n row) ≡ n = length-take-le n row le in
+    let to : put_mid (n * g) (n * g + n - n * g) old ys ≡ paste old (n * g) (take n row) n = put_mid-paste (n * g) (n * g + n - n * g) old ys (take n row) n is (omega arith) (sym long) in
     record {
       next =
           λ s holds.
           ap₂ (λ (k : ℕ) (d : List ℕ). take k d) (next_row n g) to
-          ∙ take-paste old (n * g) row n (omega arith) (omega arith)
-          ∙ ap₂ (λ (a b : List ℕ). a ++ b) holds.rows (w.is s holds)
+          ∙ take-paste old (n * g) (take n row) n (omega arith) (omega (arith, long))
+          ∙ ap₂ (λ (a b : List ℕ). a ++ b) holds.rows (take_all n (take n row) (omega (arith, long)) ∙ w.is s holds)
           ∙ sym (rows_snoc plan.points s.env (gate_share plan gate s));
       rest =
           ap₂ (λ (k : ℕ) (d : List ℕ). drop k d) (next_row n g) to
-          ∙ drop-paste old (n * g) row n (omega arith) (omega arith)
+          ∙ drop-paste old (n * g) (take n row) n (omega arith) (omega (arith, long))
           ∙ ap (λ (k : ℕ). drop k old) (sym (next_row n g));
     }
 
@@ -212,4 +216,4 @@ module _ (bs : List ℕ) (h : Header) (k : Planned bs h) (inputs coins : List �
       pub table_kept : drop (h.n * h.gates) d ≡ drop (h.n * h.gates) d₀
       table_kept = ap (λ (m : ℕ). drop (h.n * m) d) (sym all) ∙ f.rest ∙ ap (λ (m : ℕ). drop (h.n * m) d₀) all
 
-pub ruleset filling-table = (rules, fill_none, inputs_below, gate-taking, gate-standing, gate-room, fill_next, table_filled, table_kept)
+pub ruleset filling_table = (rules, fill_none, inputs_below, gate-taking, gate-standing, gate-room, fill_next, table_filled, table_kept)

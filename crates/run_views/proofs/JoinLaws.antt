@@ -96,10 +96,10 @@ views_step vs true i is = refl
 views_step vs false i is = refl
 
 module _ (vs : ℕ → List ℕ) (set : ℕ) (old new : List ℕ) (at i : ℕ) (s : Viewed vs set old new at i) where
-  pub views_near : i ≤ 16 → at ≤ 800000
+  pub views_near : i < 17 → at ≤ 800000
   views_near l = omega (arith, s.left.few)
 
-  pub views_next : (new' : List ℕ) (at' : ℕ) → i ≤ 16 → Wrote 47104 (cond (in_set set i) (vs i) []) at new new' at' → length new' ≡ length new → Viewed vs set old new' at' (i + 1)
+  pub views_next : (new' : List ℕ) (at' : ℕ) → i < 17 → Wrote 47104 (cond (in_set set i) (vs i) []) at new new' at' → length new' ≡ length new → Viewed vs set old new' at' (i + 1)
   unfolding members_from
   views_next new' at' l w n =
       let e : 17 - i ≡ suc (17 - (i + 1)) = omega arith in
@@ -110,7 +110,7 @@ module _ (vs : ℕ → List ℕ) (set : ℕ) (old new : List ℕ) (at i : ℕ) (
         high = omega arith;
       }
 
-  views_end : 16 < i → new ≡ stored_from old 0 (flat_map vs (members set))
+  views_end : 17 ≤ i → new ≡ stored_from old 0 (flat_map vs (members set))
   unfolding members_from flat_map
   views_end l =
       let e : 17 - i ≡ 0 = omega (arith, s.high) in
@@ -162,7 +162,7 @@ module _ {bs : List ℕ} {h : Header} (pl : Planned bs h) (inputs coins table : 
         ∙ view-count (plan_of bs) ok (numbers inputs) (numbers coins) [] [] full none (members set) parties-only
 
     pub views-done :
-        (old new : List ℕ) (at i : ℕ) → length old ≡ width * view_count (plan_of bs) (members set) → Viewed (view_in (plan_of bs) h table (numbers inputs) (numbers coins)) set old new at i → 16 < i
+        (old new : List ℕ) (at i : ℕ) → length old ≡ width * view_count (plan_of bs) (members set) → Viewed (view_in (plan_of bs) h table (numbers inputs) (numbers coins)) set old new at i → 17 ≤ i
         → new ≡ bytes_of (flat_map (table_view_of (plan_of bs) (numbers inputs) (numbers coins) []) (members set))
     views-done old new at i room s l =
         views_end _ set old new at i s l ∙ ap (stored_from old 0) views-flat

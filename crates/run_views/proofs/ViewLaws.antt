@@ -32,7 +32,7 @@ use Rattle.field.proofs.Sums.{kept_same, kept-bound, bound-more}
 use Rattle.sharing_laws.specs.Interp.{dot}
 use Rattle.sharing_laws.specs.Sharing.{opened}
 use Rattle.sharing_openings.specs.Openable.{Openable}
-use Rattle.sharing.proofs.Coding.{entry_below, Summed, sum-none, sum-few, sum_more, sum-reducible, sum-whole}
+use Rattle.sharing.proofs.Coding.{entry_below, Summed, sum-none, sum_more, sum-reducible, sum-whole, sum_low, sum-small, is_by}
 use Rattle.plan.specs.declared.Gate.{Gate}
 use Rattle.plan.specs.declared.Gate.TheVariants.{Input, Add, Scale, Offset, Multiply, Random, Spend}
 use Rattle.plan.specs.declared.Output.{Output}
@@ -49,7 +49,7 @@ use Rattle.run_protocol.proofs.Owners.{own-append, own_same, own-other, blocks, 
 use Rattle.run_protocol.proofs.Dealt.{input-owners, reduction-owners, random-owners}
 use Rattle.run_ideal.proofs.IdealLaws.{no_random, taken_next}
 use Rattle.run_dealings.specs.Rows.{powers}
-use Rattle.run_dealings.proofs.CoinLaws.{coins_input, coins_multiply, coins_random}
+use Rattle.run_dealings.proofs.CoinLaws.{coins_input, coins_multiply, coins_random, no_owners}
 use Rattle.run_tables.proofs.FillLaws.{taken_within}
 use Rattle.run_dealings.proofs.DealingLaws.{in_range}
 use Rattle.run_views.specs.Flat.{share_in, row_in, first_in, outs_in, opened_in, piece_in, pieces_in, steps_in, Running, PowerRow}
@@ -367,7 +367,6 @@ module _ (h : Header) (table : List ℕ) (w : ℕ) (r : Running h table) (l : w 
     openable =
         rw (row_is)
         (record {
-          ready = r.ready;
           elements = rw e (plan_points_below bs h pl);
           known = row_below;
           threshold = omega (arith, points_long, r.threshold);
@@ -461,12 +460,12 @@ module _ (p t from s : ℕ) (ws coins : List ℕ) (room : from + t ≤ length co
     dealt-start = omega arith
 
     pub dealt-first-below : Below2 p (get_or ws 0 0) s
-    dealt-first-below = record { above = r.prime.above; small = r.small; left = entry_below p ws 0 r bw; right = l }
+    dealt-first-below = record { left = entry_below p ws 0 r bw; right = l }
 
     pub dealt-first : (z : ℕ) → z ≡ kept p (0 + get_or ws 0 0 * s) → Summed p ws (s ∷ take t (drop from (numbers coins))) z 1
     unfolding own
     dealt-first z e =
-        sum_more p ws (s ∷ take t (drop from (numbers coins))) r 0 0 (sum-none p ws (s ∷ take t (drop from (numbers coins)))) bw (coefficients_below r b l) z e (omega (arith, coefficients_long)) (omega arith)
+        sum_more p ws (s ∷ take t (drop from (numbers coins))) r 0 0 (sum-none p ws (s ∷ take t (drop from (numbers coins)))) bw (coefficients_below r b l) (get_or ws 0 0) s (record { within = omega arith; also = omega (arith, coefficients_long); left = refl; right = refl }) z 1 e refl
 
     module _ (sum j : ℕ) (v : Summed p ws (s ∷ take t (drop from (numbers coins))) sum (j + 1)) where
       pub dealt-place : j < t → j + 1 < length ws
@@ -474,25 +473,25 @@ module _ (p t from s : ℕ) (ws coins : List ℕ) (room : from + t ≤ length co
 
       pub dealt-low : t ≤ 14 → sum ≤ 4294967296 * p
       unfolding own
-      dealt-low few = sum-few p ws (s ∷ take t (drop from (numbers coins))) r sum (j + 1) v (omega arith)
+      dealt-low few = sum_low p ws (s ∷ take t (drop from (numbers coins))) r sum (j + 1) v (omega arith)
 
       module _ (y : ℕ) (e : y ≡ get_or (numbers coins) (from + j) 0) where
         pub dealt_below : Below2 p (get_or ws (j + 1) 0) y
-        dealt_below = record { above = r.prime.above; small = r.small; left = entry_below p ws (j + 1) r bw; right = rw e (entry_below p cs (from + j) r b) }
+        dealt_below = record { left = entry_below p ws (j + 1) r bw; right = rw e (entry_below p cs (from + j) r b) }
 
         pub dealt-more : (z : ℕ) → z ≡ kept p (sum + get_or ws (j + 1) 0 * y) → j < t → Summed p ws (s ∷ take t (drop from (numbers coins))) z (j + 1 + 1)
         unfolding own
         dealt-more z f m =
-            sum_more p ws (s ∷ take t (drop from (numbers coins))) r sum (j + 1) v bw (coefficients_below r b l) z
-            (f ∙ ap (λ (c : ℕ). kept p (sum + get_or ws (j + 1) 0 * c)) (e ∙ sym (next_coefficient j m))) (omega (arith, coefficients_long)) (omega arith)
+            sum_more p ws (s ∷ take t (drop from (numbers coins))) r sum (j + 1) v bw (coefficients_below r b l) (get_or ws (j + 1) 0) y
+            (record { within = omega arith; also = omega (arith, coefficients_long); left = refl; right = e ∙ sym (next_coefficient j m) }) z (j + 1 + 1) f refl
 
       pub dealt-reducible : (m : ℕ) → m ≡ reciprocal p → t ≤ 14 → Reducible p m sum
       unfolding own
-      dealt-reducible m e few = sum-reducible p ws (s ∷ take t (drop from (numbers coins))) r sum (j + 1) v m e (omega arith)
+      dealt-reducible m e few = sum-reducible p m sum (length ws) r e (sum-small p ws (s ∷ take t (drop from (numbers coins))) r sum (j + 1) v) (omega arith)
 
       pub dealt-done : (y : ℕ) → t ≤ j → Is p (sum % p) y → Is p (dot p ws (s ∷ take t (drop from (numbers coins)))) y
       unfolding own
-      dealt-done y m e = sum-whole p ws (s ∷ take t (drop from (numbers coins))) r sum (j + 1) v y (omega arith) e
+      dealt-done y m e = is_by p (sum % p) (dot p ws (s ∷ take t (drop from (numbers coins)))) y (sum-whole p ws (s ∷ take t (drop from (numbers coins))) r sum (j + 1) v (omega arith)) e
 
 pub nothing_low : (p : ℕ) → 0 ≤ 4294967296 * p
 nothing_low p = omega arith
@@ -510,8 +509,6 @@ running-field h table r = r.ready.prime.above
 module _ (p x y z : ℕ) (e : z ≡ kept p (0 + x * y)) where
   pub product_reducible : (m : ℕ) → Ready p → m ≡ reciprocal p → x < p → y < p → Reducible p m z
   product_reducible m r by l k = record {
-    above = r.prime.above;
-    small = r.small;
     by = by;
     sum = omega (arith, e, kept-bound p r.small x y l k 0 0 (omega arith), bound-more p r.small 1 16 (omega arith));
   }
@@ -656,23 +653,11 @@ module _ (bs : List ℕ) (h : Header) (pl : Planned bs h) (i g from at : ℕ) (c
   unfolding own_of
   none_own x e none = rw (← is, e, none) (wrote_none 14 at old)
 
-  pub own-add : (a b : ℕ) → gate ≡ Add a b → Wrote 14 (own_of i (coin_owners_at (plan_of bs) (gate_at bs g)) (drop from (numbers coins))) at old old at
-  unfolding coin_owners_at dealings_at flat_map
-  own-add a b e = none_own (Add a b) e refl
+  pub own_else : ((s : ℕ) → gate ≡ Input s → ⊥) → ((a b : ℕ) → gate ≡ Multiply a b → ⊥) → (gate ≡ Random → ⊥)
+      → Wrote 14 (own_of i (coin_owners_at (plan_of bs) (gate_at bs g)) (drop from (numbers coins))) at old old at
+  own_else n m r = none_own gate refl (no_owners (plan_of bs) gate n m r)
 
-  pub own-scale : (a c : ℕ) → gate ≡ Scale a c → Wrote 14 (own_of i (coin_owners_at (plan_of bs) (gate_at bs g)) (drop from (numbers coins))) at old old at
-  unfolding coin_owners_at dealings_at flat_map
-  own-scale a c e = none_own (Scale a c) e refl
-
-  pub own_offset : (a c : ℕ) → gate ≡ Offset a c → Wrote 14 (own_of i (coin_owners_at (plan_of bs) (gate_at bs g)) (drop from (numbers coins))) at old old at
-  unfolding coin_owners_at dealings_at flat_map
-  own_offset a c e = none_own (Offset a c) e refl
-
-  pub own-spend : (a b : ℕ) → gate ≡ Spend a b → Wrote 14 (own_of i (coin_owners_at (plan_of bs) (gate_at bs g)) (drop from (numbers coins))) at old old at
-  unfolding coin_owners_at dealings_at flat_map
-  own-spend a b e = none_own (Spend a b) e refl
-
-pub ruleset drawing = (rules, coins_few, input-room, multiply-room, random-room, own-input, own-add, own-scale, own_offset, own-multiply, own-random, own-spend)
+pub ruleset drawing = (rules, coins_few, input-room, multiply-room, random-room, own-input, own-multiply, own-random, own_else)
 
 -- ---- a party's own coins
 pub record Owning (bs cs : List ℕ) (i at : ℕ) (old new : List ℕ) (next from g : ℕ) : Type 0 where
@@ -750,30 +735,19 @@ module _
 pub ruleset pieces = (rules, in_range, running-field, pieces_none, pieces_next, pieces_end, piece-room, piece-place-fits)
 
 -- ---- the mail of a gate's steps
+none_seen : (h : Header) (table cs : List ℕ) (from : ℕ) (ws : List ℕ) (x : Gate) → ((a b : ℕ) → x ≡ Multiply a b → ⊥) → pieces_in h table cs from ws x ≡ []
+unfolding pieces_in
+none_seen h table cs from ws (Input i) n = refl
+none_seen h table cs from ws (Add a b) n = refl
+none_seen h table cs from ws (Scale a c) n = refl
+none_seen h table cs from ws (Offset a c) n = refl
+none_seen h table cs from ws (Multiply a b) n = absurd (n a b refl)
+none_seen h table cs from ws Random n = refl
+none_seen h table cs from ws (Spend a b) n = refl
+
 module _ (bs : List ℕ) (h : Header) (table cs : List ℕ) (from : ℕ) (ws : List ℕ) (g : ℕ) (gate : Gate) (is : gate ≡ gate_at bs g) (at : ℕ) (old : List ℕ) where
-  pub no_input_pieces : (s : ℕ) → gate ≡ Input s → Wrote 15 (pieces_in h table cs from ws (gate_at bs g)) at old old at
-  unfolding pieces_in
-  no_input_pieces s e = rw (← is, e) (wrote_none 15 at old)
-
-  pub no-add_pieces : (a b : ℕ) → gate ≡ Add a b → Wrote 15 (pieces_in h table cs from ws (gate_at bs g)) at old old at
-  unfolding pieces_in
-  no-add_pieces a b e = rw (← is, e) (wrote_none 15 at old)
-
-  pub no-scale_pieces : (a c : ℕ) → gate ≡ Scale a c → Wrote 15 (pieces_in h table cs from ws (gate_at bs g)) at old old at
-  unfolding pieces_in
-  no-scale_pieces a c e = rw (← is, e) (wrote_none 15 at old)
-
-  pub no_offset_pieces : (a c : ℕ) → gate ≡ Offset a c → Wrote 15 (pieces_in h table cs from ws (gate_at bs g)) at old old at
-  unfolding pieces_in
-  no_offset_pieces a c e = rw (← is, e) (wrote_none 15 at old)
-
-  pub no_random_pieces : gate ≡ Random → Wrote 15 (pieces_in h table cs from ws (gate_at bs g)) at old old at
-  unfolding pieces_in
-  no_random_pieces e = rw (← is, e) (wrote_none 15 at old)
-
-  pub no-spend_pieces : (a b : ℕ) → gate ≡ Spend a b → Wrote 15 (pieces_in h table cs from ws (gate_at bs g)) at old old at
-  unfolding pieces_in
-  no-spend_pieces a b e = rw (← is, e) (wrote_none 15 at old)
+  pub no_pieces : ((a b : ℕ) → gate ≡ Multiply a b → ⊥) → Wrote 15 (pieces_in h table cs from ws (gate_at bs g)) at old old at
+  no_pieces n = rw (← is, none_seen h table cs from ws gate n) (wrote_none 15 at old)
 
   pub multiply_pieces :
       (a b : ℕ) (new : List ℕ) (next : ℕ) → gate ≡ Multiply a b → Wrote 15 (tab (piece_in h table a b cs from ws) (h.t + h.t + 1)) at old new next
@@ -786,7 +760,7 @@ pub pieces_majority : (bs : List ℕ) (h : Header) (g : ℕ) (gate : Gate) (a b 
 unfolding multiplying is_kind kind_of
 pieces_majority bs h g gate a b pl l is e = gate_majority bs h pl g gate l is (ap multiplying e)
 
-pub ruleset gate_pieces = (rules, pieces_majority, no_input_pieces, no-add_pieces, no-scale_pieces, no_offset_pieces, no_random_pieces, no-spend_pieces, multiply_pieces, multiply-room)
+pub ruleset gate_pieces = (rules, pieces_majority, no_pieces, multiply_pieces, multiply-room)
 
 -- ---- the mail of all gates' steps
 pub record Stepping (bs : List ℕ) (h : Header) (table cs ws : List ℕ) (at : ℕ) (old new : List ℕ) (next from g : ℕ) : Type 0 where

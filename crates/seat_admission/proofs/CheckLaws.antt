@@ -1,11 +1,13 @@
 -- What each way through the checks of a call says of its definition.
 --     listing              a lent list: its count and its numbers
 --     stating              the state
---     opening, each, rowing     an out's shares, the outs one after the other, and the opening rows' room
+--     opening, each        an out's shares, and the outs one after the other
 --     owning, mailing      refusals 9 to 13, and 17 to 20
 --     ordering             refusals 9 to 20
 -- Assumes nothing.
+use Rattle.std.proofs.Common.{Option, Some, None, Ok, Err}
 use mathlib.Core.Path.{◌≡◌, sym, ap, ap₂, ◌∙◌}
+use mathlib.Core.Logic.{◌⊎◌, inl, inr}
 use mathlib.Core.Bool.{Bool, true, false, cond}
 use mathlib.Core.List.{List, [], ◌∷◌, ◌++◌}
 use Prim.Native.Nat.{ℕ, suc, ◌+◌, ◌*◌, ◌<◌, ◌≤◌}
@@ -15,30 +17,27 @@ use native.Mathlib.Omega.{arith}
 use borrow.Author.Rules.{rules}
 use borrow.Author.Tests.{not-true, not-false, le-leb, lt-leb, eq-eqb, ne_eqb}
 use lib.Dec.{eqb}
-use lib.ListN.{length, get_or, take, drop, length-append}
-use lib.Seq.{take_at, length-take-le}
+use lib.ListN.{length, get_or, take, drop}
+use lib.Seq.{length-take-le}
 use mir.Syntax.{w64}
 use mir.Val.{Fits}
-use Rattle.numbers.specs.declared.Found.{Found}
-use Rattle.numbers.specs.declared.Found.TheVariants.{At, Nothing}
 use Rattle.numbers.specs.Tables.{tab}
 use Rattle.numbers.specs.Bytes.{width, numbers, holds_count, first_over, all_below}
 use Rattle.numbers.proofs.Below.{first_over-nothing}
-use Rattle.sharing_laws.specs.Sharing.{first_off, opening_row, opening_rows}
+use Rattle.field.specs.Field.{Ready}
+use Rattle.field.specs.declared.Field.{Field}
+use Rattle.sharing_laws.specs.Sharing.{first_off}
 use Rattle.sharing_laws.proofs.OffLine.{off_within}
-use Rattle.sharing_openings.proofs.Rows.{length-row, length_rows}
 use Rattle.plan.specs.declared.Header.{Header}
-use Rattle.plan.specs.declared.Checked.{Checked}
-use Rattle.plan.specs.declared.Checked.TheVariants.{Passed, Refused}
+use Rattle.plan.specs.Refusals.{Checked}
 use Rattle.plan.specs.declared.Refusal.{Refusal}
 use Rattle.plan.specs.declared.Refusal.TheVariants as refusal
 use Rattle.plan.specs.Refusals.{and_then, first_of, need, unless_found}
 use Rattle.plan.specs.Plans.{party_count, own_input_count, own_coin_count, own_out_count, last_call, mail_count, written_count}
 use Rattle.plan.specs.File.{between, plan_of}
 use Rattle.plan.specs.Planned.{Planned}
-use Rattle.plan.proofs.Refusals.{and_then_passed, and_then_refused, and_then_end, first_of-nil, first_of-cons, first_of-append, need-true, need-false, found_at, found_nothing, passed_both, passed_found, trying}
+use Rattle.plan.proofs.Refusals.{and_then_passed, and_then_refused, and_then_end, first_of-nil, first_of-cons, first_of-append, need-true, need-false, found_at, found_nothing, passed_both, passed_found, Tried, try_refused, trying}
 use Rattle.plan.proofs.Planned.{plan_t, plan_p, plan_n, plan_gates}
-use Rattle.plan.proofs.Valid.{planned-ready}
 use Rattle.seat_messages.specs.Messages.{from_each}
 use Rattle.seat_messages.specs.Calls.{on_polynomial, outs_check, opening_check, party_checks}
 use Rattle.seat_messages.proofs.PointLaws.{plan_points_long, plan_points_below, points-within, points-count}
@@ -47,16 +46,16 @@ use Rattle.seat_results.proofs.ResultLaws.{shares_long, shares_below}
 
 -- ---- a lent list
 module _ (few : Refusal) (over : ℕ → Refusal) (p count : ℕ) (bs : List ℕ) (t : Bool) (et : t ≡ holds_count count bs) where
-  pub list-few : t ≡ false → Refused few ≡ first_of (list_checks few over p count bs)
+  pub list-few : t ≡ false → Err few ≡ first_of (list_checks few over p count bs)
   unfolding list_checks first_of and_then need
   list-few h = rw (← et, h)
 
-  module _ (ht : t ≡ true) (f : Found) (ef : f ≡ first_over p (numbers bs)) where
-    pub list_over : (i : ℕ) → f ≡ At i → Refused (over i) ≡ first_of (list_checks few over p count bs)
+  module _ (ht : t ≡ true) (f : Option ℕ) (ef : f ≡ first_over p (numbers bs)) where
+    pub list_over : (i : ℕ) (r : Refusal) → f ≡ Some i → r ≡ over i → Err r ≡ first_of (list_checks few over p count bs)
     unfolding list_checks first_of and_then need unless_found
-    list_over i h = rw (← et, ht, ← ef, h)
+    list_over i r h e = rw (← et, ht, ← ef, h, e)
 
-    pub list-passed : f ≡ Nothing → Passed ≡ first_of (list_checks few over p count bs)
+    pub list-passed : f ≡ None → (Ok tt) ≡ first_of (list_checks few over p count bs)
     unfolding list_checks first_of and_then need unless_found
     list-passed h = rw (← et, ht, ← ef, h)
 
@@ -64,70 +63,55 @@ pub ruleset listing = (rules, not-true, not-false, list-few, list_over, list-pas
 
 -- ---- the state
 module _ (p gates last : ℕ) (bs : List ℕ) (t : Bool) (et : t ≡ holds_count (1 + gates) bs) where
-  pub state-few : t ≡ false → Refused refusal.StateCount ≡ first_of (state_checks p gates last bs)
+  pub state-few : t ≡ false → Err refusal.StateCount ≡ first_of (state_checks p gates last bs)
   unfolding state_checks first_of and_then need
   state-few h = rw (← et, h)
 
   module _ (ht : t ≡ true) (k : ℕ) (ek : k ≡ get_or (numbers bs) 0 0) where
-    pub state-past : last + 1 < k → Refused refusal.StateValue ≡ first_of (state_checks p gates last bs)
+    pub state-past : last + 1 < k → Err refusal.StateValue ≡ first_of (state_checks p gates last bs)
     unfolding state_checks first_of and_then need
     state-past h = rw (← et, ht, ← ek, lt-leb k (suc last) (rw (add-one) at h))
 
     module _ (hk : k ≤ last + 1) (b : Bool) (eb : b ≡ all_below p (drop 1 (numbers bs))) where
-      pub state-over : b ≡ false → Refused refusal.StateValue ≡ first_of (state_checks p gates last bs)
+      pub state-over : b ≡ false → Err refusal.StateValue ≡ first_of (state_checks p gates last bs)
       unfolding state_checks first_of and_then need
       state-over h = rw (← et, ht, ← ek, le-leb k (suc last) (rw add-one at hk), ← eb, h)
 
-      pub state-finished : b ≡ true → k ≡ last + 1 → Refused refusal.Finished ≡ first_of (state_checks p gates last bs)
+      pub state-finished : b ≡ true → k ≡ last + 1 → Err refusal.Finished ≡ first_of (state_checks p gates last bs)
       unfolding state_checks first_of and_then need
       state-finished h e = rw (← et, ht, ← ek, le-leb k (suc last) (rw add-one at hk), ← eb, h, eq-eqb k (suc last) (rw add-one at e))
 
-      pub state-passed : b ≡ true → (k ≡ last + 1 → ⊥) → Passed ≡ first_of (state_checks p gates last bs)
+      pub state-passed : b ≡ true → (k ≡ last + 1 → ⊥) → (Ok tt) ≡ first_of (state_checks p gates last bs)
       unfolding state_checks first_of and_then need
       state-passed h e = rw (← et, ht, ← ek, le-leb k (suc last) (rw add-one at hk), ← eb, h, ne_eqb k (suc last) (λ q. e (q ∙ sym (add-one last))))
 
 pub ruleset stating = (rules, not-true, not-false, state-few, state-past, state-over, state-finished, state-passed)
 
-pub shares_count : (n own j : ℕ) (mail xs : List ℕ) → xs ≡ from_each n own j mail → n ≡ length xs
-shares_count n own j mail xs e = sym (ap length e ∙ shares_long n own j mail)
+-- ---- an out
+module _ (p t : ℕ) (points : List ℕ) (own j : ℕ) (mail xs : List ℕ) (e : xs ≡ from_each (length points) own j mail) where
+  pub shares_count : length xs ≡ length points
+  shares_count = ap length e ∙ shares_long (length points) own j mail
 
-module _ (bs : List ℕ) (h : Header) (k : Planned bs h) (own : ℕ) where
-  module _ (points : List ℕ) (is : points ≡ (plan_of bs).points) where
-    points_long : length points ≡ h.n
-    points_long = ap length is ∙ plan_points_long bs h k
+  pub gathered-below : Ready p → all_below p mail ≡ true → all_below p xs ≡ true
+  gathered-below r b = rw e (shares_below p (length points) own j mail r b)
 
-    pub points_over : h.t < length points
-    points_over = omega (arith, points_long, k.threshold)
+  module _ (f : Option ℕ) (ef : f ≡ first_off p t points xs) where
+    out-is : on_polynomial p t points (from_each (length points) own j mail) ≡ unless_found (λ i. refusal.OffPolynomial (i + 1)) f
+    unfolding on_polynomial
+    out-is = sym (rw (ef, e))
 
-    pub points-few : length points ≤ 65536
-    points-few = omega (arith, points_long, k.n-high)
-
-    pub points-each : (j : ℕ) (mail xs : List ℕ) → xs ≡ from_each h.n own j mail → length xs ≡ length points
-    points-each j mail xs e = ap length e ∙ shares_long h.n own j mail ∙ sym points_long
-
-  pub gathered-below : (j : ℕ) (mail xs : List ℕ) → all_below h.field.p mail ≡ true → xs ≡ from_each h.n own j mail → all_below h.field.p xs ≡ true
-  gathered-below j mail xs b e = rw e (shares_below h.field.p h.n own j mail (planned-ready bs h k) b)
-
-  module _ (mail : List ℕ) (j : ℕ) (points xs : List ℕ) (f : Found) (is : points ≡ (plan_of bs).points) (e : xs ≡ from_each h.n own j mail) (ef : f ≡ first_off h.field.p h.t points xs) where
-    out-is : out_check (plan_of bs) own mail j ≡ unless_found (λ i. refusal.OffPolynomial (i + 1)) f
-    unfolding out_check on_polynomial
-    out-is = sym (rw (ef, is, e, ← plan_p k, ← plan_t k, ← plan_n k))
-
-    pub out-off : (i : ℕ) → f ≡ At i → Refused (refusal.OffPolynomial (i + 1)) ≡ out_check (plan_of bs) own mail j
+    pub out-off : (i : ℕ) → f ≡ Some i → Err (refusal.OffPolynomial (i + 1)) ≡ on_polynomial p t points (from_each (length points) own j mail)
     out-off i q = sym (out-is ∙ found_at (λ i. refusal.OffPolynomial (i + 1)) f i q)
 
-    pub out-on : f ≡ Nothing → Passed ≡ out_check (plan_of bs) own mail j
+    pub out-on : f ≡ None → (Ok tt) ≡ on_polynomial p t points (from_each (length points) own j mail)
     out-on q = sym (out-is ∙ found_nothing (λ i. refusal.OffPolynomial (i + 1)) f q)
 
-pub off_fits : (p t : ℕ) (points xs : List ℕ) (f : Found) (i : ℕ) → length points ≤ 65536 → f ≡ first_off p t points xs → f ≡ At i → Fits w64 (i + 1)
-off_fits p t points xs f i l ef e = record { fits = omega (arith, off_within p t points xs i (sym ef ∙ e)) }
+    pub off_fits : (i : ℕ) → length points ≤ 15 → f ≡ Some i → Fits w64 (i + 1)
+    off_fits i l q = record { fits = omega (arith, off_within p t points xs i (sym ef ∙ q)) }
 
-pub ruleset opening = (rules, planned-ready, shares_count, points_over, points-few, points-each, gathered-below, off_fits, out-off, out-on)
+pub ruleset opening = (rules, shares_count, gathered-below, off_fits, out-off, out-on)
 
--- the party's own outs, one after the other
-pub ruleset each = (rules, trying)
-
--- the room of the opening rows
+-- ---- the party's own outs, one after the other
 module _ (bs : List ℕ) (h : Header) (k : Planned bs h) where
   used-small : (h.t + 1) * h.n ≤ 225
   used-small = mul-le-mul {n₁ = h.t + 1} {m₁ = h.n} {n₂ = 15} {m₂ = 15} (omega (arith, k.threshold, k.n-high)) k.n-high
@@ -135,61 +119,59 @@ module _ (bs : List ℕ) (h : Header) (k : Planned bs h) where
   pub used_fits : Fits w64 ((h.t + 1) * h.n)
   used_fits = record { fits = omega (arith, used-small) }
 
-  module _ (room : List ℕ) (size : length room ≡ 225) where
-    pub used_within : (h.t + 1) * h.n ≤ length room
-    used_within = omega (arith, used-small)
-
-    pub used-count : (h.t + 1) * h.n ≡ length (take ((h.t + 1) * h.n) room)
-    used-count = sym (length-take-le ((h.t + 1) * h.n) room used_within)
+  pub used_within : (room : List ℕ) → length room ≡ 225 → (h.t + 1) * h.n ≤ length room
+  used_within room size = omega (arith, used-small)
 
   module _ (points : List ℕ) (is : points ≡ (plan_of bs).points) where
+    points_long : length points ≡ h.n
+    points_long = ap length is ∙ plan_points_long bs h k
+
+    pub points_over : h.t < length points
+    points_over = omega (arith, points_long, k.threshold)
+
+    pub points-few : length points ≤ 15
+    points-few = omega (arith, points_long, k.n-high)
+
+    pub points-many : length points ≤ 65536
+    points-many = omega (arith, points-few)
+
     pub opened-below : all_below h.field.p points ≡ true
     opened-below = rw is (plan_points_below bs h k)
 
     pub used-rows : (room : List ℕ) → length room ≡ 225 → length (take ((h.t + 1) * h.n) room) ≡ (h.t + 1) * length points
-    used-rows room size = rw (points_long bs h k 0 points is) (sym (used-count room size))
+    used-rows room size = rw points_long (length-take-le ((h.t + 1) * h.n) room (used_within room size))
 
-    module _ (room ys : List ℕ) (e : ys ≡ opening_rows h.field.p h.t points) where
-      rows_long : length ys ≡ (h.t + 1) * h.n
-      unfolding opening_rows
-      rows_long =
-          ap length e
-          ∙ length_rows (opening_row h.field.p h.t points) (h.t + 1) (λ j. length-row h.field.p h.t points j (points_over bs h k 0 points is)) (length points)
-          ∙ ap (λ (n : ℕ). (h.t + 1) * n) (points_long bs h k 0 points is)
+    -- what the check of an out gives
+    pub out_here : (f : Field) (t own j : ℕ) (mail qs : List ℕ) (c : Checked) → f ≡ h.field → t ≡ h.t → qs ≡ points → c ≡ on_polynomial f.p t qs (from_each (length qs) own j mail) → c ≡ out_check (plan_of bs) own mail j
+    unfolding out_check party_count
+    out_here f t own j mail qs c ef et eq ec = ec ∙ rw (ef, et, eq, is, ← plan_p k, ← plan_t k)
 
-      pub rows-within : (h.t + 1) * h.n ≤ length (ys ++ drop ((h.t + 1) * h.n) room)
-      rows-within = rw length-append (omega (arith, rows_long))
+-- refusal 20
+pub outs_are : (bs : List ℕ) (mail : List ℕ) (own i : ℕ) → own ≡ own_out_count (plan_of bs) i → (r : Checked) → r ≡ first_of (tab (out_check (plan_of bs) own mail) own) → r ≡ outs_check (plan_of bs) i mail
+unfolding outs_check out_check
+outs_are bs mail own i eo r er = er ∙ ap (λ (m : ℕ). first_of (tab (out_check (plan_of bs) m mail) m)) eo
 
-      pub rows-front : take ((h.t + 1) * h.n) (ys ++ drop ((h.t + 1) * h.n) room) ≡ opening_rows h.field.p h.t points
-      rows-front = take_at ys (drop ((h.t + 1) * h.n) room) ((h.t + 1) * h.n) rows_long ∙ e
+-- the first out that breaks
+pub out_stops : (bs : List ℕ) (mail : List ℕ) (own i j : ℕ) (c : Checked) (r : Refusal) → Tried (out_check (plan_of bs) own mail) own j → j < own → own ≡ own_out_count (plan_of bs) i
+    → c ≡ out_check (plan_of bs) own mail j → c ≡ Err r → Err r ≡ outs_check (plan_of bs) i mail
+out_stops bs mail own i j c r h l eo is e = outs_are bs mail own i eo (Err r) (sym e ∙ try_refused (out_check (plan_of bs) own mail) own j h c r l is e)
 
-      pub rows-count : (h.t + 1) * h.n ≡ length (take ((h.t + 1) * h.n) (ys ++ drop ((h.t + 1) * h.n) room))
-      rows-count = sym (length-take-le ((h.t + 1) * h.n) (ys ++ drop ((h.t + 1) * h.n) room) rows-within)
-
-  module _ (xs : List ℕ) (e : take h.n xs ≡ (plan_of bs).points) where
-    pub first_count : h.n ≡ length (take h.n xs)
-    first_count = sym (points-count bs h k xs e h.n (omega arith))
-
-    pub fifteen : h.n ≤ length xs
-    fifteen = points-within bs h k xs e h.n (omega arith)
-
-pub ruleset rowing = (rules, planned-ready, used_fits, used_within, used-count, opened-below, points_over, used-rows, rows-within, rows-front, rows-count, first_count, fifteen)
+pub ruleset each = (rules, trying, out_stops, used_fits, used_within, points-within, points-count, points_over, points-few, points-many, opened-below, used-rows, out_here, outs_are)
 
 module _ (bs : List ℕ) (h : Header) (pl : Planned bs h) (i : ℕ) where
-  -- refusal 20
-  pub outs_are : (mail : List ℕ) (own : ℕ) → own ≡ own_out_count (plan_of bs) i → (r : Checked) → r ≡ first_of (tab (out_check (plan_of bs) own mail) own) → r ≡ outs_check (plan_of bs) i mail
-  unfolding outs_check out_check
-  outs_are mail own eo r er = er ∙ ap (λ (m : ℕ). first_of (tab (out_check (plan_of bs) m mail) m)) eo
-
   -- refusals 9 to 13
   module _ (inputs coins : List ℕ) where
-    pub own-under : i < 1 → Refused refusal.Coalition ≡ first_of (own_checks (plan_of bs) i inputs coins)
+    own-under : i < 1 → Err refusal.Coalition ≡ first_of (own_checks (plan_of bs) i inputs coins)
     unfolding own_checks first_of and_then need between
     own-under l = rw (lt-leb 1 i l)
 
-    pub own-over : 1 ≤ i → h.n < i → Refused refusal.Coalition ≡ first_of (own_checks (plan_of bs) i inputs coins)
+    own-over : 1 ≤ i → h.n < i → Err refusal.Coalition ≡ first_of (own_checks (plan_of bs) i inputs coins)
     unfolding own_checks first_of and_then need between
     own-over l m = rw (le-leb 1 i l, plan_n pl, lt-leb i h.n m)
+
+    pub own-outside : (i < 1) ⊎ (h.n < i) → Err refusal.Coalition ≡ first_of (own_checks (plan_of bs) i inputs coins)
+    own-outside (inl l) = own-under l
+    own-outside (inr m) = own-over (omega (arith, pl.n_low)) m
 
     module _ (l : 1 ≤ i) (m : i ≤ h.n) (k : ℕ) (ek : k ≡ own_input_count (plan_of bs) i) (c : Checked) (ec : c ≡ first_of (list_checks refusal.InputCount refusal.InputValue h.field.p k inputs)) where
       own-parts : first_of (own_checks (plan_of bs) i inputs coins) ≡ and_then c (first_of (list_checks refusal.CoinCount refusal.CoinValue h.field.p (own_coin_count (plan_of bs) i) coins))
@@ -210,10 +192,10 @@ module _ (bs : List ℕ) (h : Header) (pl : Planned bs h) (i : ℕ) where
           coins_of_lem : ℕ → Checked
           coins_of_lem p = first_of (list_checks refusal.CoinCount refusal.CoinValue p (own_coin_count (plan_of bs) i) coins)
 
-      pub own-inputs : (r : Refusal) → c ≡ Refused r → c ≡ first_of (own_checks (plan_of bs) i inputs coins)
-      own-inputs r e = e ∙ sym (own-parts ∙ and_then_refused c _ r e)
+      pub own-inputs : (r : Refusal) → c ≡ Err r → Err r ≡ first_of (own_checks (plan_of bs) i inputs coins)
+      own-inputs r e = sym (own-parts ∙ and_then_refused c _ r e)
 
-      pub own-coins : c ≡ Passed → (d : ℕ) → d ≡ own_coin_count (plan_of bs) i → (r : Checked) → r ≡ first_of (list_checks refusal.CoinCount refusal.CoinValue h.field.p d coins)
+      pub own-coins : c ≡ (Ok tt) → (d : ℕ) → d ≡ own_coin_count (plan_of bs) i → (r : Checked) → r ≡ first_of (list_checks refusal.CoinCount refusal.CoinValue h.field.p d coins)
           → r ≡ first_of (own_checks (plan_of bs) i inputs coins)
       own-coins e d ed r er =
           er
@@ -222,15 +204,15 @@ module _ (bs : List ℕ) (h : Header) (pl : Planned bs h) (i : ℕ) where
           ∙ and_then_passed c _ e
           ∙ ap (λ (n : ℕ). first_of (list_checks refusal.CoinCount refusal.CoinValue h.field.p n coins)) (sym ed))
 
-pub ruleset owning = (rules, outs_are, own-under, own-over, own-inputs, own-coins)
+pub ruleset owning = (rules, own-outside, own-inputs, own-coins)
 
 -- refusals 17 to 20
-pub list_below : (few : Refusal) (over : ℕ → Refusal) (p n : ℕ) (bs : List ℕ) (c : Checked) → c ≡ first_of (list_checks few over p n bs) → c ≡ Passed → all_below p (numbers bs) ≡ true
+pub list_below : (few : Refusal) (over : ℕ → Refusal) (p n : ℕ) (bs : List ℕ) (c : Checked) → c ≡ first_of (list_checks few over p n bs) → c ≡ (Ok tt) → all_below p (numbers bs) ≡ true
 unfolding list_checks first_of
 list_below few over p n bs c ec e =
     first_over-nothing p (numbers bs) (passed_found over (first_over p (numbers bs)) (passed_both _ _ (passed_both _ _ (sym ec ∙ e)).1).0)
 
-pub mail_below : (p n : ℕ) (bs : List ℕ) (c : Checked) → c ≡ first_of (list_checks refusal.MailCount refusal.MailValue p n bs) → c ≡ Passed → all_below p (numbers bs) ≡ true
+pub mail_below : (p n : ℕ) (bs : List ℕ) (c : Checked) → c ≡ first_of (list_checks refusal.MailCount refusal.MailValue p n bs) → c ≡ (Ok tt) → all_below p (numbers bs) ≡ true
 mail_below = list_below refusal.MailCount refusal.MailValue
 
 module _ (bs : List ℕ) (h : Header) (pl : Planned bs h) (i k : ℕ) (mail : List ℕ) (room : ℕ) where
@@ -245,28 +227,28 @@ module _ (bs : List ℕ) (h : Header) (pl : Planned bs h) (i k : ℕ) (mail : Li
         (ap₂ (λ (p m : ℕ). first_of (list_checks refusal.MailCount refusal.MailValue p m mail)) (plan_p pl) (sym en) ∙ sym ec)
         (first_of-cons _ _ ∙ ap (and_then (need refusal.BufferLength (eqb room (width * written_count (plan_of bs) i k)))) (first_of-cons _ _ ∙ ap (and_then (opening_check (plan_of bs) i k (numbers mail))) first_of-nil ∙ and_then_end (opening_check (plan_of bs) i k (numbers mail))))
 
-    pub mail-refused : (r : Refusal) → c ≡ Refused r → c ≡ first_of (mail_checks (plan_of bs) i k mail room)
-    mail-refused r e = e ∙ sym (mail-parts ∙ and_then_refused c _ r e)
+    pub mail-refused : (r : Refusal) → c ≡ Err r → Err r ≡ first_of (mail_checks (plan_of bs) i k mail room)
+    mail-refused r e = sym (mail-parts ∙ and_then_refused c _ r e)
 
-    module _ (e : c ≡ Passed) (w : ℕ) (ew : w ≡ written_count (plan_of bs) i k) where
+    module _ (e : c ≡ (Ok tt)) (w : ℕ) (ew : w ≡ written_count (plan_of bs) i k) where
       room-parts : first_of (mail_checks (plan_of bs) i k mail room) ≡ and_then (need refusal.BufferLength (eqb room (width * w))) (opening_check (plan_of bs) i k (numbers mail))
       room-parts =
           mail-parts
           ∙ and_then_passed c _ e
           ∙ ap (λ (v : ℕ). and_then (need refusal.BufferLength (eqb room (width * v))) (opening_check (plan_of bs) i k (numbers mail))) (sym ew)
 
-      pub mail-room : (room ≡ width * w → ⊥) → Refused refusal.BufferLength ≡ first_of (mail_checks (plan_of bs) i k mail room)
+      pub mail-room : (room ≡ width * w → ⊥) → Err refusal.BufferLength ≡ first_of (mail_checks (plan_of bs) i k mail room)
       mail-room q = sym (room-parts ∙ and_then_refused _ _ refusal.BufferLength (need-false refusal.BufferLength (eqb room (width * w)) (ne_eqb room (width * w) q)))
 
       module _ (q : room ≡ width * w) (m : ℕ) (em : m ≡ last_call (plan_of bs)) where
-        last-parts : first_of (mail_checks (plan_of bs) i k mail room) ≡ cond (eqb k m) (outs_check (plan_of bs) i (numbers mail)) Passed
+        last-parts : first_of (mail_checks (plan_of bs) i k mail room) ≡ cond (eqb k m) (outs_check (plan_of bs) i (numbers mail)) (Ok tt)
         unfolding opening_check
         last-parts =
             room-parts
             ∙ and_then_passed _ _ (need-true refusal.BufferLength (eqb room (width * w)) (eq-eqb room (width * w) q))
-            ∙ ap (λ (v : ℕ). cond (eqb k v) (outs_check (plan_of bs) i (numbers mail)) Passed) (sym em)
+            ∙ ap (λ (v : ℕ). cond (eqb k v) (outs_check (plan_of bs) i (numbers mail)) (Ok tt)) (sym em)
 
-        pub mail-early : (k ≡ m → ⊥) → Passed ≡ first_of (mail_checks (plan_of bs) i k mail room)
+        pub mail-early : (k ≡ m → ⊥) → (Ok tt) ≡ first_of (mail_checks (plan_of bs) i k mail room)
         mail-early z = sym (last-parts ∙ rw (ne_eqb k m z))
 
         pub mail-last : k ≡ m → (r : Checked) → r ≡ outs_check (plan_of bs) i (numbers mail) → r ≡ first_of (mail_checks (plan_of bs) i k mail room)
@@ -287,17 +269,17 @@ module _ (bs : List ℕ) (h : Header) (pl : Planned bs h) (i : ℕ) (inputs coin
       (first_of-append (state_checks (plan_of bs).p (length (plan_of bs).gates) (last_call (plan_of bs)) state) (mail_checks (plan_of bs) i (get_or (numbers state) 0 0) mail room))
 
   module _ (a : Checked) (ea : a ≡ first_of (own_checks (plan_of bs) i inputs coins)) where
-    pub check-own : (r : Refusal) → a ≡ Refused r → a ≡ first_of (party_checks (plan_of bs) i inputs coins state mail room)
-    check-own r e = e ∙ sym (all-parts ∙ and_then_refused _ _ r (sym ea ∙ e))
+    pub check-own : (r : Refusal) → a ≡ Err r → Err r ≡ first_of (party_checks (plan_of bs) i inputs coins state mail room)
+    check-own r e = sym (all-parts ∙ and_then_refused _ _ r (sym ea ∙ e))
 
-    module _ (pa : a ≡ Passed) (m : ℕ) (em : m ≡ last_call (plan_of bs)) (b : Checked) (eb : b ≡ first_of (state_checks h.field.p h.gates m state)) where
+    module _ (pa : a ≡ (Ok tt)) (m : ℕ) (em : m ≡ last_call (plan_of bs)) (b : Checked) (eb : b ≡ first_of (state_checks h.field.p h.gates m state)) where
       kept : b ≡ first_of (state_checks (plan_of bs).p (length (plan_of bs).gates) (last_call (plan_of bs)) state)
       kept = eb ∙ ap₂ (λ (p g : ℕ). first_of (state_checks p g m state)) (sym (plan_p pl)) (sym (plan_gates pl)) ∙ ap (λ (n : ℕ). first_of (state_checks (plan_of bs).p (length (plan_of bs).gates) n state)) em
 
-      pub check-kept : (r : Refusal) → b ≡ Refused r → b ≡ first_of (party_checks (plan_of bs) i inputs coins state mail room)
-      check-kept r e = e ∙ sym (all-parts ∙ and_then_passed _ _ (sym ea ∙ pa) ∙ and_then_refused _ _ r (sym kept ∙ e))
+      pub check-kept : (r : Refusal) → b ≡ Err r → Err r ≡ first_of (party_checks (plan_of bs) i inputs coins state mail room)
+      check-kept r e = sym (all-parts ∙ and_then_passed _ _ (sym ea ∙ pa) ∙ and_then_refused _ _ r (sym kept ∙ e))
 
-      pub check-all : b ≡ Passed → (k : ℕ) → k ≡ get_or (numbers state) 0 0 → (c : Checked) → c ≡ first_of (mail_checks (plan_of bs) i k mail room)
+      pub check-all : b ≡ (Ok tt) → (k : ℕ) → k ≡ get_or (numbers state) 0 0 → (c : Checked) → c ≡ first_of (mail_checks (plan_of bs) i k mail room)
           → c ≡ first_of (party_checks (plan_of bs) i inputs coins state mail room)
       check-all pb k ek c ec =
           ec

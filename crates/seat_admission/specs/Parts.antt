@@ -1,7 +1,7 @@
 -- Refusals 9 to 20 in parts: one list of checks for each thing that a call takes.
 use Rattle.std.specs.Prelude.{ℕ, suc, ◌+◌, ◌*◌, not, ◌&&◌, List, [], ◌∷◌, ◌++◌, eqb, leb, drop, get_or}
 use Rattle.numbers.specs.Bytes.{width, numbers, holds_count, first_over, all_below}
-use Rattle.plan.specs.declared.Checked.{Checked}
+use Rattle.plan.specs.Refusals.{Checked}
 use Rattle.plan.specs.declared.Refusal.{Refusal}
 use Rattle.plan.specs.declared.Refusal.TheVariants as refusal
 use Rattle.plan.specs.Refusals.{need, unless_found}

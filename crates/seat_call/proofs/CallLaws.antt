@@ -4,10 +4,11 @@
 --     working      what a call leaves
 --     calling      the call
 -- Assumes nothing.
+use Rattle.std.proofs.Common.{Ok, Err}
 use mathlib.Core.Path.{◌≡◌, refl, sym, ap, ap₂, ◌∙◌}
 use mathlib.Core.Bool.{Bool, true, not}
 use mathlib.Core.List.{List, [], ◌∷◌, ◌++◌, append-nil}
-use Prim.Native.Nat.{ℕ, zero, suc, ◌+◌, ◌-◌, ◌*◌, ◌/◌, ◌%◌, ◌≤◌}
+use Prim.Native.Nat.{ℕ, zero, suc, ◌+◌, ◌-◌, ◌*◌, ◌/◌, ◌≤◌}
 use native.Mathlib.Numerals.{add-one}
 use native.Mathlib.Omega.{arith}
 use borrow.Author.Rules.{rules}
@@ -23,20 +24,19 @@ use Rattle.numbers.proofs.Bytes.{EachBelow, fits_below, numbers-drop, holds-leng
 use Rattle.numbers.proofs.Below.{first_over-nothing}
 use Rattle.numbers.proofs.Truth.{both_true}
 use Rattle.plan.specs.declared.Header.{Header}
-use Rattle.plan.specs.declared.Reading.{Reading}
-use Rattle.plan.specs.declared.Reading.TheVariants as reading
-use Rattle.plan.specs.declared.Checked.{Checked}
-use Rattle.plan.specs.declared.Checked.TheVariants.{Passed, Refused}
+use Rattle.plan.specs.declared.PlanFile.{PlanFile}
+use Rattle.plan_counts.specs.declared.Seat.{Seat}
+use Rattle.plan.specs.Refusals.{Checked}
 use Rattle.plan.specs.declared.Refusal.{Refusal}
 use Rattle.plan.specs.declared.Refusal.TheVariants as refusal
 use Rattle.plan.specs.Refusals.{and_then, first_of}
 use Rattle.plan.specs.declared.Step.{Step}
 use Rattle.plan.specs.declared.Step.TheVariants.{DealInputs, DealProduct, DealZero, DealMasked, SendTruncated, DealDraws, OpenSpent, SendOuts}
 use Rattle.plan.specs.Plans.{Plan, party_count, triple_at, step_at, last_call, own_input_count, own_coin_count, mail_count, written_count}
-use Rattle.plan.specs.File.{plan_checks, plan_check, plan_of, outcome_of}
-use Rattle.plan.specs.Planned.{Planned, ReadAs}
+use Rattle.plan.specs.File.{plan_checks, plan_check, plan_of}
+use Rattle.plan.specs.Planned.{Planned}
 use Rattle.plan.proofs.Refusals.{and_then_passed, and_then_refused, first_of-append, passed_both, passed-need, passed_found}
-use Rattle.plan.proofs.Planned.{planned_read, refused_read, between-true, plan_p}
+use Rattle.plan.proofs.Planned.{between-true, plan_p}
 use Rattle.seat_messages.specs.Messages.{set_all, learn_from, learn, spend_from, spend, call_with, call}
 use Rattle.seat_messages.specs.Calls.{party_checks, call_checks, call_answer, written, unless_refused, called_on, state_after, out_after}
 use Rattle.seat_learning.specs.Lent.{Holds}
@@ -48,7 +48,7 @@ below_finished : (k last : ℕ) (t : Bool) → t ≡ eqb k (suc last) → leb k 
 below_finished k last t e l n = omega (arith, leb-true k (suc last) l, eqb-false k (suc last) (sym e ∙ not-true t n))
 
 pub admitted : (plan : Plan) (i : ℕ) (inputs coins state mail : List ℕ) (room : ℕ)
-    → first_of (party_checks plan i inputs coins state mail room) ≡ Passed → Admitted plan i inputs coins state mail room
+    → first_of (party_checks plan i inputs coins state mail room) ≡ (Ok tt) → Admitted plan i inputs coins state mail room
 unfolding party_checks first_of
 admitted plan i inputs coins state mail room h =
     let a = passed_both _ _ h in
@@ -80,7 +80,7 @@ admitted plan i inputs coins state mail room h =
     }
 
 pub admitted_by : (plan : Plan) (i : ℕ) (inputs coins state mail : List ℕ) (room : ℕ) (c : Checked)
-    → c ≡ first_of (party_checks plan i inputs coins state mail room) → c ≡ Passed → Admitted plan i inputs coins state mail room
+    → c ≡ first_of (party_checks plan i inputs coins state mail room) → c ≡ (Ok tt) → Admitted plan i inputs coins state mail room
 admitted_by plan i inputs coins state mail room c ec e = admitted plan i inputs coins state mail room (sym ec ∙ e)
 
 -- ---- the number of the next call
@@ -252,59 +252,68 @@ module _ (bs : List ℕ) (i : ℕ) (inputs coins state mail : List ℕ) (room : 
   unfolding call_answer call_checks plan_check
   answer_parts = first_of-append (plan_checks bs) (party_checks (plan_of bs) i inputs coins state mail room)
 
-  module _ (r : Reading) (read : ReadAs bs r) where
-    module _ (q : Refusal) (e : r ≡ reading.Refused q) where
-      plan-refused : call_answer bs i inputs coins state mail room ≡ Refused q
-      plan-refused = answer_parts ∙ and_then_refused (plan_check bs) _ q (refused_read bs r q read e)
+  -- a file that is refused
+  module _ (q : Refusal) (e : plan_check bs ≡ Err q) where
+    plan-refused : call_answer bs i inputs coins state mail room ≡ Err q
+    plan-refused = answer_parts ∙ and_then_refused (plan_check bs) _ q e
 
-      pub refused-answer : (c : Checked) → c ≡ outcome_of r → c ≡ call_answer bs i inputs coins state mail room
-      unfolding outcome_of
-      refused-answer c ec = ec ∙ ap outcome_of e ∙ sym plan-refused
+    pub refused-answer : Err q ≡ call_answer bs i inputs coins state mail room
+    refused-answer = sym plan-refused
 
-      pub refused-state : state ≡ state_after bs i inputs coins state mail room
-      unfolding state_after unless_refused
-      refused-state = rw plan-refused
+    pub refused-state : state ≡ state_after bs i inputs coins state mail room
+    unfolding state_after unless_refused
+    refused-state = rw plan-refused
 
-      refused-buffer : (out : List ℕ) → room ≡ length out → out ≡ out_after bs i inputs coins state mail out
-      unfolding out_after unless_refused
-      refused-buffer out l = rw (← l, plan-refused)
+    refused-buffer : (out : List ℕ) → room ≡ length out → out ≡ out_after bs i inputs coins state mail out
+    unfolding out_after unless_refused
+    refused-buffer out l = rw (← l, plan-refused)
 
-    module _ (h : Header) (e : r ≡ reading.Passed h) (c : Checked) (ec : c ≡ first_of (party_checks (plan_of bs) i inputs coins state mail room)) where
-      plan-passes : call_answer bs i inputs coins state mail room ≡ c
-      plan-passes = answer_parts ∙ and_then_passed (plan_check bs) _ (planned_read bs r h read e).passes ∙ sym ec
+-- a file that passes, with what the checks of the call answered
+pub record Judged (bs : List ℕ) (i : ℕ) (inputs coins state mail : List ℕ) (room : ℕ) (c : Checked) : Type 0 where
+  pub passes : plan_check bs ≡ (Ok tt)
+  pub is : c ≡ first_of (party_checks (plan_of bs) i inputs coins state mail room)
 
-      pub checked-answer : c ≡ call_answer bs i inputs coins state mail room
-      checked-answer = sym plan-passes
+-- those of the party's seat at the file
+pub judged : (bs : List ℕ) (f : PlanFile) (s : Seat) (i : ℕ) (inputs coins state mail : List ℕ) (room : ℕ) (c : Checked) → f.bytes.now ≡ bs → s.plan.now ≡ f → s.party ≡ i
+    → c ≡ first_of (party_checks (plan_of s.plan.now.bytes.now) s.party inputs coins state mail room) → Planned f.bytes.now f.header → Judged bs i inputs coins state mail room c
+judged bs f s i inputs coins state mail room c e es ei ec pl = record {
+  passes = ap plan_check (sym e) ∙ pl.passes;
+  is = ec ∙ ap₂ (λ (b : List ℕ) (k : ℕ). first_of (party_checks (plan_of b) k inputs coins state mail room)) (ap (λ (g : PlanFile). g.bytes.now) es ∙ e) ei;
+}
 
-      pub checked-state : (q : Refusal) → c ≡ Refused q → state ≡ state_after bs i inputs coins state mail room
-      unfolding state_after unless_refused
-      checked-state q f = rw (plan-passes, f)
+module _ {bs : List ℕ} {i : ℕ} {inputs coins state mail : List ℕ} {room : ℕ} {c : Checked} (k : Judged bs i inputs coins state mail room c) where
+  answered : call_answer bs i inputs coins state mail room ≡ c
+  answered = answer_parts bs i inputs coins state mail room ∙ and_then_passed (plan_check bs) _ k.passes ∙ sym k.is
 
-      checked-buffer : (q : Refusal) → c ≡ Refused q → (out : List ℕ) → room ≡ length out → out ≡ out_after bs i inputs coins state mail out
-      unfolding out_after unless_refused
-      checked-buffer q f out l = rw (← l, plan-passes, f)
+  module _ (q : Refusal) (e : c ≡ Err q) where
+    pub checked-answer : Err q ≡ call_answer bs i inputs coins state mail room
+    checked-answer = sym (answered ∙ e)
 
-      module _ (f : c ≡ Passed) where
-        pub passed-answer : Passed ≡ call_answer bs i inputs coins state mail room
-        passed-answer = sym (plan-passes ∙ f)
+    pub checked-state : state ≡ state_after bs i inputs coins state mail room
+    unfolding state_after unless_refused
+    checked-state = rw (answered, e)
 
-        pub passed-state : (zs : List ℕ) → zs ≡ state_left (plan_of bs) i inputs coins state mail → zs ≡ state_after bs i inputs coins state mail room
-        unfolding state_after unless_refused called_on state_left
-        passed-state zs z = rw (plan-passes, f) z
+    pub checked-out : (out : List ℕ) → room ≡ length out → out ≡ out_after bs i inputs coins state mail out
+    unfolding out_after unless_refused
+    checked-out out l = rw (← l, answered, e)
 
-        passed-buffer : (out zs : List ℕ) → room ≡ length out → zs ≡ out_left (plan_of bs) i inputs coins state mail → zs ≡ out_after bs i inputs coins state mail out
-        unfolding out_after unless_refused called_on out_left
-        passed-buffer out zs l z = rw (← l, plan-passes, f) z
+  module _ (e : c ≡ (Ok tt)) where
+    pub passed-answer : (Ok tt) ≡ call_answer bs i inputs coins state mail room
+    passed-answer = sym (answered ∙ e)
 
-module _ (bs : List ℕ) (i : ℕ) (inputs coins state mail out : List ℕ) (r : Reading) (read : ReadAs bs r) where
-  pub refused-out : (q : Refusal) → r ≡ reading.Refused q → out ≡ out_after bs i inputs coins state mail out
-  refused-out q e = refused-buffer bs i inputs coins state mail (length out) r read q e out refl
+    module _ (bytes : List ℕ) (j : ℕ) (same : bytes ≡ bs) (party : j ≡ i) where
+      pub passed-state : (zs : List ℕ) → zs ≡ state_left (plan_of bytes) j inputs coins state mail → zs ≡ state_after bs i inputs coins state mail room
+      unfolding state_after unless_refused called_on state_left
+      passed-state zs z = rw (answered, e) (z ∙ ap₂ (λ (b : List ℕ) (k : ℕ). bytes_of (call (plan_of b) k (numbers inputs) (numbers coins) [] (numbers state) (numbers mail)).state) same party)
 
-  module _ (h : Header) (e : r ≡ reading.Passed h) (c : Checked) (ec : c ≡ first_of (party_checks (plan_of bs) i inputs coins state mail (length out))) where
-    pub checked-out : (q : Refusal) → c ≡ Refused q → out ≡ out_after bs i inputs coins state mail out
-    checked-out q f = checked-buffer bs i inputs coins state mail (length out) r read h e c ec q f out refl
+      pub passed-out : (out zs : List ℕ) → room ≡ length out → zs ≡ out_left (plan_of bytes) j inputs coins state mail → zs ≡ out_after bs i inputs coins state mail out
+      unfolding out_after unless_refused called_on out_left
+      passed-out out zs l z =
+          rw (← l, answered, e)
+          (z
+          ∙ ap₂ (λ (b : List ℕ) (k : ℕ). bytes_of (written (plan_of b) (get_or (numbers state) 0 0) (call (plan_of b) k (numbers inputs) (numbers coins) [] (numbers state) (numbers mail)))) same party)
 
-    pub passed-out : c ≡ Passed → (zs : List ℕ) → zs ≡ out_left (plan_of bs) i inputs coins state mail → zs ≡ out_after bs i inputs coins state mail out
-    passed-out f zs z = passed-buffer bs i inputs coins state mail (length out) r read h e c ec f out zs refl z
+pub refused-out : (bs : List ℕ) (i : ℕ) (inputs coins state mail out : List ℕ) (q : Refusal) → plan_check bs ≡ Err q → out ≡ out_after bs i inputs coins state mail out
+refused-out bs i inputs coins state mail out q e = refused-buffer bs i inputs coins state mail (length out) q e out refl
 
-pub ruleset calling = (rules, advance_to, planned_read, admitted_by, refused-answer, refused-state, refused-out, checked-answer, checked-state, checked-out, passed-answer, passed-state, passed-out)
+pub ruleset calling = (rules, advance_to, admitted_by, refused-answer, refused-state, refused-out, judged, checked-answer, checked-state, checked-out, passed-answer, passed-state, passed-out)

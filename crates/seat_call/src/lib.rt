@@ -3,16 +3,17 @@
 
 ghost use Rattle.std.specs.Prelude.{◌≡◌, true, [], ◌∷◌, length, drop};
 ghost use Rattle.numbers.specs.Bytes.{numbers, bytes_of, all_below};
-ghost use Rattle.plan.specs.Plans.{last_call};
 ghost use Rattle.plan.specs.File.{plan_of};
-ghost use Rattle.plan.specs.Planned.{Planned};
 ghost use Rattle.seat_messages.specs.Calls.{call_answer, state_after, out_after, written};
 ghost use Rattle.seat_messages.specs.Messages.{call_with};
 ghost use Rattle.seat_call.specs.Admitted.{Admitted, Whole, Learnt, Sendable, state_left, out_left};
 
-use plan::{Checked, Header, Reading};
+use plan::{PlanFile, Refusal};
+use plan_counts::Seat;
+use seat_messages::Lists;
 
 // Sets a state's first number, that of the next call.
+#[tactic(auto, using(crate::proofs::CallLaws::calling))]
 fn advance(state: &mut [u8], k: u64)
     requires { Whole state.old }
     ensures { state.new ≡ bytes_of (k ∷ drop 1 (numbers state.old)) }
@@ -21,81 +22,47 @@ fn advance(state: &mut [u8], k: u64)
 }
 
 // What call number k learns from its mail and works, on the shares of a state.
-fn learn(plan: &[u8], h: Header, k: usize, mail: &[u8], state: &mut [u8])
-    requires planned { Planned plan.now h }
+// As it is: k is the call's number and no kind; the first call has no step before it.
+#[tactic(auto, using(crate::proofs::CallLaws::working))]
+fn learn(plan: &PlanFile, k: usize, mail: &[u8], state: &mut [u8])
     requires whole { Whole state.old }
-    requires mail_value { all_below (plan_of plan.now).p (numbers mail.now) ≡ true }
-    requires state_value { all_below (plan_of plan.now).p (drop 1 (numbers state.old)) ≡ true }
-    ensures { Learnt (plan_of plan.now) k (numbers mail.now) state.old state.new }
+    requires mail_value { all_below (plan_of plan.now.bytes.now).p (numbers mail.now) ≡ true }
+    requires state_value { all_below (plan_of plan.now.bytes.now).p (drop 1 (numbers state.old)) ≡ true }
+    ensures { Learnt (plan_of plan.now.bytes.now) k (numbers mail.now) state.old state.new }
 {
     if k == 0 {
         return;
     }
-    let step = plan_counts::step_at(plan, h, k - 1);
-    seat_learning::learn(plan, h, step, mail, &mut state[numbers::WIDTH..]);
+    let step = plan_counts::step_at(plan, k - 1);
+    seat_learning::learn(plan, step, mail, &mut state[numbers::WIDTH..]);
 }
 
 // What call number k writes, from the shares of a state.
-fn send(
-    plan: &[u8],
-    h: Header,
-    last: usize,
-    i: usize,
-    k: usize,
-    inputs: &[u8],
-    coins: &[u8],
-    state: &[u8],
-    mail: &[u8],
-    out: &mut [u8],
-)
-    requires planned { Planned plan.now h }
-    requires last_value { last ≡ last_call (plan_of plan.now) }
+#[tactic(auto, using(crate::proofs::CallLaws::working))]
+fn send(seat: &Seat, k: usize, lists: &Lists, state: &[u8], out: &mut [u8])
     requires whole { Whole state.now }
-    requires sendable { Sendable (plan_of plan.now) i k inputs.now coins.now (drop 1 (numbers state.now)) mail.now out.old }
-    ensures { out.new ≡ bytes_of (written (plan_of plan.now) k (call_with (plan_of plan.now) i k (numbers inputs.now) (numbers coins.now) [] (drop 1 (numbers state.now)) (numbers mail.now))) }
+    requires sendable { Sendable (plan_of seat.now.plan.now.bytes.now) seat.now.party k lists.now.inputs.now lists.now.coins.now (drop 1 (numbers state.now)) lists.now.mail.now out.old }
+    ensures { out.new ≡ bytes_of (written (plan_of seat.now.plan.now.bytes.now) k (call_with (plan_of seat.now.plan.now.bytes.now) seat.now.party k (numbers lists.now.inputs.now) (numbers lists.now.coins.now) [] (drop 1 (numbers state.now)) (numbers lists.now.mail.now))) }
 {
-    seat_sending::send(
-        plan,
-        h,
-        last,
-        i,
-        k,
-        inputs,
-        coins,
-        &state[numbers::WIDTH..],
-        mail,
-        out,
-    );
+    seat_sending::send(seat, k, lists, &state[numbers::WIDTH..], out);
 }
 
 // A call that no refusal falls on: it learns from its mail, writes its outgoing mail or its results, and numbers the next call.
-fn work(
-    plan: &[u8],
-    h: Header,
-    last: usize,
-    i: usize,
-    inputs: &[u8],
-    coins: &[u8],
-    state: &mut [u8],
-    mail: &[u8],
-    out: &mut [u8],
-)
-    requires planned { Planned plan.now h }
-    requires last_value { last ≡ last_call (plan_of plan.now) }
-    requires admitted { Admitted (plan_of plan.now) i inputs.now coins.now state.old mail.now (length out.old) }
-    ensures state { state.new ≡ state_left (plan_of plan.now) i inputs.now coins.now state.old mail.now }
-    ensures out { out.new ≡ out_left (plan_of plan.now) i inputs.now coins.now state.old mail.now }
+#[tactic(auto, using(crate::proofs::CallLaws::working))]
+fn work(seat: &Seat, lists: &Lists, state: &mut [u8], out: &mut [u8])
+    requires { Admitted (plan_of seat.now.plan.now.bytes.now) seat.now.party lists.now.inputs.now lists.now.coins.now state.old lists.now.mail.now (length out.old) }
+    ensures state { state.new ≡ state_left (plan_of seat.now.plan.now.bytes.now) seat.now.party lists.now.inputs.now lists.now.coins.now state.old lists.now.mail.now }
+    ensures out { out.new ≡ out_left (plan_of seat.now.plan.now.bytes.now) seat.now.party lists.now.inputs.now lists.now.coins.now state.old lists.now.mail.now }
 {
     let k = numbers::read(state, 0);
-    learn(plan, h, k as usize, mail, state);
-    send(
-        plan, h, last, i, k as usize, inputs, coins, state, mail, out,
-    );
+    learn(seat.plan, k as usize, lists.mail, state);
+    send(seat, k as usize, lists, state, out);
     advance(state, k + 1);
 }
 
 // Party i's call on its own inputs and coins, its state and its mail; `out` takes its outgoing mail, or its results in the last call.
 // Answers the first refusal of 1 to 20 that falls on it, and then neither `state` nor `out` is written.
+#[tactic(auto, using(crate::proofs::CallLaws::calling))]
 pub fn call(
     plan: &[u8],
     i: usize,
@@ -104,21 +71,19 @@ pub fn call(
     state: &mut [u8],
     mail: &[u8],
     out: &mut [u8],
-) -> Checked
+) -> Result<(), Refusal>
     ensures answer { result ≡ call_answer plan.now i inputs.now coins.now state.old mail.now (length out.old) }
     ensures state { state.new ≡ state_after plan.now i inputs.now coins.now state.old mail.now (length out.old) }
     ensures out { out.new ≡ out_after plan.now i inputs.now coins.now state.old mail.now out.old }
 {
-    let r = plan_reading::read(plan);
-    let Reading::Passed(h) = r else {
-        return plan_reading::outcome(r);
+    let file = plan_reading::read(plan)?;
+    let seat = Seat::new(&file, i);
+    let lists = Lists {
+        inputs,
+        coins,
+        mail,
     };
-    let tally = plan_counts::tally_of(plan, h, i);
-    let c = seat_admission::check(plan, h, tally, i, inputs, coins, state, mail, out.len());
-    let Checked::Passed = c else {
-        return c;
-    };
-    let last = plan_counts::last_call_by(plan, h, i, tally);
-    work(plan, h, last, i, inputs, coins, state, mail, out);
-    Checked::Passed
+    seat_admission::check(&seat, &lists, state, out.len())?;
+    work(&seat, &lists, state, out);
+    Ok(())
 }

@@ -1,14 +1,15 @@
 -- What each way through the code of a call's learning says of its definition, with a ruleset for the needs of each function.
 --     working                        a gate worked on the shares
 --     Worked, Going_on               the gates up to the next that takes rounds
---     learning-one                   a wire of a party's inputs
+--     learning_one                   a wire of a party's inputs
 --     Learning, learning_own         all wires of a party's inputs
 --     Gathered, gathering            the wires of all parties' inputs
---     reading, reducing              the share of a product
+--     reducing                       the share of a product
 --     learning_mail, resuming        a step's mail, and where the work goes on
 --     learning                       a step
 -- Assumes nothing.
 use mathlib.Core.Path.{◌≡◌, refl, sym, ap, subst, ◌∙◌}
+use mathlib.Core.Logic.{◌⊎◌, inl, inr}
 use mathlib.Core.Bool.{Bool, true, false, cond}
 use mathlib.Core.List.{List, [], ◌∷◌, ◌++◌, flat_map}
 use Prim.Native.Nat.{ℕ, zero, suc, ◌+◌, ◌*◌, ◌<◌, ◌≤◌}
@@ -20,13 +21,12 @@ use lib.Dec.{leb}
 use mir.Syntax.{w64}
 use mir.Val.{Fits}
 use lib.ListN.{length, get_or, take, drop, set, drop_of_length-le}
-use lib.Seq.{length-take-le, take-take, drop-cons, drop-drop, get_or-drop, set-get_or}
+use lib.Seq.{take-take, drop-cons, drop-drop, get_or-drop, set-get_or}
 use Rattle.numbers.specs.Tables.{tab, count_where}
 use Rattle.numbers.specs.Bytes.{numbers, stored, all_below}
-use Rattle.numbers.proofs.Tables.{length-tab, get_or-tab, take-tab}
+use Rattle.numbers.proofs.Tables.{length-tab, get_or-tab, tab-ext}
 use Rattle.numbers.proofs.Bytes.{numbers-stored}
 use Rattle.numbers.proofs.Below.{all_below-set, all_below-tab, all_below-take}
-use Rattle.numbers.proofs.Fills.{Filled, filling, filled}
 use Rattle.field.specs.Mod.{add, mul}
 use Rattle.field.specs.Field.{Is, Ready}
 use Rattle.sharing_laws.specs.Interp.{weights, dot, interpolate}
@@ -49,7 +49,8 @@ use Rattle.plan.proofs.Valid.{valid, planned-ready, gate-kept, scale_constant, o
 use Rattle.plan_counts.specs.Counts.{IsGate, Stepped}
 use Rattle.plan_counts.proofs.Steps.{stepped-product}
 use Rattle.seat_learning.specs.Lent.{Holds, reduced_from}
-use Rattle.seat_messages.specs.Messages.{work_gate, work_from, set_all, wires_by_party, learnt, resume_at, learn_from}
+use Rattle.seat_results.proofs.ResultLaws.{shares_long}
+use Rattle.seat_messages.specs.Messages.{from_each, work_gate, work_from, set_all, wires_by_party, learnt, resume_at, learn_from}
 
 -- ---- a plan that passes
 module _ (bs : List ℕ) (h : Header) (k : Planned bs h) where
@@ -85,22 +86,20 @@ pub written_below : (p : ℕ) (s d : List ℕ) (i v : ℕ) → Ready p → all_b
 written_below p s d i v r h l e = (written_holds p s d (set (numbers s) i v) i v r h l e refl).below
 
 -- ---- a gate
+-- the gates that are no sum, multiple or offset leave the shares as they are
+work_none : (p g : ℕ) (gate : Gate) (xs : List ℕ) → ((a b : ℕ) → gate ≡ Add a b → ⊥) → ((a c : ℕ) → gate ≡ Scale a c → ⊥) → ((a c : ℕ) → gate ≡ Offset a c → ⊥) → work_gate p g gate xs ≡ xs
+unfolding work_gate
+work_none p g (Input s) xs add scale offset = refl
+work_none p g (Add a b) xs add scale offset = absurd (add a b refl)
+work_none p g (Scale a c) xs add scale offset = absurd (scale a c refl)
+work_none p g (Offset a c) xs add scale offset = absurd (offset a c refl)
+work_none p g (Multiply a b) xs add scale offset = refl
+work_none p g Random xs add scale offset = refl
+work_none p g (Spend a b) xs add scale offset = refl
+
 module _ (p g : ℕ) (gate : Gate) (xs : List ℕ) (r : ℕ) where
-  pub work_input : (s : ℕ) → gate ≡ Input s → r ≡ get_or xs g 0 → set xs g r ≡ work_gate p g gate xs
-  unfolding work_gate
-  work_input s e h = rw (e, h, set-get_or xs g 0)
-
-  pub work_multiply : (a b : ℕ) → gate ≡ Multiply a b → r ≡ get_or xs g 0 → set xs g r ≡ work_gate p g gate xs
-  unfolding work_gate
-  work_multiply a b e h = rw (e, h, set-get_or xs g 0)
-
-  pub work_random : gate ≡ Random → r ≡ get_or xs g 0 → set xs g r ≡ work_gate p g gate xs
-  unfolding work_gate
-  work_random e h = rw (e, h, set-get_or xs g 0)
-
-  pub work-spend : (a b : ℕ) → gate ≡ Spend a b → r ≡ get_or xs g 0 → set xs g r ≡ work_gate p g gate xs
-  unfolding work_gate
-  work-spend a b e h = rw (e, h, set-get_or xs g 0)
+  pub work_other : ((a b : ℕ) → gate ≡ Add a b → ⊥) → ((a c : ℕ) → gate ≡ Scale a c → ⊥) → ((a c : ℕ) → gate ≡ Offset a c → ⊥) → r ≡ get_or xs g 0 → set xs g r ≡ work_gate p g gate xs
+  work_other add scale offset h = rw (h, set-get_or xs g 0) (sym (work_none p g gate xs add scale offset))
 
   pub work-add : (a b x y : ℕ) → gate ≡ Add a b → x ≡ get_or xs a 0 → y ≡ get_or xs b 0 → r ≡ add p x y → set xs g r ≡ work_gate p g gate xs
   unfolding work_gate
@@ -114,7 +113,7 @@ module _ (p g : ℕ) (gate : Gate) (xs : List ℕ) (r : ℕ) where
   unfolding work_gate
   work_offset a c x e f q = rw (e, q, f)
 
-pub ruleset working = (rules, read_below, scale_constant, offset_constant, work_input, work_multiply, work_random, work-spend, work-add, work-scale, work_offset, written_holds)
+pub ruleset working = (rules, read_below, scale_constant, offset_constant, work_other, work-add, work-scale, work_offset, written_holds)
 
 -- ---- the gates up to the next that takes rounds
 -- the invariant at gate g: the shares are s, and were s₀; what is left to work gives what there is to work
@@ -124,8 +123,8 @@ pub record Worked (bs : List ℕ) (p from : ℕ) (s₀ s : List ℕ) (g : ℕ) :
   pub long : length s ≡ length s₀
 
 module _ (bs : List ℕ) (h : Header) (from : ℕ) (s₀ : List ℕ) where
-  pub work_none : all_below h.field.p (numbers s₀) ≡ true → Worked bs h.field.p from s₀ s₀ from
-  work_none b = record { rest = refl; below = b; long = refl }
+  pub work-begin : all_below h.field.p (numbers s₀) ≡ true → Worked bs h.field.p from s₀ s₀ from
+  work-begin b = record { rest = refl; below = b; long = refl }
 
   module _ (s : List ℕ) (g : ℕ) (w : Worked bs h.field.p from s₀ s g) (pl : Planned bs h) where
     pub work-end : h.gates ≤ g → Holds h.field.p (work_from h.field.p from (drop from (plan_of bs).gates) (numbers s₀)) s
@@ -141,7 +140,7 @@ module _ (bs : List ℕ) (h : Header) (from : ℕ) (s₀ : List ℕ) where
       unfolding work_from
       work-next d n k j = record { rest = rw (add-one, k.eq) (rw (gates_from bs h pl g l, ← e, ← m, n) at w.rest); below = k.below; long = j ∙ w.long }
 
-pub ruleset Going_on = (rules, planned-ready, gate-kept, work_none, work-end, work-stop, work-next)
+pub ruleset Going_on = (rules, planned-ready, gate-kept, work-begin, work-end, work-stop, work-next)
 
 -- ---- the wires of one party's inputs
 -- one gate
@@ -159,7 +158,7 @@ one-learnt i at gate t e y = rw (← e, y)
 pub none-learnt : (i at : ℕ) (gate : Gate) (t : Bool) → t ≡ is_input_of i gate → t ≡ false → at ≡ at + cond (is_input_of i gate) 1 0
 none-learnt i at gate t e n = rw (← e, n) (omega arith)
 
-pub ruleset learning-one = (rules, read_below, input-learnt, input_passed, one-learnt, none-learnt)
+pub ruleset learning_one = (rules, read_below, input-learnt, input_passed, one-learnt, none-learnt)
 
 set-cons : (xs ws vs : List ℕ) (g : ℕ) → set_all xs (g ∷ ws) vs ≡ set_all (set xs g (get_or vs 0 0)) ws (drop 1 vs)
 unfolding set_all
@@ -268,11 +267,10 @@ module _ (bs mail : List ℕ) (h : Header) (s₀ : List ℕ) where
 pub ruleset gathering = (rules, gather_none, gather_next, begin-small, gather-end)
 
 -- ---- the share of a product
--- an array is filled
-pub fifteen-filled : (f : ℕ → ℕ) (d₀ d : List ℕ) (j : ℕ) → length d₀ ≡ 15 → 15 ≤ j → Filled f d₀ d j → d ≡ tab f 15
-fifteen-filled f d₀ d j e l w = filled f d₀ d j (omega (arith, w.long)) w ∙ ap (tab f) e
-
-pub ruleset reading = (filling, fifteen-filled)
+-- of mail in which each party sent one number
+from_one : (n : ℕ) (vs : List ℕ) → from_each n 1 0 vs ≡ tab (λ j. get_or vs j 0) n
+unfolding from_each
+from_one n vs = tab-ext (λ i. get_or vs (1 * i + 0) 0) (λ j. get_or vs j 0) n (λ i l. let e : 1 * i + 0 ≡ i = omega arith in ap (λ (k : ℕ). get_or vs k 0) e)
 
 dot-nil : (p : ℕ) (ws : List ℕ) → dot p ws [] ≡ 0
 unfolding dot
@@ -304,12 +302,12 @@ module _ (bs : List ℕ) (h : Header) (k : Planned bs h) (two : 2 * h.t < h.n) w
   pub dealers_count : (xs : List ℕ) → take h.n xs ≡ (plan_of bs).points → length (take (h.t + h.t + 1) xs) ≡ h.t + h.t + 1
   dealers_count xs e = points-count bs h k xs e (h.t + h.t + 1) dealers_few
 
-  pub dealers_long : (f : ℕ → ℕ) (xs : List ℕ) → xs ≡ tab f 15 → length (take (h.t + h.t + 1) xs) ≡ h.t + h.t + 1
-  dealers_long f xs e = length-take-le (h.t + h.t + 1) xs (rw (e, length-tab) dealers_fifteen)
+  pub dealers_long : (xs mail : List ℕ) → take (h.t + h.t + 1) xs ≡ from_each (h.t + h.t + 1) 1 0 mail → length (take (h.t + h.t + 1) xs) ≡ h.t + h.t + 1
+  dealers_long xs mail e = ap length e ∙ shares_long (h.t + h.t + 1) 1 0 mail
 
-  module _ (points pieces mail : List ℕ) (e : take h.n points ≡ (plan_of bs).points) (q : pieces ≡ tab (λ j. get_or (numbers mail) j 0) 15) where
+  module _ (points pieces mail : List ℕ) (e : take h.n points ≡ (plan_of bs).points) (q : take (h.t + h.t + 1) pieces ≡ from_each (h.t + h.t + 1) 1 0 (numbers mail)) where
     taken : take (h.t + h.t + 1) pieces ≡ tab (λ j. get_or (numbers mail) j 0) (h.t + h.t + 1)
-    taken = rw (q, take-tab (λ j. get_or (numbers mail) j 0) 15 (h.t + h.t + 1) dealers_fifteen)
+    taken = q ∙ from_one (h.t + h.t + 1) (numbers mail)
 
     dealt : take (h.t + h.t + 1) points ≡ dealer_points (plan_of bs)
     unfolding dealer_points
@@ -317,12 +315,11 @@ module _ (bs : List ℕ) (h : Header) (k : Planned bs h) (two : 2 * h.t < h.n) w
 
     pub pieces-openable : all_below h.field.p (numbers mail) ≡ true → Openable h.field.p (h.t + h.t) (take (h.t + h.t + 1) points) (take (h.t + h.t + 1) pieces)
     pieces-openable b = record {
-      ready = planned-ready bs h k;
       elements = rw (points-part bs h k points e (h.t + h.t + 1) dealers_few) (all_below-take h.field.p (h.t + h.t + 1) (plan_of bs).points (plan_points_below bs h k));
       known = rw taken (all_below-tab h.field.p (λ j. get_or (numbers mail) j 0) (h.t + h.t + 1) (λ j l. entry_below h.field.p (numbers mail) j (planned-ready bs h k) b));
       threshold = omega (arith, dealers_count points e);
       few = omega (arith, dealers_count points e, dealers_fifteen);
-      each = dealers_long (λ j. get_or (numbers mail) j 0) pieces q ∙ sym (dealers_count points e);
+      each = dealers_long pieces (numbers mail) q ∙ sym (dealers_count points e);
     }
 
     same-opening : opened h.field.p (h.t + h.t) (take (h.t + h.t + 1) points) (take (h.t + h.t + 1) pieces) ≡ reduced_from (plan_of bs) (numbers mail)
@@ -353,8 +350,17 @@ module _ (bs : List ℕ) (h : Header) (k : Planned bs h) where
 pub ruleset reducing = (rules, dealers_within, dealers_long, dealers_count, pieces-openable, reduced-is, product-set)
 
 -- ---- a step's mail
-closed : {A : Type 0} (plan : Plan) (s r : Step) → Stepped plan s → s ≡ r → (Stepped plan r → ⊥) → A
-closed plan s r i e none = absurd (none (subst (Stepped plan) e i))
+-- a plan file's other steps teach nothing
+learnt_none : (plan : Plan) (step : Step) (xs mail : List ℕ) → Stepped plan step → (step ≡ DealInputs → ⊥) → ((g a b : ℕ) → step ≡ DealProduct g a b → ⊥) → learnt plan step [] xs mail ≡ xs
+unfolding learnt Stepped
+learnt_none plan DealInputs xs mail is inputs product = absurd (inputs refl)
+learnt_none plan (DealProduct g a b) xs mail is inputs product = absurd (product g a b refl)
+learnt_none plan (DealZero g) xs mail is inputs product = refl
+learnt_none plan (DealMasked g a b) xs mail is inputs product = refl
+learnt_none plan (SendTruncated g) xs mail is inputs product = absurd is
+learnt_none plan (DealDraws g) xs mail is inputs product = absurd is
+learnt_none plan (OpenSpent g a b) xs mail is inputs product = absurd is
+learnt_none plan SendOuts xs mail is inputs product = refl
 
 module _ (plan : Plan) (p : ℕ) (step : Step) (xs mail d : List ℕ) where
   pub learnt_inputs : step ≡ DealInputs → Holds p (set_all xs (wires_by_party plan) mail) d → Holds p (learnt plan step [] xs mail) d
@@ -365,32 +371,11 @@ module _ (plan : Plan) (p : ℕ) (step : Step) (xs mail d : List ℕ) where
   unfolding learnt reduced_from
   learnt-product g a b e k = rw e k
 
-module _ (plan : Plan) (p : ℕ) (step : Step) (i : Stepped plan step) (mail s : List ℕ) (b : all_below p (numbers s) ≡ true) where
-  pub learnt-zero : (g : ℕ) → step ≡ DealZero g → Holds p (learnt plan step [] (numbers s) mail) s
-  unfolding Stepped
-  learnt-zero g e = closed plan step (DealZero g) i e (λ w. w)
+pub learnt_other : (plan : Plan) (p : ℕ) (step : Step) (mail s : List ℕ) → all_below p (numbers s) ≡ true → Stepped plan step → (step ≡ DealInputs → ⊥) → ((g a b : ℕ) → step ≡ DealProduct g a b → ⊥)
+    → Holds p (learnt plan step [] (numbers s) mail) s
+learnt_other plan p step mail s b is inputs product = record { eq = sym (learnt_none plan step (numbers s) mail is inputs product); below = b }
 
-  pub learnt_masked : (g a c : ℕ) → step ≡ DealMasked g a c → Holds p (learnt plan step [] (numbers s) mail) s
-  unfolding Stepped
-  learnt_masked g a c e = closed plan step (DealMasked g a c) i e (λ w. w)
-
-  pub learnt_truncated : (g : ℕ) → step ≡ SendTruncated g → Holds p (learnt plan step [] (numbers s) mail) s
-  unfolding Stepped
-  learnt_truncated g e = closed plan step (SendTruncated g) i e (λ w. w)
-
-  pub learnt_draws : (g : ℕ) → step ≡ DealDraws g → Holds p (learnt plan step [] (numbers s) mail) s
-  unfolding Stepped
-  learnt_draws g e = closed plan step (DealDraws g) i e (λ w. w)
-
-  pub learnt_spent : (g a c : ℕ) → step ≡ OpenSpent g a c → Holds p (learnt plan step [] (numbers s) mail) s
-  unfolding Stepped
-  learnt_spent g a c e = closed plan step (OpenSpent g a c) i e (λ w. w)
-
-  pub learnt_outs : step ≡ SendOuts → Holds p (learnt plan step [] (numbers s) mail) s
-  unfolding learnt
-  learnt_outs e = record { eq = rw e; below = b }
-
-pub ruleset learning_mail = (rules, product_majority, learnt_inputs, learnt-product, learnt-zero, learnt_masked, learnt_truncated, learnt_draws, learnt_spent, learnt_outs)
+pub ruleset learning_mail = (rules, product_majority, learnt_inputs, learnt-product, learnt_other)
 
 -- ---- where the work goes on
 module _ (plan : Plan) (step : Step) where
@@ -427,23 +412,17 @@ module _ (bs : List ℕ) (h : Header) (k : Planned bs h) (step : Step) where
   unfolding resume_at
   resume_outs e = rw (e, plan_gates k)
 
-  module _ (i : Stepped (plan_of bs) step) where
-    pub product_fits : (g a b : ℕ) → step ≡ DealProduct g a b → Fits w64 (g + 1)
-    product_fits g a b e = record { fits = omega (arith, (stepped-product (plan_of bs) step g a b i e).within, plan_gates k, k.gates-high) }
+  -- past the gate of a step that makes a share known; a plan file has only products
+  pub past_fits : Stepped (plan_of bs) step → (g : ℕ)
+      → ((a : ℕ) × (b : ℕ) × step ≡ DealProduct g a b) ⊎ (step ≡ SendTruncated g ⊎ (step ≡ DealDraws g ⊎ ((a : ℕ) × (b : ℕ) × step ≡ OpenSpent g a b)))
+      → Fits w64 (g + 1)
+  unfolding Stepped
+  past_fits i g (inl (a, b, e)) = record { fits = omega (arith, (stepped-product (plan_of bs) step g a b i e).within, plan_gates k, k.gates-high) }
+  past_fits i g (inr (inl e)) = absurd (subst (Stepped (plan_of bs)) e i)
+  past_fits i g (inr (inr (inl e))) = absurd (subst (Stepped (plan_of bs)) e i)
+  past_fits i g (inr (inr (inr (a, b, e)))) = absurd (subst (Stepped (plan_of bs)) e i)
 
-    pub truncated-fits : (g : ℕ) → step ≡ SendTruncated g → Fits w64 (g + 1)
-    unfolding Stepped
-    truncated-fits g e = closed (plan_of bs) step (SendTruncated g) i e (λ w. w)
-
-    pub draws-fits : (g : ℕ) → step ≡ DealDraws g → Fits w64 (g + 1)
-    unfolding Stepped
-    draws-fits g e = closed (plan_of bs) step (DealDraws g) i e (λ w. w)
-
-    pub spent_fits : (g a b : ℕ) → step ≡ OpenSpent g a b → Fits w64 (g + 1)
-    unfolding Stepped
-    spent_fits g a b e = closed (plan_of bs) step (OpenSpent g a b) i e (λ w. w)
-
-pub ruleset resuming = (rules, resume_inputs, resume-product, resume-zero, resume_masked, resume_truncated, resume_draws, resume_spent, resume_outs, product_fits, truncated-fits, draws-fits, spent_fits)
+pub ruleset resuming = (rules, resume_inputs, resume-product, resume-zero, resume_masked, resume_truncated, resume_draws, resume_spent, resume_outs, past_fits)
 
 -- ---- a step
 pub learnt_worked : (bs : List ℕ) (h : Header) (step : Step) (from : ℕ) (mail s d e : List ℕ) → Planned bs h → from ≡ resume_at (plan_of bs) step

@@ -1,11 +1,10 @@
 -- A seat's call as its caller sees it: the first refusal or none, and both lent buffers afterwards.
-use Rattle.std.specs.Prelude.{ℕ, zero, suc, ◌+◌, ◌*◌, Bool, true, false, cond, not, ◌&&◌, eqb, leb, ltb, length, drop, get_or}
+use Rattle.std.specs.Prelude.{Ok, Err, ℕ, suc, ◌+◌, ◌*◌, cond, not, ◌&&◌, eqb, leb, length, drop, get_or}
 use mathlib.Core.List.{List, [], ◌∷◌, ◌++◌, flat_map}
 use Rattle.numbers.specs.Tables.{tab}
 use Rattle.numbers.specs.Bytes.{width, numbers, bytes_of, holds_count, first_over, all_below}
 use Rattle.sharing_laws.specs.Sharing.{first_off}
-use Rattle.plan.specs.declared.Checked.{Checked}
-use Rattle.plan.specs.declared.Checked.TheVariants.{Passed, Refused}
+use Rattle.plan.specs.Refusals.{Checked}
 use Rattle.plan.specs.declared.Refusal.TheVariants as refusal
 use Rattle.plan.specs.Refusals.{first_of, need, unless_found}
 use Rattle.plan.specs.Plans.{Plan, party_count, own_input_count, own_coin_count, own_out_count, last_call, mail_count, written_count}
@@ -25,7 +24,7 @@ outs_check plan i mail =
 
 -- refusal 20 of call k
 unfoldable pub opening_check : Plan → ℕ → ℕ → List ℕ → Checked
-opening_check plan i k mail = cond (eqb k (last_call plan)) (outs_check plan i mail) Passed
+opening_check plan i k mail = cond (eqb k (last_call plan)) (outs_check plan i mail) (Ok tt)
 
 -- refusals 9 to 20 of party i's call; the lists are lent as bytes, and `room` is the length of the buffer to be written
 unfoldable pub party_checks : Plan → ℕ → List ℕ → List ℕ → List ℕ → List ℕ → ℕ → List Checked
@@ -58,8 +57,8 @@ written plan k c = cond (eqb k (last_call plan)) c.results (flat_map (λ l. l) c
 
 -- a buffer after a call: rewritten where nothing was refused, else as it was
 unfoldable pub unless_refused : Checked → List ℕ → List ℕ → List ℕ
-unless_refused Passed new old = new
-unless_refused (Refused r) new old = old
+unless_refused (Ok tt) new old = new
+unless_refused (Err r) new old = old
 
 -- the call on the lists that are lent; a plan file has no gate that spends a triple
 unfoldable pub called_on : List ℕ → ℕ → List ℕ → List ℕ → List ℕ → List ℕ → Called

@@ -1,4 +1,4 @@
--- One party's call (document 01, "Rounds and calls"), step by step: what it learns from its mail, works on its shares, and sends.
+-- One party's call, step by step: what it learns from its mail, works on its shares, and sends.
 use Rattle.std.specs.Prelude.{ℕ, zero, suc, ◌+◌, ◌*◌, cond, eqb, leb, ltb, length, drop, get_or, set}
 use mathlib.Core.List.{List, [], ◌∷◌, map, flat_map}
 use Rattle.numbers.specs.Tables.{tab}

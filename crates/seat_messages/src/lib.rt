@@ -1,23 +1,27 @@
-// The points of the parties.
+// What a party's call is lent to read, and the points of the parties.
 #![tactic(auto)]
 
 ghost use Rattle.std.specs.Prelude.{◌≡◌, take};
 ghost use Rattle.plan.specs.File.{plan_of};
-ghost use Rattle.plan.specs.Planned.{Planned};
 
-use plan::Header;
+use plan::PlanFile;
+
+// The lists of numbers that a party's call reads beside its plan and its state: its own inputs and coins, and its mail.
+#[derive(Clone, Copy)]
+pub struct Lists<'a> {
+    pub inputs: &'a [u8],
+    pub coins: &'a [u8],
+    pub mail: &'a [u8],
+}
 
 // The points of a plan's parties, n of them; what stands after them plays no part.
-pub fn points_of(plan: &[u8], h: Header) -> [u64; 15]
-    requires { Planned plan.now h }
-    ensures { take h.n result ≡ (plan_of plan.now).points }
+#[tactic(auto, using(crate::proofs::PointLaws::pointing))]
+pub fn points_of(plan: &PlanFile) -> [u64; 15]
+    ensures { take plan.now.header.n result ≡ (plan_of plan.now.bytes.now).points }
 {
-    let n = h.n;
     let mut points = [0u64; 15];
-    let mut i: usize = 0;
-    while i < n {
-        points[i] = plan::point_at(plan, i);
-        i += 1;
+    for i in 0..plan.header.n {
+        points[i] = plan::point_at(plan.bytes, i);
     }
     points
 }

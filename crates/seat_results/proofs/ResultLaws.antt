@@ -1,12 +1,12 @@
 -- Laws of the results: the openings of a party's own outs.
 --     copying      the loop that copies the shares of an out
---     opening-one  the opening of an out
+--     opening_one  the opening of an out
 --     opening_all  the loop over the outs
 -- Assumes nothing.
 use mathlib.Core.Path.{◌≡◌, refl, sym, ap, ap₂, ◌∙◌}
 use mathlib.Core.Bool.{true}
 use mathlib.Core.List.{List, ◌++◌}
-use Prim.Native.Nat.{ℕ, suc, ◌+◌, ◌*◌, ◌/◌, ◌^◌, ◌<◌, ◌≤◌}
+use Prim.Native.Nat.{ℕ, ◌+◌, ◌*◌, ◌/◌, ◌^◌, ◌<◌, ◌≤◌}
 use native.Mathlib.Nat.{mul-le-mul}
 use native.Mathlib.Numerals.{add-one}
 use native.Mathlib.Omega.{arith}
@@ -84,8 +84,8 @@ module _ (h : Header) (ws mail : List ℕ) (o : Openings h ws mail) (own j : ℕ
   pub front_long : length (take h.n d) ≡ h.n
   front_long = ap length e ∙ shares_long h.n own j (numbers mail)
 
-  pub front_below : all_below h.field.p (take h.n d) ≡ true
-  front_below = rw e (shares_below h.field.p h.n own j (numbers mail) o.ready o.mail_below)
+  pub front_below : Ready h.field.p → all_below h.field.p (take h.n d) ≡ true
+  front_below r = rw e (shares_below h.field.p h.n own j (numbers mail) r o.mail_below)
 
   pub front_room : length ws ≤ length (take h.n d)
   front_room = omega (arith, front_long, o.short)
@@ -96,7 +96,7 @@ module _ (h : Header) (ws mail : List ℕ) (o : Openings h ws mail) (own j : ℕ
   pub opening-is : (v : ℕ) → Is h.field.p (dot h.field.p ws (take h.n d)) v → Is h.field.p (dot h.field.p ws (from_each h.n own j (numbers mail))) v
   opening-is v is = record { eq = is.eq ∙ ap (dot h.field.p ws) e; lt = is.lt }
 
-pub ruleset opening-one = (rules, front_long, front_below, front_room, front_few, opening-is)
+pub ruleset opening_one = (rules, front_long, front_below, front_room, front_few, opening-is)
 
 -- ---- the openings
 -- the invariant: the first j of the own outs are opened
@@ -163,7 +163,6 @@ module _ (bs : List ℕ) (h : Header) (w : Planned bs h) (pts : List ℕ) (e : t
 
     pub weights-open : (mail : List ℕ) → all_below (plan_of bs).p (numbers mail) ≡ true → Openings h (take (h.t + 1) (ys ++ drop (h.t + 1) d)) mail
     weights-open mail m = record {
-      ready = planned-ready _ _ w;
       few = w.n-high;
       short = omega (arith, weights-long, w.threshold);
       weights_below = rw (front, is) (weights_below (planned-ready _ _ w).prime 0 (take (h.t + 1) pts));
@@ -179,4 +178,4 @@ module _ (bs : List ℕ) (h : Header) (w : Planned bs h) (pts : List ℕ) (e : t
         (ap (λ (n : ℕ). tab (λ j. dot (plan_of bs).p (weights (plan_of bs).p 0 (take ((plan_of bs).t + 1) (plan_of bs).points)) (from_each n own j mail)) own) (plan_n w)
         ∙ ap₂ (λ (p t : ℕ). tab (λ j. dot p (weights p 0 (take (t + 1) (plan_of bs).points)) (from_each h.n own j mail)) own) (plan_p w) (plan_t w))
 
-pub ruleset resulting = (rules, planned-ready, firsts_in, firsts_long, firsts_below, zero_below, room_long, room_sized, weights-in, weights-long, weights-open, results-are)
+pub ruleset resulting = (rules, firsts_in, firsts_long, firsts_below, zero_below, room_long, room_sized, weights-in, weights-long, weights-open, results-are)

@@ -3,14 +3,12 @@ use Rattle.std.specs.Prelude.{◌≡◌, true, List, ℕ, ◌≤◌, length}
 use Rattle.numbers.specs.Tables.{tab}
 use Rattle.numbers.specs.Bytes.{numbers, all_below}
 use Rattle.sharing_laws.specs.Interp.{dot}
-use Rattle.field.specs.Field.{Ready}
 use Rattle.plan.specs.declared.Header.{Header}
 use Rattle.plan.specs.Plans.{Plan}
 use Rattle.seat_messages.specs.Messages.{from_each, opened_at}
 
 -- what the openings of a party's own outs take: the weights of at most n points, and the mail
 pub record Openings (h : Header) (weights mail : List ℕ) : Type 0 where
-  pub ready : Ready h.field.p
   pub few : h.n ≤ 15
   pub short : length weights ≤ h.n
   pub weights_below : all_below h.field.p weights ≡ true

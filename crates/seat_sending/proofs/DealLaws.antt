@@ -4,8 +4,8 @@
 -- Assumes nothing.
 use mathlib.Core.Path.{◌≡◌, sym, ap, ◌∙◌}
 use mathlib.Core.Bool.{true}
-use mathlib.Core.List.{List, [], ◌∷◌}
-use Prim.Native.Nat.{ℕ, ◌+◌, ◌-◌, ◌<◌, ◌≤◌}
+use mathlib.Core.List.{List, ◌∷◌}
+use Prim.Native.Nat.{ℕ, ◌+◌, ◌<◌, ◌≤◌}
 use native.Mathlib.Numerals.{add-one}
 use native.Mathlib.Omega.{arith}
 use borrow.Author.Rules.{rules}
@@ -58,9 +58,9 @@ coins_from_below p t at cs r h =
     let m : i < t = omega (arith, length-coins_from t at cs) in
     rw (get_or-tab (λ j. get_or cs (at + j) 0) t i 0 m) (entry_below p cs (at + i) r h))
 
-pub dealing_below : (p t s : ℕ) (cs : List ℕ) (at : ℕ) → Dealing p t s cs at → (f : List ℕ) → f ≡ s ∷ coins_from t at cs → all_below p f ≡ true
+pub dealing_below : (p t s : ℕ) (cs : List ℕ) (at : ℕ) → Ready p → Dealing p t s cs at → (f : List ℕ) → f ≡ s ∷ coins_from t at cs → all_below p f ≡ true
 unfolding all_below
-dealing_below p t s cs at d f e = rw (e, lt-ltb s p d.secret) (coins_from_below p t at cs d.ready d.coins)
+dealing_below p t s cs at r d f e = rw (e, lt-ltb s p d.secret) (coins_from_below p t at cs r d.coins)
 
 -- the coefficients as the code has them
 module _ (t s : ℕ) (cs : List ℕ) (at : ℕ) (d : List ℕ) (e : take (t + 1) d ≡ s ∷ coins_from t at cs) where

@@ -17,7 +17,7 @@ use Rattle.numbers.specs.Tables.{tab, count_where}
 use Rattle.numbers.specs.Bytes.{width, numbers, stored}
 use Rattle.field.specs.Field.{Is, Ready}
 use Rattle.numbers.proofs.Bytes.{numbers-length}
-use Rattle.numbers.proofs.Tables.{is-tab, tab-map}
+use Rattle.numbers.proofs.Tables.{list-tab, tab-map}
 use Rattle.numbers.proofs.Below.{all_below_at}
 use Rattle.numbers.proofs.Counts.{count_where-le-length}
 use Rattle.sharing_laws.specs.Poly.{eval}
@@ -26,17 +26,17 @@ use Rattle.plan.specs.declared.Gate.{Gate}
 use Rattle.plan.specs.declared.Gate.TheVariants.{Input}
 use Rattle.plan.specs.declared.Step.TheVariants.{DealInputs}
 use Rattle.plan.specs.declared.Header.{Header}
-use Rattle.plan.specs.Plans.{Plan, is_input_of, wires_from, input_wires, input_owners_at, coin_owners_at, input_at, coins_at, own_coin_count, sent_by}
+use Rattle.plan.specs.Plans.{Plan, party_count, is_input_of, wires_from, input_wires, input_owners_at, coin_owners_at, input_at, coins_at, own_coin_count, sent_by}
 use Rattle.plan.specs.File.{gate_at, plan_of}
 use Rattle.plan.specs.Planned.{Planned}
 use Rattle.plan.proofs.Wires.{length_wires, length-input_wires}
-use Rattle.plan.proofs.Planned.{plan_t, plan_p, plan_n, plan_gates, plan_gate}
+use Rattle.plan.proofs.Planned.{plan_t, plan_p, plan_gates, plan_gate}
 use Rattle.plan.proofs.Valid.{plain, planned-ready}
 use Rattle.plan.proofs.Counts.{plain-own-inputs-below}
 use Rattle.plan_counts.specs.Counts.{IsGate}
 use Rattle.plan_counts.proofs.Counts.{Coining, coin-none, coin-next, coin-few, input_coins, coins_there}
 use Rattle.seat_messages.specs.Messages.{deal_to, send_at}
-use Rattle.seat_messages.proofs.PointLaws.{plan_points_long, plan_points_below, points-within, points-at}
+use Rattle.seat_messages.proofs.PointLaws.{plan_points_below, points-within, points-count}
 use Rattle.seat_sending.specs.Sending.{Sent, Dealing, Own, coins_from, input_shares}
 use Rattle.seat_sending.proofs.SendLaws.{sent-none, sent_more, sent_unless, sent_where, flat, Rows, rows_none, rows_next, rows_all, rows-length, cond-cons, one_long}
 use Rattle.seat_sending.proofs.DealLaws.{coins_from_part}
@@ -190,7 +190,6 @@ module _ (bs : List ℕ) (i : ℕ) (inputs coins : List ℕ) (x at : ℕ) where
 
     pub inputs-dealing : (s : ℕ) → s ≡ get_or (numbers inputs) (place - at) 0 → Dealing h.field.p h.t s (numbers coins) k
     inputs-dealing s es = record {
-      ready = planned-ready _ _ w;
       few = omega (arith, w.threshold, w.n-high);
       near = omega (arith, inputs-near);
       secret = rw es (entry_below h.field.p (numbers inputs) (place - at) (planned-ready _ _ w) (rw (← plan_p w) own.inputs_below));
@@ -204,21 +203,14 @@ module _ (bs : List ℕ) (i : ℕ) (inputs coins : List ℕ) (x at : ℕ) where
 
 pub ruleset inputting = (rules, inputs-none, inputs_next, inputs-dealing, inputs-near, inputs_done)
 
--- ---- the loop over the receiving parties
-module _ (bs : List ℕ) (h : Header) (w : Planned bs h) (pts : List ℕ) (e : take h.n pts ≡ (plan_of bs).points) where
-  pub point_within : (j : ℕ) → j < h.n → j < length pts
-  point_within j l = points-within bs h w pts e (suc j) l
+-- ---- the loop over the receiving parties, by their points
+-- what is sent to each point
+pub by_points : {B : Type 0} (row : ℕ → B) (xs : List ℕ) → map row xs ≡ tab (λ j. row (get_or xs j 0)) (length xs)
+by_points row xs = ap (map row) (list-tab xs 0) ∙ tab-map row (λ j. get_or xs j 0) (length xs)
 
-  pub point_below : (j : ℕ) → j < h.n → get_or pts j 0 < h.field.p
-  point_below j l =
-      rw (points-at bs h w pts e j l)
-      (all_below_at h.field.p (plan_of bs).points j (plan_points_below bs h w) (rw (plan_points_long bs h w) l))
-
-  -- what is sent to each point
-  pub by_points : {B : Type 0} (row : ℕ → B) → map row (plan_of bs).points ≡ tab (λ j. row (get_or pts j 0)) h.n
-  by_points row =
-      ap (map row) (is-tab (λ j. get_or pts j 0) h.n (plan_of bs).points 0 (plan_points_long bs h w) (λ j l. sym (points-at bs h w pts e j l)))
-      ∙ tab-map row (λ j. get_or pts j 0) h.n
+module _ (bs : List ℕ) (h : Header) (w : Planned bs h) (xs : List ℕ) (e : xs ≡ (plan_of bs).points) where
+  pub point_below : (j : ℕ) → j < length xs → get_or xs j 0 < h.field.p
+  point_below j l = all_below_at h.field.p xs j (rw e (plan_points_below bs h w)) l
 
   module _ (i : ℕ) (inputs coins : List ℕ) where
     inputs_long : (x : ℕ) → length (input_shares (plan_of bs) i (input_wires (plan_of bs) i) inputs coins x) ≡ length (input_wires (plan_of bs) i)
@@ -227,14 +219,14 @@ module _ (bs : List ℕ) (h : Header) (w : Planned bs h) (pts : List ℕ) (e : t
     pub inputs_few : (x : ℕ) → length (input_shares (plan_of bs) i (input_wires (plan_of bs) i) inputs coins x) ≤ 1024
     inputs_few x = omega (arith, inputs_long x, length-input_wires (plan_of bs) i, count_where-le-length (is_input_of i) (plan_of bs).gates, plan_gates w, w.gates-high)
 
-    pub inputs-sent : (d₀ d : List ℕ) (at j : ℕ) → Rows (λ j. input_shares (plan_of bs) i (input_wires (plan_of bs) i) inputs coins (get_or pts j 0)) 1024 h.n d₀ d at j → h.n ≤ j
+    pub inputs-sent : (d₀ d : List ℕ) (at j : ℕ) → Rows (λ j. input_shares (plan_of bs) i (input_wires (plan_of bs) i) inputs coins (get_or xs j 0)) 1024 (length xs) d₀ d at j → length xs ≤ j
         → length d₀ ≡ width * sent_by (plan_of bs) i DealInputs
         → numbers d ≡ flat_map (λ l. l) (send_at (plan_of bs) i DealInputs inputs coins [] [] [])
-    unfolding sent_by send_at deal_to input_shares
+    unfolding sent_by send_at deal_to input_shares party_count
     inputs-sent d₀ d at j r l q =
         let row : ℕ → List ℕ = λ x. input_shares (plan_of bs) i (input_wires (plan_of bs) i) inputs coins x in
-        let k : length (flat (tab (λ j. row (get_or pts j 0)) h.n)) ≡ h.n * length (input_wires (plan_of bs) i)
-        = rows-length (λ j. row (get_or pts j 0)) (length (input_wires (plan_of bs) i)) h.n (λ j. inputs_long (get_or pts j 0)) in
-        rows_all (λ j. row (get_or pts j 0)) 1024 h.n d₀ d at j r l (q ∙ rw (plan_n w, k)) ∙ sym (ap flat (by_points row))
+        let k : length (flat (tab (λ j. row (get_or xs j 0)) (length xs))) ≡ length xs * length (input_wires (plan_of bs) i)
+        = rows-length (λ j. row (get_or xs j 0)) (length (input_wires (plan_of bs) i)) (length xs) (λ j. inputs_long (get_or xs j 0)) in
+        rows_all (λ j. row (get_or xs j 0)) 1024 (length xs) d₀ d at j r l (q ∙ rw (k, e)) ∙ ap flat (sym (by_points row xs) ∙ ap (map row) e)
 
-pub ruleset receiving = (rules, point_within, point_below, inputs_few, rows_none, rows_next, inputs-sent)
+pub ruleset receiving = (rules, points-within, points-count, point_below, inputs_few, rows_none, rows_next, inputs-sent)

@@ -2,7 +2,7 @@
 --     stepping     what closes the needs of `send_step`
 --     calling      what closes the needs of `send`
 -- Assumes nothing.
-use mathlib.Core.Path.{◌≡◌, sym, ap, subst, ◌∙◌}
+use mathlib.Core.Path.{◌≡◌, refl, sym, ap, ◌∙◌}
 use mathlib.Core.List.{List, [], flat_map}
 use Prim.Native.Nat.{ℕ, ◌*◌, ◌/◌, ◌<◌, ◌≤◌}
 use native.Mathlib.Omega.{arith}
@@ -26,6 +26,17 @@ use Rattle.seat_results.specs.Opened.{opened_outs}
 use Rattle.seat_sending.specs.Sending.{Coined, Sendable, Lent}
 
 -- ---- a step
+no-other : (plan : Plan) (step : Step) → Stepped plan step → (step ≡ DealInputs → ⊥) → ((g a b : ℕ) → step ≡ DealProduct g a b → ⊥) → (step ≡ SendOuts → ⊥) → ⊥
+unfolding Stepped
+no-other plan DealInputs is inputs product outs = inputs refl
+no-other plan (DealProduct g a b) is inputs product outs = product g a b refl
+no-other plan (DealZero g) is inputs product outs = is
+no-other plan (DealMasked g a b) is inputs product outs = is
+no-other plan (SendTruncated g) is inputs product outs = is
+no-other plan (DealDraws g) is inputs product outs = is
+no-other plan (OpenSpent g a b) is inputs product outs = is
+no-other plan SendOuts is inputs product outs = outs refl
+
 module _ (plan : Plan) (i : ℕ) (step : Step) (inputs coins shares mail xs : List ℕ) where
   pub sent-inputs : step ≡ DealInputs → xs ≡ flat_map (λ l. l) (send_at plan i DealInputs inputs coins [] [] []) → xs ≡ flat_map (λ l. l) (send_at plan i step inputs coins [] shares mail)
   unfolding send_at
@@ -41,26 +52,9 @@ module _ (plan : Plan) (i : ℕ) (step : Step) (inputs coins shares mail xs : Li
   sent-outs e q = rw e q
 
   -- a plan file has no other steps
-  module _ (is : Stepped plan step) where
-    pub sent-zero : (g : ℕ) → step ≡ DealZero g → xs ≡ flat_map (λ l. l) (send_at plan i step inputs coins [] shares mail)
-    unfolding Stepped
-    sent-zero g e = absurd (subst (Stepped plan) e is)
-
-    pub sent-masked : (g a b : ℕ) → step ≡ DealMasked g a b → xs ≡ flat_map (λ l. l) (send_at plan i step inputs coins [] shares mail)
-    unfolding Stepped
-    sent-masked g a b e = absurd (subst (Stepped plan) e is)
-
-    pub sent-truncated : (g : ℕ) → step ≡ SendTruncated g → xs ≡ flat_map (λ l. l) (send_at plan i step inputs coins [] shares mail)
-    unfolding Stepped
-    sent-truncated g e = absurd (subst (Stepped plan) e is)
-
-    pub sent-draws : (g : ℕ) → step ≡ DealDraws g → xs ≡ flat_map (λ l. l) (send_at plan i step inputs coins [] shares mail)
-    unfolding Stepped
-    sent-draws g e = absurd (subst (Stepped plan) e is)
-
-    pub sent-spent : (g a b : ℕ) → step ≡ OpenSpent g a b → xs ≡ flat_map (λ l. l) (send_at plan i step inputs coins [] shares mail)
-    unfolding Stepped
-    sent-spent g a b e = absurd (subst (Stepped plan) e is)
+  pub sent-other : Stepped plan step → (step ≡ DealInputs → ⊥) → ((g a b : ℕ) → step ≡ DealProduct g a b → ⊥) → (step ≡ SendOuts → ⊥)
+      → xs ≡ flat_map (λ l. l) (send_at plan i step inputs coins [] shares mail)
+  sent-other is inputs product outs = absurd (no-other plan step is inputs product outs)
 
 -- what the parts take
 module _ (plan : Plan) (i : ℕ) (step : Step) (inputs coins shares out : List ℕ) (s : Sendable plan i step inputs coins shares out) where
@@ -79,7 +73,7 @@ unfolding sent_by
 room_outs bs h i step inputs coins shares out w s e = s.room ∙ ap (λ (r : Step). width * sent_by (plan_of bs) i r) e ∙ rw (plan_outs w)
 
 pub ruleset stepping =
-    (rules, stepped-product, step-coins, room-inputs, room-product, room_outs, sent-inputs, sent-product, sent-outs, sent-zero, sent-masked, sent-truncated, sent-draws, sent-spent)
+    (rules, stepped-product, step-coins, room-inputs, room-product, room_outs, sent-inputs, sent-product, sent-outs, sent-other)
 
 -- ---- a call
 module _ (bs : List ℕ) (h : Header) (w : Planned bs h) (i k : ℕ) (inputs coins shares mail out : List ℕ) (l : Lent (plan_of bs) i k inputs coins shares mail out) (last : ℕ) (is : last ≡ last_call (plan_of bs)) where

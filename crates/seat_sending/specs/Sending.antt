@@ -4,7 +4,6 @@ use Rattle.std.proofs.lemmas.List.Edits.{sets}
 use Rattle.numbers.specs.Tables.{tab}
 use Rattle.numbers.specs.Bytes.{width, numbers, all_below}
 use Rattle.sharing_laws.specs.Poly.{eval}
-use Rattle.field.specs.Field.{Ready}
 use Rattle.plan.specs.declared.Step.{Step}
 use Rattle.plan.specs.Plans.{Plan, input_at, coins_at, last_call, own_coin_count, sent_by, written_count}
 
@@ -20,7 +19,6 @@ coins_from t at own = tab (λ j. get_or own (at + j) 0) t
 
 -- what a dealing of s takes: its coins are t of the list cs from place `at` on
 pub record Dealing (p t s : ℕ) (cs : List ℕ) (at : ℕ) : Type 0 where
-  pub ready : Ready p
   pub few : t ≤ 14
   pub near : at ≤ 65536
   pub secret : s < p

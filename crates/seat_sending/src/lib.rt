@@ -5,155 +5,145 @@ ghost use Rattle.std.specs.Prelude.{◌≡◌, true, cond, ◌+◌, ◌*◌, ◌
 ghost use mathlib.Core.List.{[], ◌∷◌, flat_map};
 ghost use Rattle.numbers.specs.Bytes.{width, numbers, all_below};
 ghost use Rattle.field.specs.Mod.{mul};
-ghost use Rattle.field.specs.Field.{Is, Ready};
+ghost use Rattle.field.specs.Field.{Is};
 ghost use Rattle.sharing_laws.specs.Poly.{eval};
 ghost use Rattle.sharing_laws.specs.Sharing.{deal};
 ghost use Rattle.plan.specs.declared.Gate.TheVariants.{Multiply};
 ghost use Rattle.plan.specs.declared.Step.TheVariants.{DealInputs, DealProduct, SendOuts};
-ghost use Rattle.plan.specs.Plans.{is_input_of, input_wires, out_wires, last_call, sent_by};
+ghost use Rattle.plan.specs.Plans.{is_input_of, input_wires, out_wires, sent_by};
 ghost use Rattle.plan.specs.File.{plan_of};
-ghost use Rattle.plan.specs.Planned.{Planned};
 ghost use Rattle.seat_messages.specs.Calls.{written};
 ghost use Rattle.plan_counts.specs.Counts.{IsGate, Stepped};
 ghost use Rattle.seat_messages.specs.Messages.{call_with, send_at};
 ghost use Rattle.seat_sending.specs.Sending.{Sent, Dealing, Coined, Own, Lent, Sendable, coins_from, input_shares, out_shares};
 
 use field::Field;
-use plan::{Gate, Header, Output, Step};
+use plan::{Gate, Output, PlanFile, Step};
+use plan_counts::Seat;
+use seat_messages::Lists;
 
-// The coefficients of a dealing: the dealt value, then t coins.
-fn polynomial(t: usize, secret: u64, coins: &[u8], at: usize) -> [u64; 16]
-    requires t_bound { t ≤ 14 }
-    requires at_bound { at ≤ 65536 }
-    ensures { take (t + 1) result ≡ secret ∷ coins_from t at (numbers coins.now) }
-{
-    let mut polynomial = [0u64; 16];
-    polynomial[0] = secret;
-    let mut j: usize = 0;
-    while j < t {
-        polynomial[j + 1] = numbers::read(coins, at + j);
-        j += 1;
-    }
-    polynomial
+// A dealing: the dealt value, and t coins of a lent list from a place on.
+#[derive(Clone, Copy)]
+struct Dealt<'a> {
+    field: Field,
+    t: usize,
+    secret: u64,
+    coins: &'a [u8],
+    at: usize,
+    ghost dealing: { Dealing field.p t secret (numbers coins.now) at },
 }
 
-// The share at x of a dealing.
-fn share(f: Field, t: usize, secret: u64, coins: &[u8], at: usize, x: u64) -> u64
-    requires dealing { Dealing f.p t secret (numbers coins.now) at }
-    requires x_lt_p { x < f.p }
-    ensures { Is f.p (eval f.p (secret ∷ coins_from t at (numbers coins.now)) x) result }
-{
-    let coefficients = polynomial(t, secret, coins, at);
-    let top = t + 1;
-    sharing::value(f, &coefficients[..top], x)
+impl Dealt<'_> {
+    // The coefficients: the dealt value, then t coins.
+    #[tactic(auto, using(crate::proofs::DealLaws::beginning))]
+    fn polynomial(&self) -> [u64; 16]
+        ensures { take (self.now.t + 1) result ≡ self.now.secret ∷ coins_from self.now.t self.now.at (numbers self.now.coins.now) }
+    {
+        let mut polynomial = [0u64; 16];
+        polynomial[0] = self.secret;
+        for j in 0..self.t {
+            polynomial[j + 1] = numbers::read(self.coins, self.at + j);
+        }
+        polynomial
+    }
+
+    // The share at x.
+    #[tactic(auto, using(crate::proofs::DealLaws::dealing))]
+    fn share(&self, x: u64) -> u64
+        requires { x < self.now.field.p }
+        ensures { Is self.now.field.p (eval self.now.field.p (self.now.secret ∷ coins_from self.now.t self.now.at (numbers self.now.coins.now)) x) result }
+    {
+        let coefficients = self.polynomial();
+        sharing::value(self.field, &coefficients[..self.t + 1], x)
+    }
+
+    // Writes a share for each point.
+    #[tactic(auto, using(crate::proofs::ProductLaws::dealing_out))]
+    fn send(&self, points: &[u64], out: &mut [u8])
+        requires points_value { all_below self.now.field.p points.now ≡ true }
+        requires out_len { length out.old ≡ width * length points.now }
+        ensures { numbers out.new ≡ deal self.now.field.p self.now.secret (coins_from self.now.t self.now.at (numbers self.now.coins.now)) points.now }
+    {
+        let coefficients = self.polynomial();
+        let polynomial = &coefficients[..self.t + 1];
+        for (j, x) in points.iter().enumerate() {
+            let piece = sharing::value(self.field, polynomial, *x);
+            numbers::write(out, j, piece);
+        }
+    }
 }
 
 // ---- the party's own inputs
 
-// Writes party i's share at x of a gate that is an input of its own; answers the next place.
-fn send_input(
-    h: Header,
-    i: usize,
-    gate: Gate,
-    secret: u64,
-    coins: &[u8],
-    from: usize,
-    x: u64,
-    place: usize,
-    out: &mut [u8],
-) -> usize
-    requires dealing { Dealing h.field.p h.t secret (numbers coins.now) from }
-    requires x_lt_p { x < h.field.p }
+// Writes the share at x of a gate that is an input of party i; answers the next place.
+#[tactic(auto, using(crate::proofs::InputLaws::input_sending))]
+fn send_input(dealt: &Dealt, i: usize, gate: Gate, x: u64, place: usize, out: &mut [u8]) -> usize
+    requires x_lt_p { x < dealt.now.field.p }
     requires place_bound { place ≤ 65536 }
-    ensures { Sent (cond (is_input_of i gate) (eval h.field.p (secret ∷ coins_from h.t from (numbers coins.now)) x ∷ []) []) place out.old out.new result }
+    ensures { Sent (cond (is_input_of i gate) (eval dealt.now.field.p (dealt.now.secret ∷ coins_from dealt.now.t dealt.now.at (numbers dealt.now.coins.now)) x ∷ []) []) place out.old out.new result }
 {
     if !plan_counts::is_input_of(i, gate) {
         return place;
     }
-    numbers::write(out, place, share(h.field, h.t, secret, coins, from, x));
+    numbers::write(out, place, dealt.share(x));
     place + 1
 }
 
-// Writes the shares at x of party i's inputs from a place on; answers the next place.
-fn send_inputs_to(
-    plan: &[u8],
-    h: Header,
-    i: usize,
-    inputs: &[u8],
-    coins: &[u8],
-    x: u64,
-    at: usize,
-    out: &mut [u8],
-) -> usize
-    requires planned { Planned plan.now h }
-    requires own { Own (plan_of plan.now) i inputs.now coins.now }
-    requires x_lt_p { x < h.field.p }
+// Writes the shares at x of the party's inputs from a place on; answers the next place.
+#[tactic(auto, using(crate::proofs::InputLaws::inputting))]
+fn send_inputs_to(seat: &Seat, lists: &Lists, x: u64, at: usize, out: &mut [u8]) -> usize
+    requires own { Own (plan_of seat.now.plan.now.bytes.now) seat.now.party lists.now.inputs.now lists.now.coins.now }
+    requires x_lt_p { x < seat.now.plan.now.header.field.p }
     requires at_bound { at ≤ 15360 }
-    ensures { Sent (input_shares (plan_of plan.now) i (input_wires (plan_of plan.now) i) (numbers inputs.now) (numbers coins.now) x) at out.old out.new result }
+    ensures { Sent (input_shares (plan_of seat.now.plan.now.bytes.now) seat.now.party (input_wires (plan_of seat.now.plan.now.bytes.now) seat.now.party) (numbers lists.now.inputs.now) (numbers lists.now.coins.now) x) at out.old out.new result }
 {
+    let plan = seat.plan;
     let mut place = at;
     let mut k: usize = 0;
-    let mut g: usize = 0;
-    while g < h.gates {
-        let gate = plan::known_gate(plan, h, g);
-        let secret = numbers::read(inputs, place - at);
-        place = send_input(h, i, gate, secret, coins, k, x, place, out);
-        k += plan_counts::own_coins_at(plan, h, i, gate);
-        g += 1;
+    for g in 0..plan.header.gates {
+        let gate = plan.gate(g);
+        let dealt = Dealt {
+            field: plan.header.field,
+            t: plan.header.t,
+            secret: numbers::read(lists.inputs, place - at),
+            coins: lists.coins,
+            at: k,
+        };
+        place = send_input(&dealt, seat.party, gate, x, place, out);
+        k += plan_counts::own_coins_at(plan, seat.party, gate);
     }
     place
 }
 
-// Writes the dealings of party i's inputs, by receiving party.
-fn send_inputs(plan: &[u8], h: Header, i: usize, inputs: &[u8], coins: &[u8], out: &mut [u8])
-    requires planned { Planned plan.now h }
-    requires own { Own (plan_of plan.now) i inputs.now coins.now }
-    requires out_len { length out.old ≡ width * sent_by (plan_of plan.now) i DealInputs }
-    ensures { numbers out.new ≡ flat_map (λ l. l) (send_at (plan_of plan.now) i DealInputs (numbers inputs.now) (numbers coins.now) [] [] []) }
+// Writes the dealings of the party's inputs, by receiving party.
+#[tactic(auto, using(crate::proofs::InputLaws::receiving))]
+fn send_inputs(seat: &Seat, lists: &Lists, out: &mut [u8])
+    requires own { Own (plan_of seat.now.plan.now.bytes.now) seat.now.party lists.now.inputs.now lists.now.coins.now }
+    requires out_len { length out.old ≡ width * sent_by (plan_of seat.now.plan.now.bytes.now) seat.now.party DealInputs }
+    ensures { numbers out.new ≡ flat_map (λ l. l) (send_at (plan_of seat.now.plan.now.bytes.now) seat.now.party DealInputs (numbers lists.now.inputs.now) (numbers lists.now.coins.now) [] [] []) }
 {
-    let points = seat_messages::points_of(plan, h);
+    let points = seat_messages::points_of(seat.plan);
     let mut at: usize = 0;
-    let mut j: usize = 0;
-    while j < h.n {
-        at = send_inputs_to(plan, h, i, inputs, coins, points[j], at, out);
-        j += 1;
+    for x in &points[..seat.plan.header.n] {
+        at = send_inputs_to(seat, lists, *x, at, out);
     }
 }
 
 // ---- the product of a multiply gate's shares
 
 // The product of two wires' shares.
+#[tactic(auto, using(crate::proofs::ProductLaws::multiplying))]
 fn product(f: Field, a: usize, b: usize, shares: &[u8]) -> u64
-    requires ready { Ready f.p }
     requires shares_value { all_below f.p (numbers shares.now) ≡ true }
     ensures { Is f.p (mul f.p (get_or (numbers shares.now) a 0) (get_or (numbers shares.now) b 0)) result }
 {
     f.mul(numbers::read(shares, a), numbers::read(shares, b))
 }
 
-// Writes the dealing of a value, one share a party.
-fn deal(plan: &[u8], h: Header, secret: u64, coins: &[u8], from: usize, out: &mut [u8])
-    requires planned { Planned plan.now h }
-    requires dealing { Dealing h.field.p h.t secret (numbers coins.now) from }
-    requires out_len { length out.old ≡ width * h.n }
-    ensures { numbers out.new ≡ deal h.field.p secret (coins_from h.t from (numbers coins.now)) (plan_of plan.now).points }
-{
-    let points = seat_messages::points_of(plan, h);
-    let coefficients = polynomial(h.t, secret, coins, from);
-    let top = h.t + 1;
-    let mut j: usize = 0;
-    while j < h.n {
-        let piece = sharing::value(h.field, &coefficients[..top], points[j]);
-        numbers::write(out, j, piece);
-        j += 1;
-    }
-}
-
-// Writes the dealing of the product of wires a and b, at gate g, if party i is one of the 2t + 1 dealers.
+// Writes the dealing of the product of wires a and b, at gate g, if the party is one of the 2t + 1 dealers.
+#[tactic(auto, using(crate::proofs::ProductLaws::product_sending))]
 fn send_product(
-    plan: &[u8],
-    h: Header,
-    i: usize,
+    seat: &Seat,
     g: usize,
     a: usize,
     b: usize,
@@ -161,25 +151,33 @@ fn send_product(
     shares: &[u8],
     out: &mut [u8],
 )
-    requires planned { Planned plan.now h }
-    requires le_i { 1 ≤ i }
-    requires gate { IsGate (plan_of plan.now) g (Multiply a b) }
-    requires coined { Coined (plan_of plan.now) i coins.now }
-    requires shares_value { all_below (plan_of plan.now).p (numbers shares.now) ≡ true }
-    requires out_len { length out.old ≡ width * sent_by (plan_of plan.now) i (DealProduct g a b) }
-    ensures { numbers out.new ≡ flat_map (λ l. l) (send_at (plan_of plan.now) i (DealProduct g a b) [] (numbers coins.now) [] (numbers shares.now) []) }
+    requires le_i { 1 ≤ seat.now.party }
+    requires gate { IsGate (plan_of seat.now.plan.now.bytes.now) g (Multiply a b) }
+    requires coined { Coined (plan_of seat.now.plan.now.bytes.now) seat.now.party coins.now }
+    requires shares_value { all_below (plan_of seat.now.plan.now.bytes.now).p (numbers shares.now) ≡ true }
+    requires out_len { length out.old ≡ width * sent_by (plan_of seat.now.plan.now.bytes.now) seat.now.party (DealProduct g a b) }
+    ensures { numbers out.new ≡ flat_map (λ l. l) (send_at (plan_of seat.now.plan.now.bytes.now) seat.now.party (DealProduct g a b) [] (numbers coins.now) [] (numbers shares.now) []) }
 {
-    if h.t + h.t + 1 < i {
+    let plan = seat.plan;
+    let t = plan.header.t;
+    if t + t + 1 < seat.party {
         return;
     }
-    let secret = product(h.field, a, b, shares);
-    let from = plan_counts::coins_below(plan, h, i, g);
-    deal(plan, h, secret, coins, from, out);
+    let dealt = Dealt {
+        field: plan.header.field,
+        t,
+        secret: product(plan.header.field, a, b, shares),
+        coins,
+        at: plan_counts::coins_below(plan, seat.party, g),
+    };
+    let points = seat_messages::points_of(plan);
+    dealt.send(&points[..plan.header.n], out);
 }
 
 // ---- the shares of the outs
 
 // Writes the share of an out that is the party's; answers the next place.
+#[tactic(auto, using(crate::proofs::OutLaws::out_sending))]
 fn send_out(party: usize, output: Output, shares: &[u8], place: usize, out: &mut [u8]) -> usize
     requires { place ≤ 65536 }
     ensures { Sent (cond (eqb party output.party) (get_or (numbers shares.now) output.wire 0 ∷ []) []) place out.old out.new result }
@@ -192,94 +190,58 @@ fn send_out(party: usize, output: Output, shares: &[u8], place: usize, out: &mut
 }
 
 // Writes the shares of a party's outs from a place on; answers the next place.
-fn send_outs_to(
-    plan: &[u8],
-    h: Header,
-    party: usize,
-    shares: &[u8],
-    at: usize,
-    out: &mut [u8],
-) -> usize
-    requires planned { Planned plan.now h }
+#[tactic(auto, using(crate::proofs::OutLaws::outing))]
+fn send_outs_to(plan: &PlanFile, party: usize, shares: &[u8], at: usize, out: &mut [u8]) -> usize
     requires at_bound { at ≤ 15360 }
-    ensures { Sent (out_shares (numbers shares.now) (out_wires (plan_of plan.now) party)) at out.old out.new result }
+    ensures { Sent (out_shares (numbers shares.now) (out_wires (plan_of plan.now.bytes.now) party)) at out.old out.new result }
 {
     let mut place = at;
-    let mut o: usize = 0;
-    while o < h.outs {
-        place = send_out(party, plan::out_at(plan, o), shares, place, out);
-        o += 1;
+    for o in 0..plan.header.outs {
+        place = send_out(party, plan::out_at(plan.bytes, o), shares, place, out);
     }
     place
 }
 
 // Writes the share of each out to that out's party, by receiving party.
-fn send_outs(plan: &[u8], h: Header, shares: &[u8], out: &mut [u8])
-    requires planned { Planned plan.now h }
-    requires out_len { length out.old ≡ width * h.outs }
-    ensures { numbers out.new ≡ flat_map (λ l. l) (send_at (plan_of plan.now) 0 SendOuts [] [] [] (numbers shares.now) []) }
+#[tactic(auto, using(crate::proofs::OutLaws::gathering))]
+fn send_outs(plan: &PlanFile, shares: &[u8], out: &mut [u8])
+    requires out_len { length out.old ≡ width * plan.now.header.outs }
+    ensures { numbers out.new ≡ flat_map (λ l. l) (send_at (plan_of plan.now.bytes.now) 0 SendOuts [] [] [] (numbers shares.now) []) }
 {
     let mut at: usize = 0;
-    let mut j: usize = 0;
-    while j < h.n {
-        at = send_outs_to(plan, h, j + 1, shares, at, out);
-        j += 1;
+    for j in 0..plan.header.n {
+        at = send_outs_to(plan, j + 1, shares, at, out);
     }
 }
 
 // ---- the call
 
-// Writes what party i sends in a step.
-fn send_step(
-    plan: &[u8],
-    h: Header,
-    i: usize,
-    step: Step,
-    inputs: &[u8],
-    coins: &[u8],
-    shares: &[u8],
-    mail: &[u8],
-    out: &mut [u8],
-)
-    requires planned { Planned plan.now h }
-    requires stepped { Stepped (plan_of plan.now) step }
-    requires sendable { Sendable (plan_of plan.now) i step inputs.now coins.now shares.now out.old }
-    ensures { numbers out.new ≡ flat_map (λ l. l) (send_at (plan_of plan.now) i step (numbers inputs.now) (numbers coins.now) [] (numbers shares.now) (numbers mail.now)) }
+// Writes what the party sends in a step. A plan file has no other steps than these three.
+// As it is: the steps are a closed enum, and the contract goes by its cases.
+#[tactic(auto, using(crate::proofs::WrittenLaws::stepping))]
+fn send_step(seat: &Seat, step: Step, lists: &Lists, shares: &[u8], out: &mut [u8])
+    requires stepped { Stepped (plan_of seat.now.plan.now.bytes.now) step }
+    requires sendable { Sendable (plan_of seat.now.plan.now.bytes.now) seat.now.party step lists.now.inputs.now lists.now.coins.now shares.now out.old }
+    ensures { numbers out.new ≡ flat_map (λ l. l) (send_at (plan_of seat.now.plan.now.bytes.now) seat.now.party step (numbers lists.now.inputs.now) (numbers lists.now.coins.now) [] (numbers shares.now) (numbers lists.now.mail.now)) }
 {
     match step {
-        Step::DealInputs => send_inputs(plan, h, i, inputs, coins, out),
-        Step::DealProduct(g, a, b) => send_product(plan, h, i, g, a, b, coins, shares, out),
-        Step::DealZero(_) => {}
-        Step::DealMasked(_, _, _) => {}
-        Step::SendTruncated(_) => {}
-        Step::DealDraws(_) => {}
-        Step::OpenSpent(_, _, _) => {}
-        Step::SendOuts => send_outs(plan, h, shares, out),
+        Step::DealInputs => send_inputs(seat, lists, out),
+        Step::DealProduct(g, a, b) => send_product(seat, g, a, b, lists.coins, shares, out),
+        Step::SendOuts => send_outs(seat.plan, shares, out),
+        _ => {}
     }
 }
 
-// Writes what party i's call number k sends, or in the last call its results.
-pub fn send(
-    plan: &[u8],
-    h: Header,
-    last: usize,
-    i: usize,
-    k: usize,
-    inputs: &[u8],
-    coins: &[u8],
-    shares: &[u8],
-    mail: &[u8],
-    out: &mut [u8],
-)
-    requires planned { Planned plan.now h }
-    requires last_value { last ≡ last_call (plan_of plan.now) }
-    requires lent { Lent (plan_of plan.now) i k inputs.now coins.now shares.now mail.now out.old }
-    ensures { numbers out.new ≡ written (plan_of plan.now) k (call_with (plan_of plan.now) i k (numbers inputs.now) (numbers coins.now) [] (numbers shares.now) (numbers mail.now)) }
+// Writes what the party's call number k sends, or in the last call its results.
+#[tactic(auto, using(crate::proofs::WrittenLaws::calling))]
+pub fn send(seat: &Seat, k: usize, lists: &Lists, shares: &[u8], out: &mut [u8])
+    requires { Lent (plan_of seat.now.plan.now.bytes.now) seat.now.party k lists.now.inputs.now lists.now.coins.now shares.now lists.now.mail.now out.old }
+    ensures { numbers out.new ≡ written (plan_of seat.now.plan.now.bytes.now) k (call_with (plan_of seat.now.plan.now.bytes.now) seat.now.party k (numbers lists.now.inputs.now) (numbers lists.now.coins.now) [] (numbers shares.now) (numbers lists.now.mail.now)) }
 {
-    if k == last {
-        seat_results::results(plan, h, mail, out);
+    if k == seat.last_call() {
+        seat_results::results(seat.plan, lists.mail, out);
         return;
     }
-    let step = plan_counts::step_at(plan, h, k);
-    send_step(plan, h, i, step, inputs, coins, shares, mail, out);
+    let step = plan_counts::step_at(seat.plan, k);
+    send_step(seat, step, lists, shares, out);
 }

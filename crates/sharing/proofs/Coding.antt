@@ -5,8 +5,8 @@
 -- Assumes nothing.
 use mathlib.Core.Path.{◌≡◌, refl, sym, ap, ◌∙◌}
 use mathlib.Core.Bool.{Bool, true, false}
-use mathlib.Core.List.{List, [], ◌∷◌, map}
-use Prim.Native.Nat.{ℕ, zero, suc, ◌+◌, ◌*◌, ◌-◌, ◌%◌, ◌^◌, ◌≤◌, ◌<◌}
+use mathlib.Core.List.{List, [], ◌∷◌, map, reverse}
+use Prim.Native.Nat.{ℕ, suc, ◌+◌, ◌*◌, ◌-◌, ◌%◌, ◌^◌, ◌≤◌, ◌<◌}
 use native.Mathlib.Numerals.{add-one}
 use native.Mathlib.Nat.{mod-lt}
 use native.Mathlib.Omega.{arith}
@@ -15,12 +15,12 @@ use borrow.Author.Tests.{ltb-true, ltb-false}
 use lib.Dec.{ltb}
 use lib.ListN.{length, drop, get_or, get_or-eq_default, drop_of_length-le}
 use lib.Seq.{drop-cons, drop-length}
+use Rattle.std.proofs.lemmas.List.{length-reverse}
 use Rattle.numbers.specs.Tables.{tab}
 use Rattle.numbers.specs.Bytes.{all_below}
-use Rattle.numbers.proofs.Below.{all_below_at, all_below-drop}
+use Rattle.numbers.proofs.Below.{all_below_at}
 use Rattle.numbers.proofs.Fills.{Filled, filling, filled}
 use Rattle.field.specs.Mod.{add, mul}
-use Rattle.field.specs.Prime.{Prime}
 use Rattle.field.specs.Field.{Below2, Is, kept, sum_bound, reciprocal, Reducible, Ready}
 use Rattle.field.proofs.Solve.{Canon, zero_canon, Same, same, turn, ◌⨾◌, plus, mul_same, add_same, mod_canon, add_canon, canon_same, mod_same}
 use Rattle.field.proofs.Products.{word}
@@ -29,6 +29,7 @@ use Rattle.sharing_laws.specs.Poly.{eval}
 use Rattle.sharing_laws.specs.Interp.{dot, plain_sum}
 use Rattle.sharing_laws.specs.Sharing.{deal}
 use Rattle.sharing_laws.proofs.Alls.{map-tab}
+use Rattle.sharing.proofs.Walks.{Next, Pair}
 
 -- ---- lists of elements
 -- every entry of a list of elements is one, and so is the 0 past its end
@@ -51,29 +52,35 @@ pub record Valued (p : ℕ) (f : List ℕ) (x acc i : ℕ) : Type 0 where
   pub is : acc ≡ eval p (drop i f) x
 
 module _ (p : ℕ) (f : List ℕ) (x : ℕ) where
-  pub value_none : 1 < p → Valued p f x 0 (length f)
+  pub value_none : 1 < p → Valued p f x 0 (length f - 0)
   unfolding eval
-  value_none h = record { within = omega arith; small = omega arith; is = rw (drop-length f) }
+  value_none h = let e : length f - 0 ≡ length f = omega arith in rw e (record { within = omega arith; small = omega arith; is = rw (drop-length f) })
 
-  pub value_more : (acc i : ℕ) → Valued p f x acc i → 0 < i → 1 < p → Valued p f x ((get_or f (i - 1) 0 + x * acc) % p) (i - 1)
-  unfolding eval
-  value_more acc i v lo above =
-      let at : i ≡ suc (i - 1) = omega arith in
-      let is : acc ≡ eval p (drop (suc (i - 1)) f) x = v.is ∙ ap (λ (n : ℕ). eval p (drop n f) x) at in
-      record {
-        within = omega (arith, v.within);
-        small = mod-lt (get_or f (i - 1) 0 + x * acc) (omega arith);
-        is = rw (drop-cons f (i - 1) 0 (omega (arith, v.within)), ← is) (step_value p (get_or f (i - 1) 0) x acc);
-      }
+  module _ (acc k a : ℕ) (v : Valued p f x acc (length f - k)) (n : Next f k a) where
+    pub value_more : (j : ℕ) → j ≡ k + 1 → 1 < p → Valued p f x ((a + x * acc) % p) (length f - j)
+    unfolding eval
+    value_more j e above =
+        let at : length f - k ≡ suc (length f - 1 - k) = omega (arith, n.within) in
+        let to : length f - j ≡ length f - 1 - k = omega arith in
+        let is : acc ≡ eval p (drop (suc (length f - 1 - k)) f) x = v.is ∙ ap (λ (m : ℕ). eval p (drop m f) x) at in
+        rw to (record {
+          within = omega arith;
+          small = mod-lt (a + x * acc) (omega arith);
+          is = rw (drop-cons f (length f - 1 - k) 0 (omega (arith, n.within)), ← is, n.is) (step_value p (get_or f (length f - 1 - k) 0) x acc);
+        })
 
-  pub value-whole : (acc i : ℕ) → Valued p f x acc i → i ≤ 0 → Is p (eval p f x) acc
-  value-whole acc i v lo = let z : i ≡ 0 = omega arith in record { eq = v.is ∙ ap (λ (n : ℕ). eval p (drop n f) x) z; lt = v.small }
-
-  pub step_fits : (acc i : ℕ) → Ready p → x < p → all_below p f ≡ true → Valued p f x acc i → get_or f (i - 1) 0 + x * acc < 2 ^ 64
-  step_fits acc i r l h v = omega (arith, r.small, v.small, entry_below p f (i - 1) r h, word x acc (omega (arith, r.small)) (omega (arith, r.small, v.small)))
+  pub value-whole : (acc k : ℕ) → Valued p f x acc (length f - k) → k ≡ length (reverse f) → Is p (eval p f x) acc
+  value-whole acc k v e =
+      let z : length f - k ≡ 0 = omega (arith, length-reverse f) in
+      record { eq = v.is ∙ ap (λ (n : ℕ). eval p (drop n f) x) z; lt = v.small }
 
   pub product_fits : (acc i : ℕ) → Ready p → x < p → Valued p f x acc i → x * acc < 2 ^ 64
   product_fits acc i r l v = omega (arith, r.small, v.small, word x acc (omega (arith, r.small)) (omega (arith, r.small, v.small)))
+
+  pub step_fits : (acc i k a : ℕ) → Ready p → x < p → all_below p f ≡ true → Valued p f x acc i → Next f k a → a + x * acc < 2 ^ 64
+  step_fits acc i k a r l h v n =
+      let small : a < p = rw n.is (entry_below p f (length f - 1 - k) r h) in
+      omega (arith, r.small, v.small, small, word x acc (omega (arith, r.small)) (omega (arith, r.small, v.small)))
 
 pub ruleset valuing = (rules, value_none, value_more, value-whole, step_fits, product_fits)
 
@@ -123,38 +130,37 @@ module _ (p : ℕ) (ws vs : List ℕ) where
     pub sum_low : length ws ≤ 65536 → sum ≤ 4294967296 * p
     sum_low le = omega (arith, s.small, bound-low p r.small i (omega (arith, s.within)))
 
-    pub sum-few : length ws ≤ 16 → sum ≤ 4294967296 * p
-    sum-few le = sum_low (omega arith)
+    module _ (hw : all_below p ws ≡ true) (hv : all_below p vs ≡ true) (a b : ℕ) (c : Pair ws vs i a b) where
+      pub term-below : Below2 p a b
+      term-below = record { left = rw c.left (entry_below p ws i r hw); right = rw c.right (entry_below p vs i r hv) }
 
-    module _ (hw : all_below p ws ≡ true) (hv : all_below p vs ≡ true) where
-      pub term-below : Below2 p (get_or ws i 0) (get_or vs i 0)
-      term-below = record { above = r.prime.above; small = r.small; left = entry_below p ws i r hw; right = entry_below p vs i r hv }
-
-      pub sum_more : (y : ℕ) → y ≡ kept p (sum + get_or ws i 0 * get_or vs i 0) → length ws ≤ length vs → i < length ws → Summed p ws vs y (i + 1)
-      sum_more y e le l = rw e (record {
-        within = omega arith;
+      pub sum_more : (y j : ℕ) → y ≡ kept p (sum + a * b) → j ≡ i + 1 → Summed p ws vs y j
+      sum_more y j e to = rw (to, e, c.left, c.right) (record {
+        within = omega (arith, c.within);
         small = kept-bound p r.small (get_or ws i 0) (get_or vs i 0) (entry_below p ws i r hw) (entry_below p vs i r hv) i sum s.small;
         whole =
             plus (kept_same p (sum + get_or ws i 0 * get_or vs i 0)) (same refl)
-            ⨾ same {b = sum + plain_sum (drop i ws) (drop i vs)} (omega (arith, plain-drop i l (omega arith)))
+            ⨾ same {b = sum + plain_sum (drop i ws) (drop i vs)} (omega (arith, plain-drop i c.within c.also))
             ⨾ s.whole;
       })
 
-    pub sum-reducible : (m : ℕ) → m ≡ reciprocal p → length ws ≤ 16 → Reducible p m sum
-    sum-reducible m e le = record {
-      above = r.prime.above;
-      small = r.small;
-      by = e;
-      sum = omega (arith, s.small, bound-more p r.small i 16 (omega (arith, s.within)));
-    }
+    pub sum-small : sum ≤ sum_bound p (length ws)
+    sum-small = omega (arith, s.small, bound-more p r.small i (length ws) s.within)
 
-    pub sum-whole : (y : ℕ) → length ws ≤ i → Is p (sum % p) y → Is p (dot p ws vs) y
+    pub sum-whole : length ws ≤ i → sum % p ≡ dot p ws vs
     unfolding plain_sum
-    sum-whole y l e =
+    sum-whole l =
         let all : Same p (sum + 0) (plain_sum ws vs) = rw (drop_of_length-le ws {i = i} l) at s.whole in
-        record { eq = e.eq ∙ (same {b = sum + 0} (omega arith) ⨾ all).rest ∙ plain-dot p ws vs; lt = e.lt }
+        (same {b = sum + 0} (omega arith) ⨾ all).rest ∙ plain-dot p ws vs
+
+-- a sum of at most 16 products
+pub sum-reducible : (p m sum n : ℕ) → Ready p → m ≡ reciprocal p → sum ≤ sum_bound p n → n ≤ 16 → Reducible p m sum
+sum-reducible p m sum n r e s le = record { by = e; sum = omega (arith, s, bound-more p r.small n 16 le) }
+
+pub is_by : (p v w r : ℕ) → v ≡ w → Is p v r → Is p w r
+is_by p v w r e h = record { eq = h.eq ∙ e; lt = h.lt }
 
 pub ready_positive : (p : ℕ) → Ready p → 0 < p
 ready_positive p r = omega (arith, r.prime.above)
 
-pub ruleset summing = (rules, ready_positive, sum-none, sum_low, sum-few, term-below, sum_more, sum-reducible, sum-whole)
+pub ruleset summing = (rules, ready_positive, sum-none, sum_low, term-below, sum_more, sum-small, sum-whole, sum-reducible, is_by)

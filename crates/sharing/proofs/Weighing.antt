@@ -6,8 +6,8 @@
 use mathlib.Core.Path.{◌≡◌, refl, sym, ap, ◌∙◌}
 use mathlib.Core.Logic.{◌≢◌}
 use mathlib.Core.Bool.{Bool, true, false, cond}
-use mathlib.Core.List.{List, [], ◌∷◌, map}
-use Prim.Native.Nat.{ℕ, zero, suc, ◌+◌, ◌-◌, ◌%◌, ◌≤◌, ◌<◌}
+use mathlib.Core.List.{List, [], ◌∷◌}
+use Prim.Native.Nat.{ℕ, ◌+◌, ◌%◌, ◌≤◌, ◌<◌}
 use native.Mathlib.Numerals.{add-one}
 use native.Mathlib.Nat.{mod-mod}
 use native.Mathlib.Omega.{arith}
@@ -16,13 +16,12 @@ use borrow.Author.Tests.{eq-eqb, ne_eqb, eqb-true, eqb-false}
 use lib.Dec.{eqb}
 use lib.ListN.{length, drop, get_or, drop_of_length-le}
 use lib.Seq.{drop-cons}
-use Rattle.numbers.specs.Bytes.{all_below}
 use Rattle.numbers.proofs.Fills.{Filled, filling}
-use Rattle.field.specs.Mod.{add, mul, sub}
+use Rattle.field.specs.Mod.{mul, sub}
 use Rattle.field.specs.Prime.{Prime, inv}
-use Rattle.field.specs.Field.{Below2, Is, Ready}
+use Rattle.field.specs.Field.{Is, Ready}
 use Rattle.field.proofs.Solve.{Canon, below, zero_canon, mul_canon, #, quote, solve, combine}
-use Rattle.field.proofs.Inverse.{inv_small, inv-canon, inv-law, inv_unique, no-zero-divisor, pos, one-canon}
+use Rattle.field.proofs.Inverse.{inv_small, inv-law, inv_unique, no-zero-divisor, pos, one-canon}
 use Rattle.sharing_laws.specs.Interp.{factor, apart, weight, weights}
 use Rattle.sharing.proofs.Coding.{entry_below, filled-map}
 

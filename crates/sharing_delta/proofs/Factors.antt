@@ -1,20 +1,20 @@
 -- The code of the vanishing polynomial, factor by factor, in place.
---     Cleared, clearing       all zeros
+--     clearing                the polynomial 1
 --     Carried, carrying       one factor 1 + b·X
 --     Grown, growing          the factors, from the last
 -- Assumes nothing.
 use mathlib.Core.Path.{◌≡◌, refl, sym, ap, ap₂, ◌∙◌}
 use mathlib.Core.Bool.{true}
-use mathlib.Core.List.{List, [], ◌∷◌, ◌++◌, append_assoc, append-nil}
+use mathlib.Core.List.{List, [], ◌∷◌, ◌++◌, append_assoc, append-nil, reverse}
+use Rattle.std.proofs.lemmas.List.{length-reverse}
+use Rattle.sharing.proofs.Walks.{Next}
 use Prim.Native.Nat.{ℕ, zero, suc, ◌+◌, ◌*◌, ◌-◌, ◌%◌, ◌^◌, ◌≤◌, ◌<◌}
 use native.Mathlib.Numerals.{add-one}
 use native.Mathlib.Omega.{arith}
 use borrow.Author.Rules.{rules}
 use lib.ListN.{length, take, drop, set, get_or, replicate, length-drop, length-set, drop_of_length-le}
 use lib.Seq.{drop-cons, drop-drop, get_or-drop, drop-length, drop-set-lt, take-suc-set, take_all}
-use Rattle.numbers.specs.Tables.{tab}
 use Rattle.numbers.specs.Bytes.{all_below}
-use Rattle.numbers.proofs.Fills.{Filled, filling, filled}
 use Rattle.field.specs.Mod.{mul, sub}
 use Rattle.field.specs.Prime.{inv}
 use Rattle.field.specs.Field.{Is, Ready}
@@ -27,15 +27,7 @@ use Rattle.sharing_laws.proofs.Deltas.{length-delta}
 use Rattle.sharing_laws.proofs.Polys.{length-linear}
 use Rattle.sharing_laws.proofs.Elements.{delta-below, padded-below}
 
--- ---- all zeros
-tab_zeros : (n : ℕ) → tab {A = ℕ} (λ _. 0) n ≡ replicate n 0
-unfolding tab
-tab_zeros zero = refl
-tab_zeros (suc n) = ap (λ (l : List ℕ). 0 ∷ l) (tab_zeros n)
-
-pub cleared : (d₀ d : List ℕ) (i : ℕ) → length d ≤ i → Filled {A = ℕ} (λ _. 0) d₀ d i → d ≡ replicate (length d₀) 0
-cleared d₀ d i l h = filled {A = ℕ} (λ _. 0) d₀ d i l h ∙ tab_zeros (length d₀)
-
+-- ---- the polynomial 1
 first_one : (n : ℕ) → 0 < n → set (replicate n 0) 0 1 ≡ padded n (1 ∷ [])
 unfolding padded
 first_one zero l = absurd (omega arith)
@@ -44,7 +36,7 @@ first_one (suc n) l = let e : suc n - 1 ≡ n = omega arith in rw e
 pub one_set : (d : List ℕ) (n : ℕ) → d ≡ replicate n 0 → 0 < n → set d 0 1 ≡ padded n (1 ∷ [])
 one_set d n e l = rw e (first_one n l)
 
-pub ruleset clearing = (filling, cleared, one_set)
+pub ruleset clearing = (rules, one_set)
 
 -- ---- one factor
 -- the invariant: what is written, and what is left to write from i on, is the product
@@ -122,29 +114,39 @@ pub record Grown (p : ℕ) (ms d₀ d : List ℕ) (i : ℕ) : Type 0 where
   pub is : d ≡ padded (length d₀) (delta p (drop i ms))
 
 module _ (p : ℕ) (ms d₀ : List ℕ) where
-  pub grow-none : (e : List ℕ) → d₀ ≡ padded (length e) (1 ∷ []) → length d₀ ≡ length e → length ms + 1 ≤ length e → Grown p ms d₀ d₀ (length ms)
+  pub grow-none : (e : List ℕ) → d₀ ≡ padded (length e) (1 ∷ []) → length d₀ ≡ length e → length ms + 1 ≤ length e → Grown p ms d₀ d₀ (length ms - 0)
   unfolding delta
-  grow-none e one same l = record { within = omega arith; room = omega arith; long = refl; is = rw (drop-length ms) (one ∙ ap (λ (n : ℕ). padded n (1 ∷ [])) (sym same)) }
+  grow-none e one same l =
+      let z : length ms - 0 ≡ length ms = omega arith in
+      rw z (record { within = omega arith; room = omega arith; long = refl; is = rw (drop-length ms) (one ∙ ap (λ (n : ℕ). padded n (1 ∷ [])) (sym same)) })
 
-  module _ (d : List ℕ) (i : ℕ) (h : Grown p ms d₀ d i) where
-    pub grow-more : (v b : ℕ) (e : List ℕ) → 0 < i → Is p (inv p (get_or ms (i - 1) 0)) v → Is p (sub p 0 v) b → e ≡ carried p b 0 d → length e ≡ length d → Grown p ms d₀ e (i - 1)
+  module _ (d : List ℕ) (k : ℕ) (h : Grown p ms d₀ d (length ms - k)) where
+    pub grow-more : (c v b j : ℕ) (e : List ℕ) → Next ms k c → Is p (inv p c) v → Is p (sub p 0 v) b → e ≡ carried p b 0 d → length e ≡ length d → j ≡ k + 1 → Grown p ms d₀ e (length ms - j)
     unfolding delta
-    grow-more v b e lo ev eb to same =
-        let at : i ≡ suc (i - 1) = omega arith in
-        let fits : length (delta p (drop i ms)) < length d₀ = omega (arith, length-delta p (drop i ms), length-drop i ms, h.room) in
-        record {
-          within = omega (arith, h.within);
+    grow-more c v b j e n ev eb to same next =
+        let at : length ms - k ≡ suc (length ms - 1 - k) = omega (arith, n.within) in
+        let now : length ms - j ≡ length ms - 1 - k = omega arith in
+        let fits : length (delta p (drop (length ms - k) ms)) < length d₀ = omega (arith, length-delta p (drop (length ms - k) ms), length-drop (length ms - k) ms, h.room, n.within) in
+        rw now (record {
+          within = omega arith;
           room = h.room;
           long = same ∙ h.long;
           is =
-              to ∙ ap (carried p b 0) h.is ∙ carried-linear p b (delta p (drop i ms)) (length d₀) fits
-              ∙ rw (drop-cons ms (i - 1) 0 (omega (arith, h.within)), ← ev.eq, ← eb.eq) (ap (λ (k : ℕ). padded (length d₀) (linear p 1 b (delta p (drop k ms)))) at);
-        }
+              to ∙ ap (carried p b 0) h.is ∙ carried-linear p b (delta p (drop (length ms - k) ms)) (length d₀) fits
+              ∙ rw (drop-cons ms (length ms - 1 - k) 0 (omega (arith, n.within)), ← n.is, ← ev.eq, ← eb.eq) (ap (λ (m : ℕ). padded (length d₀) (linear p 1 b (delta p (drop m ms)))) at);
+        })
 
-    pub grow-whole : (e : List ℕ) → length d₀ ≡ length e → i ≤ 0 → d ≡ padded (length e) (delta p ms)
-    grow-whole e same l = let z : i ≡ 0 = omega arith in h.is ∙ ap (λ (k : ℕ). padded (length d₀) (delta p (drop k ms))) z ∙ ap (λ (n : ℕ). padded n (delta p ms)) same
+    pub grow-whole : (e : List ℕ) → length d₀ ≡ length e → length ms ≤ k → d ≡ padded (length e) (delta p ms)
+    grow-whole e same l = let z : length ms - k ≡ 0 = omega arith in h.is ∙ ap (λ (m : ℕ). padded (length d₀) (delta p (drop m ms))) z ∙ ap (λ (n : ℕ). padded n (delta p ms)) same
 
     pub grown-below : Ready p → all_below p d ≡ true
-    grown-below r = rw h.is (padded-below p (omega (arith, r.prime.above)) (length d₀) (delta p (drop i ms)) (delta-below p r.prime.above (drop i ms)))
+    grown-below r = rw h.is (padded-below p (omega (arith, r.prime.above)) (length d₀) (delta p (drop (length ms - k) ms)) (delta-below p r.prime.above (drop (length ms - k) ms)))
 
-pub ruleset growing = (rules, entry_below, grow-none, grow-more, grow-whole, grown-below)
+-- a member is an element
+pub member_below : (p : ℕ) (ms : List ℕ) (k c : ℕ) → Ready p → all_below p ms ≡ true → Next ms k c → c < p
+member_below p ms k c r h n = rw n.is (entry_below p ms (length ms - 1 - k) r h)
+
+pub none-left : (ms : List ℕ) (k : ℕ) → k ≡ length (reverse ms) → length ms ≤ k
+none-left ms k e = omega (arith, length-reverse ms)
+
+pub ruleset growing = (rules, member_below, grow-none, grow-more, grow-whole, grown-below)

@@ -1,15 +1,15 @@
 -- The polynomial that is 1 at 0 and 0 at given points.
 use mathlib.Core.Path.{◌≡◌, refl, sym, ap, ◌∙◌}
-use mathlib.Core.Logic.{◌≢◌, ◌⊎◌, inl, inr}
+use mathlib.Core.Logic.{◌≢◌}
 use mathlib.Core.List.{List, [], ◌∷◌, Memᴰ}
-use Prim.Native.Nat.{ℕ, zero, suc, ◌%◌, ◌<◌}
+use Prim.Native.Nat.{ℕ, suc, ◌%◌, ◌<◌}
 use native.Mathlib.Omega.{arith}
 use lib.ListN.{length}
 use Rattle.field.proofs.Solve.{#, quote, solve, combine}
 use Rattle.field.proofs.Inverse.{inv-law, pos, one-canon}
-use Rattle.sharing_laws.proofs.Polys.{eval_canon, eval-linear, length-linear}
+use Rattle.sharing_laws.proofs.Polys.{eval-linear, length-linear}
 use Rattle.sharing_laws.specs.Interp.{delta}
-use Rattle.field.specs.Mod.{add, mul, sub}
+use Rattle.field.specs.Mod.{sub}
 use Rattle.field.specs.Prime.{Prime, inv}
 use Rattle.sharing_laws.specs.Poly.{eval}
 

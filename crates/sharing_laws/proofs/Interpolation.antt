@@ -1,15 +1,15 @@
 -- The weighted sum of a polynomial's values is its value.
-use mathlib.Core.Path.{◌≡◌, refl, sym, ap, ap₂, ◌∙◌, fun_ext}
+use mathlib.Core.Path.{◌≡◌, refl, sym, ap, ◌∙◌, fun_ext}
 use mathlib.Core.Logic.{◌≢◌}
-use mathlib.Core.Bool.{Bool, true, false, cond, not}
+use mathlib.Core.Bool.{Bool, true, false, cond}
 use mathlib.Core.List.{List, [], ◌∷◌, ◌++◌, map}
-use Prim.Native.Nat.{ℕ, zero, suc, ◌+◌, ◌*◌, ◌-◌, ◌%◌, ◌≤◌, ◌<◌}
+use Prim.Native.Nat.{ℕ, ◌%◌, ◌≤◌, ◌<◌}
 use native.Mathlib.Omega.{arith}
 use lib.Dec.{T, eqb, eqb→eq, eqb_refl}
 use lib.ListN.{length, length-map}
-use Rattle.field.proofs.Solve.{Canon, Same, same, turn, ◌⨾◌, plus, cancel, add_same, sub_same, zero_canon, add_canon, mul_canon, mod_canon, canon_same, #, quote, solve, combine}
-use Rattle.field.proofs.Inverse.{inv-law, pos, one-canon, no-zero-divisor, mul-cancel, sub-nonzero}
-use Rattle.sharing_laws.proofs.Polys.{eval_canon, quotient, length_quotient, division, tails_at}
+use Rattle.field.proofs.Solve.{Canon, zero_canon, add_canon, mul_canon, #, quote, solve, combine}
+use Rattle.field.proofs.Inverse.{inv-law, pos, one-canon, mul-cancel, sub-nonzero}
+use Rattle.sharing_laws.proofs.Polys.{quotient, length_quotient, division}
 use Rattle.field.specs.Mod.{add, mul, sub}
 use Rattle.field.specs.Prime.{Prime, inv}
 use Rattle.sharing_laws.specs.Poly.{eval}

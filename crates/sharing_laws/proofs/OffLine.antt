@@ -6,6 +6,7 @@
 --     dealing-opens     the opening of a polynomial's values is its value at 0
 --     dealing-on        and the check finds nothing
 -- Assumes nothing.
+use Rattle.std.proofs.Common.{Some, None}
 use mathlib.Core.Path.{◌≡◌, refl, sym, ap, ap₂, ◌∙◌}
 use mathlib.Core.Logic.{◌↔◌, ⊎_elim}
 use mathlib.Core.Bool.{Bool, true, false}
@@ -19,7 +20,6 @@ use lib.ListN.{length, take, get_or, length-map}
 use lib.Seq.{get_or-take, length-take-le}
 use Rattle.numbers.specs.Bytes.{all_below}
 use Rattle.numbers.specs.Tables.{first_failing}
-use Rattle.numbers.specs.declared.Found.TheVariants.{At, Nothing}
 use Rattle.numbers.proofs.Tables.{is-tab, get_or-tab}
 use Rattle.numbers.proofs.Below.{all_below-take}
 use Rattle.numbers.proofs.Searches.{First, nothing_passes, passes-nothing, first_failing_lem, failing_first, first_ext}
@@ -66,7 +66,7 @@ abbrev pub agrees : ℕ → ℕ → List ℕ → List ℕ → ℕ → Bool
 agrees p t points shares i = eqb (get_or shares i 0) (interpolate p (get_or points i 0) (take (t + 1) points) shares)
 
 -- the party that is told is one of the points'
-pub off_within : (p t : ℕ) (points shares : List ℕ) (i : ℕ) → first_off p t points shares ≡ At i → i < length points
+pub off_within : (p t : ℕ) (points shares : List ℕ) (i : ℕ) → first_off p t points shares ≡ Some i → i < length points
 unfolding first_off
 off_within p t points shares i e = (first_failing_lem (agrees p t points shares) (length points) i e).within
 
@@ -78,11 +78,11 @@ module _ (p t : ℕ) (points shares : List ℕ) (m : t < length points) (same : 
   unfolding at
   at-is y = interpolate-take p y (t + 1) (take (t + 1) points) shares (omega (arith, length_first t points m))
 
-  found_all : first_off p t points shares ≡ Nothing → map at points ≡ shares
+  found_all : first_off p t points shares ≡ None → map at points ≡ shares
   unfolding first_off
   found_all h = map-tab at points ∙ sym (is-tab (λ i. at (get_or points i 0)) (length points) shares 0 same (λ i l. eqb-true (get_or shares i 0) (interpolate p (get_or points i 0) (take (t + 1) points) shares) (nothing_passes (agrees p t points shares) (length points) h i l) ∙ sym (at-is (get_or points i 0))))
 
-  all_found : map at points ≡ shares → first_off p t points shares ≡ Nothing
+  all_found : map at points ≡ shares → first_off p t points shares ≡ None
   unfolding first_off
   all_found h = passes-nothing (agrees p t points shares) (length points) (λ i l. eq-eqb (get_or shares i 0) (interpolate p (get_or points i 0) (take (t + 1) points) shares) (here i l))
     where
@@ -90,7 +90,7 @@ module _ (p t : ℕ) (points shares : List ℕ) (m : t < length points) (same : 
       here i l = ap (λ (l : List ℕ). get_or l i 0) (sym h ∙ map-tab at points) ∙ get_or-tab (λ k. at (get_or points k 0)) (length points) i 0 l ∙ at-is (get_or points i 0)
 
 module _ {p : ℕ} (prime : Prime p) (t : ℕ) (points : List ℕ) (d : Distinct p points) (m : t < length points) where
-  pub on_one : (shares : List ℕ) → length shares ≡ length points → all_below p shares ≡ true → (first_off p t points shares ≡ Nothing) ↔ OnOne p t points shares
+  pub on_one : (shares : List ℕ) → length shares ≡ length points → all_below p shares ≡ true → (first_off p t points shares ≡ None) ↔ OnOne p t points shares
   unfolding at
   on_one shares same h = (there, back)
     where
@@ -100,11 +100,11 @@ module _ {p : ℕ} (prime : Prime p) (t : ℕ) (points : List ℕ) (d : Distinct
       law : ((f : List ℕ) × (length f ≤ length (take (t + 1) points)) × (map (eval p f) (take (t + 1) points) ≡ take (t + 1) shares) × (map (eval p f) points ≡ shares)) ↔ (map (λ y. interpolate p y (take (t + 1) points) (take (t + 1) shares)) points ≡ shares)
       law = lies-on prime (take (t + 1) points) points (take (t + 1) shares) shares (distinct-take p (t + 1) points d) (below_canon p (take (t + 1) shares) (all_below-take p (t + 1) shares h)) (length_first t shares (omega arith) ∙ sym first)
 
-      there : first_off p t points shares ≡ Nothing → OnOne p t points shares
+      there : first_off p t points shares ≡ None → OnOne p t points shares
       there e = let f : (f : List ℕ) × (length f ≤ length (take (t + 1) points)) × (map (eval p f) (take (t + 1) points) ≡ take (t + 1) shares) × (map (eval p f) points ≡ shares) = law.1 (found_all p t points shares m same e) in
           record { polynomial = f.0; short = omega (arith, f.1, first); values = f.3 }
 
-      back : OnOne p t points shares → first_off p t points shares ≡ Nothing
+      back : OnOne p t points shares → first_off p t points shares ≡ None
       back o = all_found p t points shares m same (law.0 (o.polynomial, omega (arith, o.short, first), map-take (eval p o.polynomial) (t + 1) points ∙ ap (take (t + 1)) o.values, o.values))
 
   -- from the values of a polynomial
@@ -121,7 +121,7 @@ module _ {p : ℕ} (prime : Prime p) (t : ℕ) (points : List ℕ) (d : Distinct
   values-below : (f : List ℕ) → all_below p (map (eval p f) points) ≡ true
   values-below f = map_below p (eval p f) points (λ x. canon-lt (pos prime) (eval_canon f x))
 
-  pub dealing-on : (f : List ℕ) → length f ≤ t + 1 → first_off p t points (map (eval p f) points) ≡ Nothing
+  pub dealing-on : (f : List ℕ) → length f ≤ t + 1 → first_off p t points (map (eval p f) points) ≡ None
   dealing-on f l = (on_one (map (eval p f) points) (length-map points (eval p f)) (values-below f)).1 (record { polynomial = f; short = l; values = refl })
 
 -- ---- the party that is told
@@ -147,7 +147,7 @@ module _ {p : ℕ} (prime : Prime p) (t : ℕ) (points : List ℕ) (d : Distinct
         ap (first_failing (agrees p t (take k points) (take k shares))) long
         ∙ first_ext (agrees p t (take k points) (take k shares)) ok k (λ i v. agrees-take k i l v)
 
-    on-first : (first_off p t (take k points) (take k shares) ≡ Nothing) ↔ OnOne p t (take k points) (take k shares)
+    on-first : (first_off p t (take k points) (take k shares) ≡ None) ↔ OnOne p t (take k points) (take k shares)
     on-first =
         on_one prime t (take k points) (distinct-take p k points d) (omega (arith, long)) (take k shares)
         (length-take-le k shares (omega arith) ∙ sym long) (all_below-take p k shares h)
@@ -202,7 +202,7 @@ module _ {p : ℕ} (prime : Prime p) (t : ℕ) (points : List ℕ) (d : Distinct
     before = λ k l. on-passes i o.past (omega (arith, o.within)) o.before k l;
   }
 
-  pub off_at : (i : ℕ) → (first_off p t points shares ≡ At i) ↔ OffAt p t points shares i
+  pub off_at : (i : ℕ) → (first_off p t points shares ≡ Some i) ↔ OffAt p t points shares i
   unfolding first_off ok
   off_at i = (λ e. told i (first_failing_lem ok (length points) i e), λ o. failing_first ok (length points) i (untold i o))
 

@@ -4,6 +4,7 @@
 --     interpolated                 from the shares at the first t + 1 points, the share at any point
 --     shared-opened, shared_on     their opening is the value, and none of them is off
 -- Assumes nothing.
+use Rattle.std.proofs.Common.{None}
 use mathlib.Core.Path.{◌≡◌, refl, sym, ap, ◌∙◌, fun_ext}
 use mathlib.Core.List.{List, [], ◌∷◌, map}
 use Prim.Native.Nat.{ℕ, zero, suc, ◌+◌, ◌≤◌, ◌<◌}
@@ -12,7 +13,6 @@ use borrow.Author.Tests.{eq-eqb}
 use lib.Dec.{eqb}
 use lib.ListN.{length, take, get_or, length-map}
 use lib.Seq.{length-take-le}
-use Rattle.numbers.specs.declared.Found.TheVariants.{Nothing}
 use Rattle.numbers.proofs.Searches.{passes-nothing}
 use Rattle.field.specs.Mod.{add, mul}
 use Rattle.field.specs.Prime.{Prime}
@@ -71,7 +71,7 @@ module _ {p : ℕ} (prime : Prime p) (t : ℕ) (xs : List ℕ) (distinct : Disti
   unfolding opened
   shared-opened = interpolated 0 ∙ s.value 0 ∙ s.secret
 
-  pub shared_on : first_off p t xs (map h xs) ≡ Nothing
+  pub shared_on : first_off p t xs (map h xs) ≡ None
   unfolding first_off
   shared_on =
       passes-nothing (λ i. eqb (get_or (map h xs) i 0) (interpolate p (get_or xs i 0) (take (t + 1) xs) (map h xs))) (length xs)

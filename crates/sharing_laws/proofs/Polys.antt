@@ -1,10 +1,10 @@
 -- The values and the lengths of sums, products and quotients of polynomials.
-use mathlib.Core.Path.{◌≡◌, refl, sym, ap, ap₂, ◌∙◌}
+use mathlib.Core.Path.{◌≡◌, refl, ap, ap₂}
 use mathlib.Core.List.{List, [], ◌∷◌, ◌++◌, map}
-use Prim.Native.Nat.{ℕ, zero, suc, ◌+◌, ◌*◌, ◌-◌, ◌%◌, ◌≤◌, ◌<◌, max}
+use Prim.Native.Nat.{ℕ, zero, suc, ◌+◌, ◌-◌, ◌≤◌, ◌<◌, max}
 use native.Mathlib.Omega.{arith}
 use lib.ListN.{length, replicate, length-map}
-use Rattle.field.proofs.Solve.{Canon, zero_canon, add_canon, #, quote, solve, combine}
+use Rattle.field.proofs.Solve.{Canon, zero_canon, add_canon, #, quote, solve}
 use Rattle.field.specs.Mod.{add, mul, sub}
 use Rattle.sharing_laws.specs.Poly.{eval, sum_of, scale, product, linear, padded}
 

@@ -2,11 +2,11 @@
 use mathlib.Core.Path.{◌≡◌, refl, sym, ap, ap₂, ◌∙◌}
 use mathlib.Core.Logic.{◌≢◌}
 use mathlib.Core.List.{List, [], ◌∷◌, map}
-use Prim.Native.Nat.{ℕ, zero, suc, ◌+◌, ◌%◌, ◌≤◌, ◌<◌}
+use Prim.Native.Nat.{ℕ, suc, ◌%◌, ◌≤◌, ◌<◌}
 use native.Mathlib.Omega.{arith}
 use lib.ListN.{length}
 use Rattle.field.proofs.Solve.{mod_canon, mul_canon, Canon, zero_canon, #, quote, solve, combine}
-use Rattle.field.proofs.Inverse.{inv-law, pos, one-canon, no-zero-divisor, sub-nonzero}
+use Rattle.field.proofs.Inverse.{inv-law, pos, no-zero-divisor, sub-nonzero}
 use Rattle.sharing_laws.proofs.Polys.{eval_canon, eval_sum, eval-linear, length_sum, length-linear, quotient, tails_at, length_quotient, division}
 use Rattle.sharing_laws.specs.Interp.{All, Distinct}
 use Rattle.field.specs.Mod.{add, mul, sub}

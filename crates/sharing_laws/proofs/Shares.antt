@@ -1,8 +1,8 @@
 -- What sharing rests on: products interpolate, dealings mix, a shift shows nothing at the points it spares, and shares that lie on one polynomial.
 use mathlib.Core.Path.{◌≡◌, refl, sym, ap, ap₂, ◌∙◌, fun_ext}
 use mathlib.Core.Logic.{◌≢◌, ◌↔◌}
-use mathlib.Core.List.{List, [], ◌∷◌, ◌++◌, map, Memᴰ, tail}
-use Prim.Native.Nat.{ℕ, zero, suc, ◌+◌, ◌-◌, ◌%◌, ◌≤◌, ◌<◌, max}
+use mathlib.Core.List.{List, [], ◌∷◌, map, Memᴰ, tail}
+use Prim.Native.Nat.{ℕ, zero, suc, ◌+◌, ◌-◌, ◌%◌, ◌≤◌, ◌<◌}
 use native.Mathlib.Nat.{mod-eq_of_lt}
 use native.Mathlib.Omega.{arith}
 use lib.ListN.{length}
@@ -10,15 +10,15 @@ use Rattle.field.specs.Mod.{add, mul, sub}
 use Rattle.field.specs.Prime.{Prime, inv}
 use Rattle.sharing_laws.specs.Poly.{eval, sum_of, scale, product, linear}
 use Rattle.sharing_laws.specs.Interp.{All, Distinct, weights, dot, interpolate, delta}
-use Rattle.sharing_laws.specs.Sharing.{deal, mixture, matched}
+use Rattle.sharing_laws.specs.Sharing.{mixture, matched}
 use Rattle.numbers.specs.Tables.{tab}
-use Rattle.field.proofs.Solve.{Canon, below, add_canon, #, quote, solve, combine}
+use Rattle.field.proofs.Solve.{Canon, add_canon, #, quote, solve}
 use Rattle.field.proofs.Inverse.{pos, one-canon}
 use Rattle.sharing_laws.proofs.Alls.{all-tab}
 use Rattle.sharing_laws.proofs.Polys.{eval_canon, eval_sum, eval-scale, eval-product, length_sum, length-scale, length-product}
 use Rattle.sharing_laws.proofs.Interpolation.{interpolation}
 use Rattle.sharing_laws.proofs.Roots.{through, through-values, length-through}
-use Rattle.sharing_laws.proofs.Deltas.{delta-at-0, delta-at, length-delta}
+use Rattle.sharing_laws.proofs.Deltas.{delta-at, length-delta}
 
 -- ---- numbers below p of which no two are the same are distinct modulo p
 pub distinct-tab :

@@ -1,5 +1,5 @@
--- Document 01's worked sums of plan K, p = 11 and points 1, 2, 3, that speak of sharing alone: P1, P2 and P4, by computation;
--- and of document 02, its multiply by the reduction of 1988 (the figures 4, 5 matched with 1, 1 for party 3) and by a triple.
+-- Worked sums of a plan with p = 11 and points 1, 2, 3, that speak of sharing alone, by computation: openings, checks and dealings;
+-- and a multiply by the reduction of 1988 (the figures 4, 5 matched with 1, 1 for party 3) and by a triple.
 use mathlib.Core.Path.{◌≡◌, refl}
 use mathlib.Core.List.{List, [], ◌∷◌, map}
 use Prim.Native.Nat.{ℕ, ◌-◌}

@@ -1,4 +1,4 @@
--- The Lagrange basis, and source document 003's matrix, which takes a polynomial's values at all points to the values of its coefficients 0 to t.
+-- The Lagrange basis, and the matrix of the reduction of 1988, which takes a polynomial's values at all points to the values of its coefficients 0 to t.
 use Rattle.std.specs.Prelude.{cond, ℕ, suc, eqb, take, get_or}
 use mathlib.Core.List.{List, [], ◌∷◌, map, tail}
 use Rattle.field.specs.Mod.{add, mul, sub}

@@ -1,7 +1,6 @@
 -- Who is off the line: what the check of an opening tells, for any prime and any distinct points.
-use Rattle.std.specs.Prelude.{◌≡◌, ◌↔◌, true, List, map, ℕ, ◌+◌, ◌≤◌, ◌<◌, length, take}
+use Rattle.std.specs.Prelude.{Some, None, ◌≡◌, ◌↔◌, true, List, map, ℕ, ◌+◌, ◌≤◌, ◌<◌, length, take}
 use Rattle.numbers.specs.Bytes.{all_below}
-use Rattle.numbers.specs.declared.Found.TheVariants.{At, Nothing}
 use Rattle.field.specs.Prime.{Prime}
 use Rattle.sharing_laws.specs.Poly.{eval}
 use Rattle.sharing_laws.specs.Interp.{Distinct}
@@ -26,5 +25,5 @@ abbrev pub OffLine : Type 0
 OffLine =
     (p t : ℕ) (points shares : List ℕ) → Prime p → Distinct p points → t < length points
     → length shares ≡ length points → all_below p shares ≡ true
-    → ((i : ℕ) → (first_off p t points shares ≡ At i) ↔ OffAt p t points shares i)
-    × ((first_off p t points shares ≡ Nothing) ↔ OnOne p t points shares)
+    → ((i : ℕ) → (first_off p t points shares ≡ Some i) ↔ OffAt p t points shares i)
+    × ((first_off p t points shares ≡ None) ↔ OnOne p t points shares)

@@ -1,7 +1,6 @@
--- Shamir's sharing (document 01, "Arithmetic, coins and shares"): dealings, opening, and the coins of a matched dealing.
+-- Shamir's sharing: dealings, opening, and the coins of a matched dealing.
 use mathlib.Core.List.{List, [], ◌∷◌, ◌++◌, map, tail}
-use Rattle.std.specs.Prelude.{ℕ, zero, suc, ◌+◌, eqb, length, take, get_or}
-use Rattle.numbers.specs.declared.Found.{Found}
+use Rattle.std.specs.Prelude.{Option, ℕ, zero, suc, ◌+◌, eqb, length, take, get_or}
 use Rattle.numbers.specs.Tables.{first_failing}
 use Rattle.sharing_laws.specs.Poly.{eval, sum_of, scale}
 use Rattle.sharing_laws.specs.Interp.{weights, interpolate, delta}
@@ -15,7 +14,7 @@ unfoldable pub opened : ℕ → ℕ → List ℕ → List ℕ → ℕ
 opened p t points shares = interpolate p 0 (take (t + 1) points) shares
 
 -- the first party, counted from 0, whose share isn't on the polynomial through the shares at the first t + 1 points
-unfoldable pub first_off : ℕ → ℕ → List ℕ → List ℕ → Found
+unfoldable pub first_off : ℕ → ℕ → List ℕ → List ℕ → Option ℕ
 first_off p t points shares =
     first_failing (λ i. eqb (get_or shares i 0) (interpolate p (get_or points i 0) (take (t + 1) points) shares)) (length points)
 

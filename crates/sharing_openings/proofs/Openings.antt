@@ -2,26 +2,26 @@
 --     opening       the needs of `opened`
 --     offing        the needs of `first_off`
 -- Assumes nothing.
-use mathlib.Core.Path.{◌≡◌, refl, sym, ap, ◌∙◌}
+use mathlib.Core.Path.{◌≡◌, sym, ap, ◌∙◌}
 use mathlib.Core.Bool.{true}
 use mathlib.Core.List.{List, ◌++◌}
-use Prim.Native.Nat.{ℕ, suc, ◌+◌, ◌*◌, ◌≤◌, ◌<◌}
+use Prim.Native.Nat.{ℕ, ◌+◌, ◌*◌, ◌≤◌}
 use native.Mathlib.Nat.{mul-le-mul}
 use native.Mathlib.Omega.{arith}
 use borrow.Author.Rules.{rules}
-use lib.ListN.{length, take, drop, length-append}
+use lib.ListN.{length, take, drop}
 use lib.Seq.{take_at, length-take-le}
 use mir.Syntax.{w64}
 use mir.Val.{Fits}
 use Rattle.numbers.specs.Bytes.{all_below}
 use Rattle.numbers.proofs.Below.{all_below-take}
-use Rattle.field.specs.Field.{Is}
+use Rattle.field.specs.Field.{Is, Ready}
 use Rattle.sharing_laws.specs.Interp.{weights, dot, interpolate}
-use Rattle.sharing_laws.specs.Sharing.{opened, opening_row, opening_rows}
+use Rattle.sharing_laws.specs.Sharing.{opened}
 use Rattle.sharing_openings.specs.Openable.{Openable}
 use Rattle.sharing_laws.proofs.Alls.{length_first}
 use Rattle.sharing_laws.proofs.Interpolation.{length-weights}
-use Rattle.sharing_openings.proofs.Rows.{weights_below, length-row, length_rows}
+use Rattle.sharing_openings.proofs.Rows.{weights_below}
 
 -- ---- an opening
 module _ (p t : ℕ) (points shares room : List ℕ) (o : Openable p t points shares) (size : length room ≡ 15) where
@@ -41,8 +41,8 @@ module _ (p t : ℕ) (points shares room ys : List ℕ) (o : Openable p t points
   pub front_long : length (take (t + 1) (ys ++ drop (t + 1) room)) ≡ t + 1
   front_long = ap length front ∙ long
 
-  pub front_below : all_below p (take (t + 1) (ys ++ drop (t + 1) room)) ≡ true
-  front_below = rw (front, is) (weights_below o.ready.prime 0 (take (t + 1) points))
+  pub front_below : Ready p → all_below p (take (t + 1) (ys ++ drop (t + 1) room)) ≡ true
+  front_below r = rw (front, is) (weights_below r.prime 0 (take (t + 1) points))
 
   pub front-short : length (take (t + 1) (ys ++ drop (t + 1) room)) ≤ length shares
   front-short = omega (arith, front_long, o.threshold, o.each)
@@ -73,18 +73,4 @@ module _ (p t : ℕ) (points shares : List ℕ) (o : Openable p t points shares)
   pub used_few : length points ≤ 65536
   used_few = omega (arith, o.few)
 
-module _ (p t : ℕ) (points room ys : List ℕ) (m : t < length points) (is : ys ≡ opening_rows p t points) where
-  rows_long : length ys ≡ (t + 1) * length points
-  unfolding opening_rows
-  rows_long = ap length is ∙ length_rows (opening_row p t points) (t + 1) (λ j. length-row p t points j m) (length points)
-
-  pub rows-within : (t + 1) * length points ≤ length (ys ++ drop ((t + 1) * length points) room)
-  rows-within = rw length-append (omega (arith, rows_long))
-
-  pub rows-front : take ((t + 1) * length points) (ys ++ drop ((t + 1) * length points) room) ≡ opening_rows p t points
-  rows-front = take_at ys (drop ((t + 1) * length points) room) ((t + 1) * length points) rows_long ∙ is
-
-  pub rows-front-long : length (take ((t + 1) * length points) (ys ++ drop ((t + 1) * length points) room)) ≡ (t + 1) * length points
-  rows-front-long = ap length rows-front ∙ sym (ap length is) ∙ rows_long
-
-pub ruleset offing = (rules, used_fits, used_within, used-long, used_few, rows-within, rows-front, rows-front-long)
+pub ruleset offing = (rules, used_fits, used_within, used-long, used_few)

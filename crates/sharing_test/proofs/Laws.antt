@@ -4,7 +4,6 @@ use Rattle.std.proofs.Common.{◌≡◌, ℕ, ◌+◌, ◌*◌, ◌%◌, ◌^◌
 use Rattle.numbers.specs.Bytes.{all_below}
 use Rattle.numbers.proofs.Below.{all_below_next, all_below_over, all_below_end}
 use Rattle.field.proofs.Products.{word}
-use Rattle.field.proofs.Elements.{new_prime, new_small}
 use Rattle.field.specs.Field.{Ready}
 
 -- ---- whether every number is below p
@@ -61,4 +60,4 @@ length_front k xs l = length-take-le k xs l
 pub length_next : (t n : ℕ) (xs : List ℕ) → t < n → n ≤ length xs → length (take (t + 1) xs) ≡ t + 1
 length_next t n xs l m = length-take-le (t + 1) xs (omega arith)
 
-pub ruleset testing = (rules, length_front, length_next, test_begin, test_over, test_passed, test_end, rest_small, rest_below, term_fits, sum_fits, power_fits, positive, above-one, damaged_fits, new_prime, new_small)
+pub ruleset testing = (rules, length_front, length_next, test_begin, test_over, test_passed, test_end, rest_small, rest_below, term_fits, sum_fits, power_fits, positive, above-one, damaged_fits)

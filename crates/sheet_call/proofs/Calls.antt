@@ -2,22 +2,21 @@
 --     sheet-wired, file-checks     after 27 and 24 only 3 to 6, 8 and 25 can fall
 --     measuring, compiling         what closes the needs of the functions
 -- Assumes nothing.
+use Rattle.std.proofs.Common.{Option, Some, None, Result, Ok, Err}
 use Prim.Native.Nat.{ℕ, zero, suc, ◌+◌, ◌*◌, ◌<◌, ◌≤◌}
 use mathlib.Core.Path.{◌≡◌, refl, sym, ap, ap₂, subst, ◌∙◌}
-use mathlib.Core.Bool.{Bool, true, false, cond, not, ◌&&◌}
+use mathlib.Core.Bool.{Bool, true, false, cond, ◌&&◌}
 use mathlib.Core.List.{List, [], ◌∷◌, ◌++◌}
 use native.Mathlib.Omega.{arith}
 use borrow.Author.Rules.{rules}
 use borrow.Author.Tests.{le-leb, lt-leb, lt-ltb, ltb-true, eq-eqb, ne_eqb, not-true, not-false}
-use lib.Dec.{T, eqb, leb, ltb}
+use lib.Dec.{T, eqb}
 use lib.ListN.{length, get_or, take, drop}
 use mir.Syntax.{w32}
 use mir.Val.{Fits}
-use Rattle.numbers.specs.declared.Found.TheVariants.{At, Nothing}
 use Rattle.numbers.specs.Tables.{first_from, first_failing}
 use Rattle.field.proofs.Primes.{prime_sound}
-use Rattle.plan.specs.declared.Checked.{Checked}
-use Rattle.plan.specs.declared.Checked.TheVariants.{Passed, Refused}
+use Rattle.plan.specs.Refusals.{Checked}
 use Rattle.plan.specs.declared.Refusal.{Refusal}
 use Rattle.plan.specs.declared.Refusal.TheVariants as refusal
 use Rattle.plan.specs.declared.Output.{Output}
@@ -25,7 +24,7 @@ use Rattle.plan.specs.Refusals.{and_then, first_of, need, unless_found}
 use Rattle.plan.specs.File.{between, out_ok, parties_ok, threshold_ok, modulus_ok, majority_check, plan_check}
 use Rattle.plan.proofs.Refusals.{first_of-append, and_then_assoc, and_then_passed, and_then_refused, passed_both, passed-need}
 use Rattle.plan.proofs.Planned.{between-true, modulus_prime, modulus_small}
-use Rattle.plan_file.specs.Bodies.{Bodies, file_size, version_for, file_of_plan, content_checks, out_made}
+use Rattle.plan_file.specs.Bodies.{file_size, version_for, file_of_plan, content_checks, out_made}
 use Rattle.plan_file.proofs.Files.{Wired, file_check_outs, file_majority}
 use Rattle.plan_file.proofs.Files as files
 use Rattle.plan_file.proofs.Rooms.{room_long, room-majority, rooms}
@@ -34,45 +33,11 @@ use Rattle.sheet_text.specs.Trees.{names_of, gate_count}
 use Rattle.sheet_text.specs.Making.{sheet_tree, sheet_ok, tree_made, bodies_with, tree_bodies}
 use Rattle.sheet_text.proofs.Proper.{some_name, sheet_below}
 use Rattle.sheet_text.proofs.Sound.{made_long, made-gates, made-wire, made_kinds}
-use Rattle.sheet_write.specs.declared.Survey.{Survey}
-use Rattle.sheet_write.specs.declared.Survey.TheVariants as survey
+use Rattle.sheet_write.specs.declared.Counts.{Counts}
 use Rattle.sheet_write.specs.Passes.{table_of, up_to, SurveyIs, Surveyed, Compilable}
 use Rattle.sheet_write.proofs.Passing.{up_is, up_le, up_few, fresh}
-use Rattle.sheet_call.specs.declared.Sheet.{Sheet}
-use Rattle.sheet_call.specs.declared.Sheet.TheVariants as measured
-use Rattle.sheet_call.specs.Compiling.{sheet_bodies, sheet_file, text_checks, sheet_checks, sheet_answer, sheet_after, measured_of, refusal_of}
+use Rattle.sheet_call.specs.Compiling.{sheet_bodies, sheet_file, text_checks, sheet_checks, sheet_answer, sheet_after, refusal_of}
 use Rattle.sheet_call.specs.Measures.{Counted, Ready, MeasuredAs, Sized, Measuring}
-
-pub measured_passed : (c : Checked) (inputs gates : ℕ) → c ≡ Passed → measured.Counts inputs gates ≡ measured_of c inputs gates
-unfolding measured_of
-measured_passed c inputs gates e = rw e
-
-pub measured_refused : (c : Checked) (inputs gates : ℕ) (r : Refusal) → c ≡ Refused r → measured.Refused r ≡ measured_of c inputs gates
-unfolding measured_of
-measured_refused c inputs gates r e = rw e
-
-pub refusal_counts : (m : Sheet) (inputs gates : ℕ) → m ≡ measured.Counts inputs gates → Passed ≡ refusal_of m
-unfolding refusal_of
-refusal_counts m inputs gates e = rw e
-
-pub refusal_refused : (m : Sheet) (r : Refusal) → m ≡ measured.Refused r → Refused r ≡ refusal_of m
-unfolding refusal_of
-refusal_refused m r e = rw e
-
--- ---- refusal 8 of the one out
-module _ (c : Checked) (n seat : ℕ) where
-  pub result-refused : (r : Refusal) → c ≡ Refused r → c ≡ and_then c (need (refusal.OutputRule 0) (between 1 n seat))
-  unfolding and_then
-  result-refused r e = rw e
-
-  module _ (passed : c ≡ Passed) (x : Bool) (ex : x ≡ between 1 n seat) where
-    pub result-no : x ≡ false → Refused (refusal.OutputRule 0) ≡ and_then c (need (refusal.OutputRule 0) (between 1 n seat))
-    unfolding and_then need
-    result-no e = rw (passed, ← ex, e)
-
-    pub result-yes : x ≡ true → Passed ≡ and_then c (need (refusal.OutputRule 0) (between 1 n seat))
-    unfolding and_then need
-    result-yes e = rw (passed, ← ex, e)
 
 -- ---- after 27 and 24
 prime_above : (n p : ℕ) → modulus_ok n p ≡ true → 2 ≤ p
@@ -113,7 +78,7 @@ module _ (n t p i : ℕ) (text : List ℕ) (ok : sheet_ok n p text ≡ true) whe
   unfolding sheet_bodies tree_bodies bodies_with first_failing first_from out_made out_ok
   outs_are w = rw (lt-ltb (tree_made p (sheet_tree n p text)).wire (length (tree_made p (sheet_tree n p text)).gates) w) (by (between 1 n i))
     where
-      by : (x : Bool) → unless_found refusal.OutputRule (cond (x && true) Nothing (At 0)) ≡ need (refusal.OutputRule 0) x
+      by : (x : Bool) → unless_found refusal.OutputRule (cond (x && true) None (Some 0)) ≡ need (refusal.OutputRule 0) x
       by true = unfold unless_found in unfold need in refl
       by false = unfold unless_found in unfold need in refl
 
@@ -140,7 +105,7 @@ module _ (n t p i : ℕ) (text : List ℕ) (ok : sheet_ok n p text ≡ true) whe
             let two : 2 ≤ p = prime_above n p m in
             let w = made-wire n p (sheet_tree n p text) (omega arith) (sheet_below n p text (omega arith)) names-some in
             ap (λ (c : Checked). and_then (first_of (content_checks n t p (length (sheet_bodies n p i text).gates) 1)) (and_then c major)) (rw outs-count at (outs_are w))
-        late false m = unfold content_checks in unfold first_of in rw m (by (parties_ok n) (threshold_ok n t) (and_then (need refusal.Layout (between 1 1024 (length (sheet_bodies n p i text).gates) && between 1 64 1)) Passed))
+        late false m = unfold content_checks in unfold first_of in rw m (by (parties_ok n) (threshold_ok n t) (and_then (need refusal.Layout (between 1 1024 (length (sheet_bodies n p i text).gates) && between 1 64 1)) (Ok tt)))
           where
             by : (x y : Bool) (c : Checked) → and_then (and_then (need refusal.Parties x) (and_then (need refusal.Threshold y) (and_then (need refusal.Modulus false) c))) found
                 ≡ and_then (and_then (need refusal.Parties x) (and_then (need refusal.Threshold y) (and_then (need refusal.Modulus false) c))) told
@@ -154,7 +119,7 @@ module _ (n t p i : ℕ) (text : List ℕ) (ok : sheet_ok n p text ≡ true) whe
     text-told = rw (ok, le-leb (length (sheet_bodies n p i text).gates) 1024 few) (unfold plan_check in file-checks)
 
 -- what the contents' checks say where all pass
-module _ (n t p gates outs : ℕ) (passed : first_of (content_checks n t p gates outs) ≡ Passed) where
+module _ (n t p gates outs : ℕ) (passed : first_of (content_checks n t p gates outs) ≡ (Ok tt)) where
   contents-parts : (parties_ok n ≡ true) × (threshold_ok n t ≡ true) × (modulus_ok n p ≡ true)
   unfolding content_checks first_of
   contents-parts =
@@ -168,7 +133,7 @@ module _ (text : List ℕ) (n t p i inputs gates : ℕ) (w : Compilable text n t
   pub majority-fits : Fits w32 (2 * t)
   majority-fits = record { fits = omega (arith, w.threshold) }
 
-  pub majority-passed : 2 * t < n → Passed ≡ majority_check (sheet_file n t p i text)
+  pub majority-passed : 2 * t < n → (Ok tt) ≡ majority_check (sheet_file n t p i text)
   unfolding sheet_file
   majority-passed l = file_majority n t p (sheet_bodies n p i text) l
 
@@ -178,17 +143,17 @@ module _ (text : List ℕ) (n t p i inputs gates : ℕ) (w : Compilable text n t
   pub majority-gates : gates ≤ 1024
   majority-gates = w.few
 
-  module _ (r : Survey) (names : List ℕ) (h : Surveyed n p text r names) where
+  module _ (r : Option Counts) (names : List ℕ) (h : Surveyed n p text r names) where
     -- no such answer
-    pub majority-wrong : r ≡ survey.Wrong → Passed ≡ majority_check (sheet_file n t p i text)
+    pub majority-wrong : r ≡ None → (Ok tt) ≡ majority_check (sheet_file n t p i text)
     unfolding SurveyIs
     majority-wrong e = let k : true ≡ false = sym w.ok ∙ (rw e at h.is) in absurd (let z : ◌≡◌ {A = ℕ} 0 1 = cc in omega arith)
 
-    pub majority-again : (a b : ℕ) → r ≡ survey.Counts a b → Compilable text n t p i inputs gates names
+    pub majority-again : (a : Counts) → r ≡ Some a → Compilable text n t p i inputs gates names
     unfolding SurveyIs
-    majority-again a b e = rw (table (rw e at h.is)) w
+    majority-again a e = rw (table (rw e at h.is)) w
       where
-        table : record { ok : sheet_ok n p text ≡ true; inputs_are : a ≡ up_to (length (names_of (sheet_tree n p text))); gates_are : b ≡ a + up_to (gate_count (sheet_tree n p text)); table : names ≡ table_of 1025 (names_of (sheet_tree n p text)) }
+        table : record { ok : sheet_ok n p text ≡ true; inputs_are : a.inputs ≡ up_to (length (names_of (sheet_tree n p text))); gates_are : a.gates ≡ a.inputs + up_to (gate_count (sheet_tree n p text)); table : names ≡ table_of 1025 (names_of (sheet_tree n p text)) }
             → names ≡ table_of 1025 (names_of (sheet_tree n p text))
         table k = k.table
 
@@ -206,7 +171,7 @@ pub ruleset majorities = (rules, fresh, majority-fits, majority-passed, majority
 -- ---- 3 to 6, 8 and 25
 module _ (n t p i inputs gates : ℕ) (text : List ℕ) (w : Counted text n p inputs gates) where
   plan-compilable : (names : List ℕ) → names ≡ table_of 1025 (names_of (sheet_tree n p text))
-      → and_then (first_of (content_checks n t p gates 1)) (need (refusal.OutputRule 0) (between 1 n i)) ≡ Passed → Compilable text n t p i inputs gates names
+      → and_then (first_of (content_checks n t p gates 1)) (need (refusal.OutputRule 0) (between 1 n i)) ≡ (Ok tt) → Compilable text n t p i inputs gates names
   plan-compilable names table q =
       let both = passed_both (first_of (content_checks n t p gates 1)) (need (refusal.OutputRule 0) (between 1 n i)) q in
       let parts = contents-parts n t p gates 1 both.0 in
@@ -225,67 +190,71 @@ module _ (n t p i inputs gates : ℕ) (text : List ℕ) (w : Counted text n p in
         result = omega (arith, parties, seat);
       }
 
-  module _ (c d : Checked) (ec : c ≡ first_of (content_checks n t p gates 1)) (ed : d ≡ and_then c (need (refusal.OutputRule 0) (between 1 n i))) where
-    first : d ≡ and_then (first_of (content_checks n t p gates 1)) (need (refusal.OutputRule 0) (between 1 n i))
-    first = ed ∙ ap (λ (x : Checked). and_then x (need (refusal.OutputRule 0) (between 1 n i))) ec
+  module _ (c : Checked) (ec : c ≡ first_of (content_checks n t p gates 1)) where
+    pub plan-refused : (r : Refusal) (x : Checked) → c ≡ Err r → x ≡ Err r
+        → x ≡ and_then (and_then (first_of (content_checks n t p gates 1)) (need (refusal.OutputRule 0) (between 1 n i))) (majority_check (sheet_file n t p i text))
+    unfolding and_then
+    plan-refused r x q z = z ∙ rw (← ec, q)
 
-    pub plan-made : d ≡ Passed → Compilable text n t p i inputs gates (table_of 1025 (names_of (sheet_tree n p text)))
-    plan-made q = plan-compilable (table_of 1025 (names_of (sheet_tree n p text))) refl (sym first ∙ q)
+    module _ (passed : c ≡ (Ok tt)) (y : Bool) (ey : y ≡ between 1 n i) where
+      pub plan-no-party : y ≡ false
+          → Err (refusal.OutputRule 0) ≡ and_then (and_then (first_of (content_checks n t p gates 1)) (need (refusal.OutputRule 0) (between 1 n i))) (majority_check (sheet_file n t p i text))
+      unfolding and_then need
+      plan-no-party e = rw (← ec, passed, ← ey, e)
 
-    pub plan-refused : (r : Refusal) → d ≡ Refused r
-        → d ≡ and_then (and_then (first_of (content_checks n t p gates 1)) (need (refusal.OutputRule 0) (between 1 n i))) (majority_check (sheet_file n t p i text))
-    plan-refused r q = q ∙ sym (and_then_refused _ _ r (sym first ∙ q))
+      module _ (e : y ≡ true) where
+        first : and_then (first_of (content_checks n t p gates 1)) (need (refusal.OutputRule 0) (between 1 n i)) ≡ (Ok tt)
+        unfolding and_then need
+        first = rw (← ec, passed, ← ey, e)
 
-    pub plan-further : (e : Checked) → d ≡ Passed → e ≡ majority_check (sheet_file n t p i text)
-        → e ≡ and_then (and_then (first_of (content_checks n t p gates 1)) (need (refusal.OutputRule 0) (between 1 n i))) (majority_check (sheet_file n t p i text))
-    plan-further e q is = is ∙ sym (and_then_passed _ _ (sym first ∙ q))
+        pub plan-made : Compilable text n t p i inputs gates (table_of 1025 (names_of (sheet_tree n p text)))
+        plan-made = plan-compilable (table_of 1025 (names_of (sheet_tree n p text))) refl first
 
-pub ruleset checking_plan = (rules, plan-made, plan-refused, plan-further)
+        pub plan-further : (d : Checked) → d ≡ majority_check (sheet_file n t p i text)
+            → d ≡ and_then (and_then (first_of (content_checks n t p gates 1)) (need (refusal.OutputRule 0) (between 1 n i))) (majority_check (sheet_file n t p i text))
+        plan-further d is = is ∙ sym (and_then_passed _ _ first)
 
-told_of : (c : Checked) (inputs gates : ℕ) → refusal_of (measured_of c inputs gates) ≡ c
-unfolding measured_of refusal_of
-told_of Passed inputs gates = refl
-told_of (Refused r) inputs gates = refl
+pub ruleset checking_plan = (rules, not-true, not-false, plan-refused, plan-no-party, plan-made, plan-further)
 
 -- ---- the first pass
-module _ (n t p i : ℕ) (text : List ℕ) (r : Survey) (names : List ℕ) (h : Surveyed n p text r names) where
-  pub measure-wrong : r ≡ survey.Wrong → MeasuredAs text n t p i (measured.Refused refusal.SheetText) names
+module _ (n t p i : ℕ) (text : List ℕ) (r : Option Counts) (names : List ℕ) (h : Surveyed n p text r names) where
+  pub measure-wrong : r ≡ None → MeasuredAs text n t p i (Err refusal.SheetText) names
   unfolding text_checks first_of and_then need refusal_of Ready SurveyIs
   measure-wrong e = let k : sheet_ok n p text ≡ false = rw e at h.is in record { told = rw k; ready = tt; long = h.long }
 
-  module _ (inputs gates : ℕ) (e : r ≡ survey.Counts inputs gates) where
+  module _ (c : Counts) (e : r ≡ Some c) where
     record Told : Type 0 where
       ok : sheet_ok n p text ≡ true
-      inputs_are : inputs ≡ up_to (length (names_of (sheet_tree n p text)))
-      gates_are : gates ≡ inputs + up_to (gate_count (sheet_tree n p text))
+      inputs_are : c.inputs ≡ up_to (length (names_of (sheet_tree n p text)))
+      gates_are : c.gates ≡ c.inputs + up_to (gate_count (sheet_tree n p text))
       table : names ≡ table_of 1025 (names_of (sheet_tree n p text))
 
     counted : Told
     unfolding SurveyIs
     counted = let k = counts (rw e at h.is) in k
       where
-        counts : record { ok : sheet_ok n p text ≡ true; inputs_are : inputs ≡ up_to (length (names_of (sheet_tree n p text))); gates_are : gates ≡ inputs + up_to (gate_count (sheet_tree n p text)); table : names ≡ table_of 1025 (names_of (sheet_tree n p text)) } → Told
+        counts : record { ok : sheet_ok n p text ≡ true; inputs_are : c.inputs ≡ up_to (length (names_of (sheet_tree n p text))); gates_are : c.gates ≡ c.inputs + up_to (gate_count (sheet_tree n p text)); table : names ≡ table_of 1025 (names_of (sheet_tree n p text)) } → Told
         counts k = record { ok = k.ok; inputs_are = k.inputs_are; gates_are = k.gates_are; table = k.table }
 
     all : length (sheet_bodies n p i text).gates ≡ length (names_of (sheet_tree n p text)) + gate_count (sheet_tree n p text)
     all = gates-count n t p i text counted.ok
 
-    pub measure-large : 1024 < gates → MeasuredAs text n t p i (measured.Refused refusal.TooLarge) names
+    pub measure-large : 1024 < c.gates → MeasuredAs text n t p i (Err refusal.TooLarge) names
     unfolding text_checks first_of and_then need refusal_of Ready
     measure-large l =
         let large : 1024 < length (sheet_bodies n p i text).gates = omega (arith, all, counted.inputs_are, counted.gates_are, up_le (length (names_of (sheet_tree n p text))), up_le (gate_count (sheet_tree n p text))) in
         record { told = rw (counted.ok, lt-leb (length (sheet_bodies n p i text).gates) 1024 large); ready = tt; long = h.long }
 
-    module _ (few : gates ≤ 1024) where
-      names-are : inputs ≡ length (names_of (sheet_tree n p text))
+    module _ (few : c.gates ≤ 1024) where
+      names-are : c.inputs ≡ length (names_of (sheet_tree n p text))
       names-are = counted.inputs_are ∙ up_is (length (names_of (sheet_tree n p text))) (omega (arith, counted.inputs_are, counted.gates_are))
 
-      gates_are : length (sheet_bodies n p i text).gates ≡ gates
+      gates_are : length (sheet_bodies n p i text).gates ≡ c.gates
       gates_are =
           let g : up_to (gate_count (sheet_tree n p text)) ≡ gate_count (sheet_tree n p text) = up_is (gate_count (sheet_tree n p text)) (omega (arith, counted.gates_are)) in
           omega (arith, all, counted.gates_are, names-are, g)
 
-      pub measure-counted : Counted text n p inputs gates
+      pub measure-counted : Counted text n p c.inputs c.gates
       measure-counted = record {
         ok = counted.ok;
         inputs_are = names-are;
@@ -293,38 +262,39 @@ module _ (n t p i : ℕ) (text : List ℕ) (r : Survey) (names : List ℕ) (h : 
         few = few;
       }
 
-      module _ (d : Checked) (ed : d ≡ and_then (and_then (first_of (content_checks n t p gates 1)) (need (refusal.OutputRule 0) (between 1 n i))) (majority_check (sheet_file n t p i text))) where
+      module _ (d : Checked) (ed : d ≡ and_then (and_then (first_of (content_checks n t p c.gates 1)) (need (refusal.OutputRule 0) (between 1 n i))) (majority_check (sheet_file n t p i text))) where
         told : d ≡ first_of (text_checks n t p i text)
         told =
-            ed ∙ and_then_assoc (first_of (content_checks n t p gates 1)) (need (refusal.OutputRule 0) (between 1 n i)) (majority_check (sheet_file n t p i text))
+            ed ∙ and_then_assoc (first_of (content_checks n t p c.gates 1)) (need (refusal.OutputRule 0) (between 1 n i)) (majority_check (sheet_file n t p i text))
             ∙ sym (text-told n t p i text counted.ok (omega (arith, gates_are)) ∙ rw gates_are)
 
-        compilable : d ≡ Passed → Compilable text n t p i inputs gates names
+        compilable : d ≡ (Ok tt) → Compilable text n t p i c.inputs c.gates names
         compilable q =
-            plan-compilable n t p i inputs gates text measure-counted names counted.table
-            (passed_both (and_then (first_of (content_checks n t p gates 1)) (need (refusal.OutputRule 0) (between 1 n i))) (majority_check (sheet_file n t p i text)) (sym ed ∙ q)).0
+            plan-compilable n t p i c.inputs c.gates text measure-counted names counted.table
+            (passed_both (and_then (first_of (content_checks n t p c.gates 1)) (need (refusal.OutputRule 0) (between 1 n i))) (majority_check (sheet_file n t p i text)) (sym ed ∙ q)).0
 
-        pub measure-counts : (m : Sheet) → m ≡ measured_of d inputs gates → MeasuredAs text n t p i m names
-        measure-counts m em = record { told = rw em (told_of d inputs gates ∙ told); ready = rw em (by d refl); long = h.long }
-          where
-            by : (x : Checked) → d ≡ x → Ready text n t p i (measured_of x inputs gates) names
-            by Passed q = unfold measured_of in unfold Ready in compilable q
-            by (Refused y) q = unfold measured_of in unfold Ready in tt
+        pub measure-counts : d ≡ (Ok tt) → MeasuredAs text n t p i (Ok c) names
+        unfolding refusal_of Ready
+        measure-counts q = record { told = sym q ∙ told; ready = compilable q; long = h.long }
 
-pub ruleset measuring = (rules, not-true, not-false, measured_passed, measured_refused, refusal_counts, refusal_refused, result-refused, result-no, result-yes, measure-wrong, measure-large, measure-counted, measure-counts)
+        pub measure-refused : (y : Result Counts Refusal) (q : Refusal) → d ≡ Err q → y ≡ Err q → MeasuredAs text n t p i y names
+        unfolding refusal_of Ready
+        measure-refused y q s z = rw z (record { told = sym s ∙ told; ready = tt; long = h.long })
+
+pub ruleset measuring = (rules, measure-wrong, measure-large, measure-counted, measure-counts, measure-refused)
 
 -- ---- the call
 file_size_lem : (text : List ℕ) (n t p i inputs gates : ℕ) (names : List ℕ) → Compilable text n t p i inputs gates names → length (sheet_file n t p i text) ≡ file_size (version_for p) n gates 1
 unfolding sheet_file sheet_bodies tree_bodies bodies_with
 file_size_lem text n t p i inputs gates names h = files.made_long n t p (bodies_with i (tree_made p (sheet_tree n p text))) ∙ (unfold bodies_with in rw (← h.gates_are))
 
-module _ (text : List ℕ) (n t p i : ℕ) (m : Sheet) (names : List ℕ) (h : MeasuredAs text n t p i m names) where
+module _ (text : List ℕ) (n t p i : ℕ) (m : Result Counts Refusal) (names : List ℕ) (h : MeasuredAs text n t p i m names) where
   pub measured-sized : Measuring text n t p i m
   measured-sized = record { told = h.told; sized = by m h.ready }
     where
-      by : (x : Sheet) → Ready text n t p i x names → Sized text n t p i x
-      by (measured.Counts inputs gates) k = unfold Sized in unfold Ready in record { few = k.few; parties = k.parties; size = file_size_lem text n t p i inputs gates names k }
-      by (measured.Refused r) k = unfold Sized in tt
+      by : (x : Result Counts Refusal) → Ready text n t p i x names → Sized text n t p i x
+      by (Ok c) k = unfold Sized in unfold Ready in record { few = k.few; parties = k.parties; size = file_size_lem text n t p i c.inputs c.gates names k }
+      by (Err r) k = unfold Sized in tt
 
   parts : (room : ℕ) → sheet_answer n t p i text room ≡ and_then (refusal_of m) (need refusal.BufferLength (eqb room (length (sheet_file n t p i text))))
   unfolding sheet_answer sheet_checks
@@ -333,65 +303,65 @@ module _ (text : List ℕ) (n t p i : ℕ) (m : Sheet) (names : List ℕ) (h : M
       ∙ ap₂ and_then (sym h.told) (one (need refusal.BufferLength (eqb room (length (sheet_file n t p i text)))))
     where
       one : (c : Checked) → first_of (c ∷ []) ≡ c
-      one Passed = unfold first_of in unfold and_then in refl
-      one (Refused r) = unfold first_of in unfold and_then in refl
+      one (Ok tt) = unfold first_of in unfold and_then in refl
+      one (Err r) = unfold first_of in unfold and_then in refl
 
   after : (out : List ℕ) (a : Checked) → sheet_answer n t p i text (length out) ≡ a → sheet_after n t p i text out ≡ unless_refused a (sheet_file n t p i text) out
   unfolding sheet_after
   after out a e = ap (λ (c : Checked). unless_refused c (sheet_file n t p i text) out) e
 
-  module _ (r : Refusal) (q : m ≡ measured.Refused r) where
-    refused : refusal_of m ≡ Refused r
+  module _ (r : Refusal) (q : m ≡ Err r) where
+    refused : refusal_of m ≡ Err r
     unfolding refusal_of
     refused = rw q
 
-    answer_refused : (room : ℕ) → sheet_answer n t p i text room ≡ Refused r
+    answer_refused : (room : ℕ) → sheet_answer n t p i text room ≡ Err r
     answer_refused room = parts room ∙ and_then_refused _ _ r refused
 
-    pub sheet-refused : (c : Checked) (room : ℕ) → c ≡ refusal_of m → c ≡ sheet_answer n t p i text room
-    sheet-refused c room e = e ∙ refused ∙ sym (answer_refused room)
+    pub sheet-refused : (c : Checked) (room : ℕ) → c ≡ Err r → c ≡ sheet_answer n t p i text room
+    sheet-refused c room e = e ∙ sym (answer_refused room)
 
     pub sheet-kept : (out : List ℕ) → out ≡ sheet_after n t p i text out
     unfolding unless_refused
-    sheet-kept out = sym (after out (Refused r) (answer_refused (length out)))
+    sheet-kept out = sym (after out (Err r) (answer_refused (length out)))
 
-  module _ (inputs gates : ℕ) (q : m ≡ measured.Counts inputs gates) where
-    pub counts-text : Compilable text n t p i inputs gates names
+  module _ (k : Counts) (q : m ≡ Ok k) where
+    pub counts-text : Compilable text n t p i k.inputs k.gates names
     unfolding Ready
     counts-text = rw q at h.ready
 
-    pub gates_small : gates ≤ 1024
+    pub gates_small : k.gates ≤ 1024
     gates_small = counts-text.few
 
-    passed : refusal_of m ≡ Passed
+    passed : refusal_of m ≡ (Ok tt)
     unfolding refusal_of
     passed = rw q
 
     pub counts-parties : n ≤ 15
     counts-parties = counts-text.parties
 
-    pub counts-room : (out : List ℕ) (v size : ℕ) → v ≡ version_for p → size ≡ file_size v n gates 1 → length out ≡ size → length out ≡ file_size (version_for p) n gates 1
-    counts-room out v size ev s e = e ∙ s ∙ ap (λ (k : ℕ). file_size k n gates 1) ev
+    pub counts-room : (out : List ℕ) (v size : ℕ) → v ≡ version_for p → size ≡ file_size v n k.gates 1 → length out ≡ size → length out ≡ file_size (version_for p) n k.gates 1
+    counts-room out v size ev s e = e ∙ s ∙ ap (λ (v : ℕ). file_size v n k.gates 1) ev
 
-    module _ (out : List ℕ) (v size : ℕ) (ev : v ≡ version_for p) (es : size ≡ file_size v n gates 1) where
+    module _ (out : List ℕ) (v size : ℕ) (ev : v ≡ version_for p) (es : size ≡ file_size v n k.gates 1) where
       answer-is : sheet_answer n t p i text (length out) ≡ need refusal.BufferLength (eqb (length out) size)
-      answer-is = parts (length out) ∙ and_then_passed _ _ passed ∙ ap (λ (k : ℕ). need refusal.BufferLength (eqb (length out) k)) (file_size_lem text n t p i inputs gates names counts-text ∙ ap (λ (k : ℕ). file_size k n gates 1) (sym ev) ∙ sym es)
+      answer-is = parts (length out) ∙ and_then_passed _ _ passed ∙ ap (λ (k : ℕ). need refusal.BufferLength (eqb (length out) k)) (file_size_lem text n t p i k.inputs k.gates names counts-text ∙ ap (λ (v : ℕ). file_size v n k.gates 1) (sym ev) ∙ sym es)
 
-      pub sheet-length : (length out ≡ size → ⊥) → Refused refusal.BufferLength ≡ sheet_answer n t p i text (length out)
+      pub sheet-length : (length out ≡ size → ⊥) → Err refusal.BufferLength ≡ sheet_answer n t p i text (length out)
       unfolding need
       sheet-length l = sym (answer-is ∙ rw (ne_eqb (length out) size l))
 
       pub sheet-left : (length out ≡ size → ⊥) → out ≡ sheet_after n t p i text out
       unfolding unless_refused
-      sheet-left l = sym (after out (Refused refusal.BufferLength) (sym (sheet-length l)))
+      sheet-left l = sym (after out (Err refusal.BufferLength) (sym (sheet-length l)))
 
       module _ (l : length out ≡ size) where
-        pub sheet-passed : Passed ≡ sheet_answer n t p i text (length out)
+        pub sheet-passed : (Ok tt) ≡ sheet_answer n t p i text (length out)
         unfolding need
         sheet-passed = sym (answer-is ∙ rw (eq-eqb (length out) size l))
 
         pub sheet-written : (new : List ℕ) → new ≡ file_of_plan n t p (tree_bodies p i (sheet_tree n p text)) → new ≡ sheet_after n t p i text out
         unfolding unless_refused sheet_file sheet_bodies
-        sheet-written new e = e ∙ sym (after out Passed (sym sheet-passed))
+        sheet-written new e = e ∙ sym (after out (Ok tt) (sym sheet-passed))
 
 pub ruleset compiling = (rules, fresh, measured-sized, sheet-refused, sheet-kept, counts-text, gates_small, counts-parties, counts-room, sheet-length, sheet-left, sheet-passed, sheet-written)

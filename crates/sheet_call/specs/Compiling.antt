@@ -1,15 +1,14 @@
--- A formula sheet compiled to a plan (document 02, R-5) as its caller sees it: the first refusal or none, and the lent buffer afterwards.
-use Rattle.std.specs.Prelude.{ℕ, List, [], ◌∷◌, ◌++◌, eqb, leb, length}
-use Rattle.plan.specs.declared.Checked.{Checked}
-use Rattle.plan.specs.declared.Checked.TheVariants.{Passed, Refused}
+-- A formula sheet compiled to a plan as its caller sees it: the first refusal or none, and the lent buffer afterwards.
+use Rattle.std.specs.Prelude.{Result, Ok, Err, ℕ, List, [], ◌∷◌, ◌++◌, eqb, leb, length}
+use Rattle.plan.specs.Refusals.{Checked}
+use Rattle.plan.specs.declared.Refusal.{Refusal}
 use Rattle.plan.specs.declared.Refusal.TheVariants as refusal
 use Rattle.plan.specs.Refusals.{first_of, need}
 use Rattle.plan.specs.File.{plan_checks}
 use Rattle.plan_file.specs.Bodies.{Bodies, file_of_plan}
 use Rattle.seat_messages.specs.Calls.{unless_refused}
 use Rattle.sheet_text.specs.Making.{sheet_tree, sheet_ok, tree_bodies}
-use Rattle.sheet_call.specs.declared.Sheet.{Sheet}
-use Rattle.sheet_call.specs.declared.Sheet.TheVariants as measured
+use Rattle.sheet_write.specs.declared.Counts.{Counts}
 
 -- the plan's gates and its one out, which goes to party i, and its file
 unfoldable pub sheet_bodies : ℕ → ℕ → ℕ → List ℕ → Bodies
@@ -36,12 +35,7 @@ sheet_answer n t p i text room = first_of (sheet_checks n t p i text room)
 unfoldable pub sheet_after : ℕ → ℕ → ℕ → ℕ → List ℕ → List ℕ → List ℕ
 sheet_after n t p i text out = unless_refused (sheet_answer n t p i text (length out)) (sheet_file n t p i text) out
 
--- ---- what the call goes on with: the plan's inputs and gates, or the refusal
-unfoldable pub measured_of : Checked → ℕ → ℕ → Sheet
-measured_of Passed inputs gates = measured.Counts inputs gates
-measured_of (Refused r) inputs gates = measured.Refused r
-
--- a refusal, handed on
-unfoldable pub refusal_of : Sheet → Checked
-refusal_of (measured.Counts inputs gates) = Passed
-refusal_of (measured.Refused r) = Refused r
+-- a measure's refusal, handed on
+unfoldable pub refusal_of : Result Counts Refusal → Checked
+refusal_of (Ok counts) = (Ok tt)
+refusal_of (Err r) = Err r

@@ -2,7 +2,8 @@
 --     inside_of, ahead_made, wrong_ahead     places
 --     leaving                                what closes the needs of the functions
 -- Assumes nothing.
-use Prim.Native.Nat.{ℕ, zero, suc, ◌+◌, ◌-◌, ◌*◌, ◌<◌, ◌≤◌}
+use Rattle.std.proofs.Common.{Option, Some, None}
+use Prim.Native.Nat.{ℕ, suc, ◌+◌, ◌-◌, ◌*◌, ◌<◌, ◌≤◌}
 use mathlib.Core.Path.{◌≡◌, refl, sym, ap, ◌∙◌}
 use mathlib.Core.Bool.{Bool, true, false, cond}
 use mathlib.Core.List.{List}
@@ -13,8 +14,6 @@ use borrow.Author.Tests.{le-leb, lt-leb, eq-eqb, ne_eqb, ltb-true, ltb-false, le
 use lib.Dec.{eqb, leb, ltb}
 use lib.ListN.{length, get_or, set, length-set, get_or-eq_default}
 use Rattle.numbers.proofs.Truth.{both_true}
-use Rattle.text_decimals.specs.declared.Numeral.{Numeral}
-use Rattle.text_decimals.specs.declared.Numeral.TheVariants as numeral
 use Rattle.text_decimals.specs.Reading.{blanks_end, decimal_at, Within, Placed}
 use Rattle.text_decimals.specs.Reading as reading
 use Rattle.plan.specs.declared.Gate.TheVariants.{Scale, Offset}
@@ -22,10 +21,9 @@ use Rattle.plan_file.specs.Bodies.{written, gate_bytes, place_in, version_for}
 use Rattle.sheet_text.specs.Trees.{Tree}
 use Rattle.sheet_text.specs.Sheets.{Parsed, is_letter, name_from, number_from}
 use Rattle.sheet_read.specs.declared.Part.{Part}
-use Rattle.sheet_read.specs.declared.Part.TheVariants as part
 use Rattle.sheet_read.specs.Working.{free_or, capped_next, put_gate, number_out, work}
-use Rattle.sheet_read.specs.Reading.{part_of, Left, Ahead, Reads, number_part, number_file, name_part, name_table, leaf_at, Letter, Leaf}
-use Rattle.sheet_read.proofs.Gates.{long_put, next-is, next_over}
+use Rattle.sheet_read.specs.Reading.{made, part_of, Left, Ahead, Reads, number_part, number_file, name_part, name_table, leaf_at, Letter, Leaf}
+use Rattle.sheet_read.proofs.Gates.{long_put}
 
 -- ---- places
 past : (s : List ℕ) (at : ℕ) → length s ≤ at → get_or s at 0 ≡ 0
@@ -42,30 +40,30 @@ inside_of s e b q l = by (ltb e (length s)) refl
 pub fits_next : (n e : ℕ) → e + 1 ≤ n → n < 18446744073709551616 → e + 1 < 18446744073709551616
 fits_next n e l m = omega arith
 
-pub wrong_ahead : (s : List ℕ) (at : ℕ) → Ahead s at part.Wrong
+pub wrong_ahead : (s : List ℕ) (at : ℕ) → Ahead s at None
 unfolding Ahead
 wrong_ahead s at = tt
 
-pub ahead_made : (s : List ℕ) (at w g e : ℕ) → at < e → e ≤ length s → Ahead s at (part.Made w g e)
+pub ahead_made : (s : List ℕ) (at w g e : ℕ) → at < e → e ≤ length s → Ahead s at (Some (made w g e))
 unfolding Ahead
 ahead_made s at w g e a b = record { from = a; upto = b }
 
-numeral_ends : (s : List ℕ) (at limit v e : ℕ) (d : Numeral) → d ≡ numeral.Value v e → reading.Ahead s at limit d → record { from : at < e; upto : e ≤ at + (length s - at); small : v < limit }
+numeral_ends : (s : List ℕ) (at limit v e : ℕ) (d : Option (ℕ × ℕ)) → d ≡ Some (v, e) → reading.Ahead s at limit d → record { from : at < e; upto : e ≤ at + (length s - at); small : v < limit }
 unfolding reading.Ahead
 numeral_ends s at limit v e d q h = rw q at h
 
 -- ---- numbers
-module _ (s : List ℕ) (at limit g : ℕ) (out : List ℕ) (d : Numeral) (h : Placed s at limit (decimal_at limit s at) d) where
-  pub number-wrong : d ≡ numeral.Wrong → part.Wrong ≡ number_part s g (decimal_at limit s at)
+module _ (s : List ℕ) (at limit g : ℕ) (out : List ℕ) (d : Option (ℕ × ℕ)) (h : Placed s at limit (decimal_at limit s at) d) where
+  pub number-wrong : d ≡ None → None ≡ number_part s g (decimal_at limit s at)
   unfolding number_part
   number-wrong q = rw (← h.eq, q)
 
-  pub number-kept : d ≡ numeral.Wrong → out ≡ number_file limit g out (decimal_at limit s at)
+  pub number-kept : d ≡ None → out ≡ number_file limit g out (decimal_at limit s at)
   unfolding number_file
   number-kept q = rw (← h.eq, q)
 
-  module _ (v e k : ℕ) (q : d ≡ numeral.Value v e) (ek : k ≡ capped_next g) where
-    pub number_part_lem : (m f : ℕ) → m ≡ capped_next k → Within s e (blanks_end s e) f → part.Made k m f ≡ number_part s g (decimal_at limit s at)
+  module _ (v e k : ℕ) (q : d ≡ Some (v, e)) (ek : k ≡ capped_next g) where
+    pub number_part_lem : (m f : ℕ) → m ≡ capped_next k → Within s e (blanks_end s e) f → Some (made k m f) ≡ number_part s g (decimal_at limit s at)
     unfolding number_part
     number_part_lem m f em w = rw (← h.eq, q, em, ek, w.eq)
 
@@ -74,26 +72,26 @@ module _ (s : List ℕ) (at limit g : ℕ) (out : List ℕ) (d : Numeral) (h : P
     unfolding number_file number_out put_gate
     number-file version mid new ev a b = rw (← h.eq, q) (b ∙ rw (a, ek, ev))
 
-  pub number_past : (v e f m k : ℕ) → d ≡ numeral.Value v e → at ≤ length s → Within s e (blanks_end s e) f → Ahead s at (part.Made k m f)
+  pub number_past : (v e f m k : ℕ) → d ≡ Some (v, e) → at ≤ length s → Within s e (blanks_end s e) f → Ahead s at (Some (made k m f))
   number_past v e f m k q l w =
       let a = numeral_ends s at limit v e d q h.ahead in
       ahead_made s at k m f (omega (arith, a.from, w.from)) (omega (arith, a.upto, w.upto))
 
 -- ---- names
-module _ (s : List ℕ) (at n b g : ℕ) (names : List ℕ) (d : Numeral) (h : Placed s (at + 1) (n + 1) (decimal_at (n + 1) s (at + 1)) d) where
+module _ (s : List ℕ) (at n b g : ℕ) (names : List ℕ) (d : Option (ℕ × ℕ)) (h : Placed s (at + 1) (n + 1) (decimal_at (n + 1) s (at + 1)) d) where
   name-eq : decimal_at (suc n) s (suc at) ≡ d
   name-eq = rw (← add-one n, ← add-one at) (sym h.eq)
 
-  pub name-wrong : d ≡ numeral.Wrong → part.Wrong ≡ name_part s b g names (decimal_at (suc n) s (suc at))
+  pub name-wrong : d ≡ None → None ≡ name_part s b g names (decimal_at (suc n) s (suc at))
   unfolding name_part
   name-wrong q = rw (name-eq, q)
 
-  pub name-kept : d ≡ numeral.Wrong → names ≡ name_table b names (decimal_at (suc n) s (suc at))
+  pub name-kept : d ≡ None → names ≡ name_table b names (decimal_at (suc n) s (suc at))
   unfolding name_table
   name-kept q = rw (name-eq, q)
 
-  module _ (v e : ℕ) (q : d ≡ numeral.Value v e) where
-    pub name-zero : v ≡ 0 → part.Wrong ≡ name_part s b g names (decimal_at (suc n) s (suc at))
+  module _ (v e : ℕ) (q : d ≡ Some (v, e)) where
+    pub name-zero : v ≡ 0 → None ≡ name_part s b g names (decimal_at (suc n) s (suc at))
     unfolding name_part
     name-zero z = rw (name-eq, q, eq-eqb v 0 z)
 
@@ -101,7 +99,7 @@ module _ (s : List ℕ) (at n b g : ℕ) (names : List ℕ) (d : Numeral) (h : P
     unfolding name_table
     name-zero-kept z = rw (name-eq, q, eq-eqb v 0 z)
 
-    pub name-part : (i f : ℕ) → (v ≡ 0 → ⊥) → i ≡ free_or (256 * v + b + 1) names → Within s e (blanks_end s e) f → part.Made i g f ≡ name_part s b g names (decimal_at (suc n) s (suc at))
+    pub name-part : (i f : ℕ) → (v ≡ 0 → ⊥) → i ≡ free_or (256 * v + b + 1) names → Within s e (blanks_end s e) f → Some (made i g f) ≡ name_part s b g names (decimal_at (suc n) s (suc at))
     unfolding name_part
     name-part i f z ei w = rw (name-eq, q, ne_eqb v 0 z, ei, add-one (256 * v + b), w.eq)
 
@@ -109,31 +107,25 @@ module _ (s : List ℕ) (at n b g : ℕ) (names : List ℕ) (d : Numeral) (h : P
     unfolding name_table
     name-table new z en = rw (name-eq, q, ne_eqb v 0 z) (en ∙ rw (add-one (256 * v + b)))
 
-    pub name-past : (i f : ℕ) → Letter s at n b → Within s e (blanks_end s e) f → Ahead s at (part.Made i g f)
+    pub name-past : (i f : ℕ) → Letter s at b → Within s e (blanks_end s e) f → Ahead s at (Some (made i g f))
     name-past i f x w =
         let a = numeral_ends s (at + 1) (n + 1) v e d q h.ahead in
         ahead_made s at i g f (omega (arith, a.from, w.from)) (omega (arith, a.upto, w.upto, x.place))
 
-    value-small : Letter s at n b → v ≤ 4294967296
-    value-small x = omega (arith, (numeral_ends s (at + 1) (n + 1) v e d q h.ahead).small, x.parties)
+    value-small : n < 4294967296 → v ≤ 4294967296
+    value-small l = omega (arith, (numeral_ends s (at + 1) (n + 1) v e d q h.ahead).small)
 
-    pub name-times : Letter s at n b → 256 * v < 18446744073709551616
-    name-times x = omega (arith, value-small x)
+    pub name-times : Letter s at b → n < 4294967296 → 256 * v < 18446744073709551616
+    name-times x l = omega (arith, value-small l)
 
-    pub name-plus : Letter s at n b → 256 * v + b < 18446744073709551616
-    name-plus x = omega (arith, value-small x, x.letter)
+    pub name-plus : Letter s at b → n < 4294967296 → 256 * v + b < 18446744073709551616
+    name-plus x l = omega (arith, value-small l, x.letter)
 
-    pub name-one : Letter s at n b → 256 * v + b + 1 < 18446744073709551616
-    name-one x = omega (arith, value-small x, x.letter)
+    pub name-one : Letter s at b → n < 4294967296 → 256 * v + b + 1 < 18446744073709551616
+    name-one x l = omega (arith, value-small l, x.letter)
 
-pub letter_next : (s : List ℕ) (at n b : ℕ) → length s < 18446744073709551616 → Letter s at n b → at + 1 < 18446744073709551616
-letter_next s at n b l h = omega (arith, h.place)
-
-pub letter-parties : (s : List ℕ) (at n b : ℕ) → Letter s at n b → n + 1 < 18446744073709551616
-letter-parties s at n b h = omega (arith, h.parties)
-
-pub letter-limit : (s : List ℕ) (at n b : ℕ) → Letter s at n b → n + 1 ≤ 4294967296
-letter-limit s at n b h = omega (arith, h.parties)
+pub letter_next : (s : List ℕ) (at b : ℕ) → length s < 18446744073709551616 → Letter s at b → at + 1 < 18446744073709551616
+letter_next s at b l h = omega (arith, h.place)
 
 -- ---- leaves
 pub letter_no : (b : ℕ) → b < 97 → false ≡ is_letter b
@@ -148,28 +140,28 @@ letter_range : (b : ℕ) → is_letter b ≡ true → (97 ≤ b) × (b ≤ 122)
 unfolding is_letter
 letter_range b e = let t = both_true (leb 97 b) (leb b 122) e in (leb-true 97 b t.0, leb-true b 122 t.1)
 
-module _ (s : List ℕ) (at p g : ℕ) (names out : List ℕ) (r : Part) where
-  name-reads : (b : ℕ) (names' : List ℕ) (d : Numeral) → r ≡ name_part s b g names d → names' ≡ name_table b names d → Ahead s at r → Reads s at (name_from b s d) p g names out r names' out
+module _ (s : List ℕ) (at p g : ℕ) (names out : List ℕ) (r : Option Part) where
+  name-reads : (b : ℕ) (names' : List ℕ) (d : Option (ℕ × ℕ)) → r ≡ name_part s b g names d → names' ≡ name_table b names d → Ahead s at r → Reads s at (name_from b s d) p g names out r names' out
   unfolding name_part name_table name_from part_of Left work
-  name-reads b names' (numeral.Value v e) er en a = by (eqb v 0) er en
+  name-reads b names' (Some (v, e)) er en a = by (eqb v 0) er en
     where
-      by : (z : Bool) → r ≡ cond z part.Wrong (part.Made (free_or (suc (256 * v + b)) names) g (blanks_end s e))
+      by : (z : Bool) → r ≡ cond z None (Some (made (free_or (suc (256 * v + b)) names) g (blanks_end s e)))
           → names' ≡ cond z names (set names (free_or (suc (256 * v + b)) names) (suc (256 * v + b)))
           → Reads s at (cond z Parsed.Wrong (Parsed.Read (Tree.Name (256 * v + b)) (blanks_end s e))) p g names out r names' out
       by true i j = record { eq = i; left = tt; ahead = a; long_names = ap length j; long_out = refl }
       by false i j = record { eq = i; left = record { table = j; file = refl }; ahead = a; long_names = ap length j ∙ length-set names (free_or (suc (256 * v + b)) names) (suc (256 * v + b)); long_out = refl }
-  name-reads b names' numeral.Wrong er en a = record { eq = er; left = tt; ahead = a; long_names = ap length en; long_out = refl }
+  name-reads b names' None er en a = record { eq = er; left = tt; ahead = a; long_names = ap length en; long_out = refl }
 
-  number-reads : (out' : List ℕ) (d : Numeral) → r ≡ number_part s g d → out' ≡ number_file p g out d → Ahead s at r → Reads s at (number_from s d) p g names out r names out'
+  number-reads : (out' : List ℕ) (d : Option (ℕ × ℕ)) → r ≡ number_part s g d → out' ≡ number_file p g out d → Ahead s at r → Reads s at (number_from s d) p g names out r names out'
   unfolding number_part number_file number_from part_of Left work
-  number-reads out' (numeral.Value v e) er eo a =
+  number-reads out' (Some (v, e)) er eo a =
       record { eq = er; left = record { table = refl; file = eo }; ahead = a; long_names = refl; long_out = ap length eo ∙ long-number v }
     where
       long-number : (v : ℕ) → length (number_out p g v out) ≡ length out
       long-number v = unfold number_out in long_put p (put_gate p out g (Scale 0 0)) (capped_next g) (Offset g v) ∙ long_put p out g (Scale 0 0)
-  number-reads out' numeral.Wrong er eo a = record { eq = er; left = tt; ahead = a; long_names = refl; long_out = ap length eo }
+  number-reads out' None er eo a = record { eq = er; left = tt; ahead = a; long_names = refl; long_out = ap length eo }
 
-  module _ (n b : ℕ) (h : Leaf s at n p b) (x : Bool) (i : x ≡ is_letter b) where
+  module _ (n b : ℕ) (h : Leaf s at b) (x : Bool) (i : x ≡ is_letter b) where
     pub leaf-name : (names' : List ℕ) → x ≡ true → r ≡ name_part s b g names (decimal_at (suc n) s (suc at)) → names' ≡ name_table b names (decimal_at (suc n) s (suc at)) → Ahead s at r
         → Reads s at (leaf_at n p s at) p g names out r names' out
     unfolding leaf_at
@@ -184,9 +176,9 @@ module _ (s : List ℕ) (at p g : ℕ) (names out : List ℕ) (r : Part) where
         let e : is_letter (get_or s at 0) ≡ false = ap is_letter (sym h.is) ∙ (sym i ∙ t) in
         rw e (number-reads out' (decimal_at p s at) er eo a)
 
-pub leaf_letter : (s : List ℕ) (at n p b : ℕ) (x : Bool) → Leaf s at n p b → x ≡ is_letter b → x ≡ true → Letter s at n b
-leaf_letter s at n p b x h i t =
+pub leaf_letter : (s : List ℕ) (at b : ℕ) (x : Bool) → Leaf s at b → x ≡ is_letter b → x ≡ true → Letter s at b
+leaf_letter s at b x h i t =
     let l = letter_range b (sym i ∙ t) in
-    record { place = inside_of s at b h.is (omega (arith, l.0)); parties = h.parties; letter = omega (arith, l.1) }
+    record { place = inside_of s at b h.is (omega (arith, l.0)); letter = omega (arith, l.1) }
 
-pub ruleset leaving = (rules, wrong_ahead, number-wrong, number-kept, number_part_lem, number-file, number_past, name-wrong, name-kept, name-zero, name-zero-kept, name-part, name-table, name-past, name-times, name-plus, name-one, letter_next, letter-parties, letter-limit, letter_no, letter-is, leaf-name, leaf-number, leaf_letter)
+pub ruleset leaving = (rules, wrong_ahead, number-wrong, number-kept, number_part_lem, number-file, number_past, name-wrong, name-kept, name-zero, name-zero-kept, name-part, name-table, name-past, name-times, name-plus, name-one, letter_next, letter_no, letter-is, leaf-name, leaf-number, leaf_letter)

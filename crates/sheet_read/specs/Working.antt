@@ -1,9 +1,11 @@
 -- A tree worked through as the readers do it: the table of names, the file, the gates so far, and the wire that holds the value.
-use Rattle.std.specs.Prelude.{ℕ, suc, ◌+◌, ◌-◌, ◌*◌, Bool, true, cond, List, [], ◌∷◌, eqb, leb, set}
+use Rattle.std.specs.Prelude.{ℕ, suc, ◌-◌, cond, List, [], ◌∷◌, eqb, leb, set}
 use Rattle.plan.specs.declared.Gate.{Gate}
 use Rattle.plan.specs.declared.Gate.TheVariants.{Add, Scale, Offset, Multiply}
 use Rattle.plan_file.specs.Bodies.{written, gate_bytes, place_in, version_for}
 use Rattle.sheet_text.specs.Trees.{Tree}
+use Rattle.sheet_read.specs.declared.Operator.{Operator}
+use Rattle.sheet_read.specs.declared.Operator.TheVariants as operator
 
 -- the place of a number in a table, or of the first 0; past the end where there is neither
 unfoldable pub free_or : ℕ → List ℕ → ℕ
@@ -28,21 +30,23 @@ pub record Work : Type 0 where
 unfoldable pub number_out : ℕ → ℕ → ℕ → List ℕ → List ℕ
 number_out p g v out = put_gate p (put_gate p out g (Scale 0 0)) (capped_next g) (Offset g v)
 
--- two sides, whose values wires l and r hold, joined by what the byte b says: * (42), + (43) or -
-unfoldable pub join_out : ℕ → ℕ → ℕ → ℕ → ℕ → List ℕ → List ℕ
-join_out b p l r g out =
-    cond (eqb b 42) (put_gate p out g (Multiply l r))
-    (cond (eqb b 43) (put_gate p out g (Add l r)) (put_gate p (put_gate p out g (Scale r (p - 1))) (capped_next g) (Add l g)))
+-- two sides, whose values wires l and r hold, joined by an operator
+unfoldable pub join_out : Operator → ℕ → ℕ → ℕ → ℕ → List ℕ → List ℕ
+join_out operator.Times p l r g out = put_gate p out g (Multiply l r)
+join_out operator.Plus p l r g out = put_gate p out g (Add l r)
+join_out operator.Minus p l r g out = put_gate p (put_gate p out g (Scale r (p - 1))) (capped_next g) (Add l g)
 
-unfoldable pub join_wire : ℕ → ℕ → ℕ
-join_wire b g = cond (eqb b 42) g (cond (eqb b 43) g (capped_next g))
+unfoldable pub join_wire : Operator → ℕ → ℕ
+join_wire operator.Times g = g
+join_wire operator.Plus g = g
+join_wire operator.Minus g = capped_next g
 
-unfoldable pub join_by : ℕ → ℕ → ℕ → Work → Work
-join_by b p l w = record {
+unfoldable pub join_by : Operator → ℕ → ℕ → Work → Work
+join_by o p l w = record {
   names = w.names;
-  out = join_out b p l w.wire w.gates w.out;
-  gates = capped_next (join_wire b w.gates);
-  wire = join_wire b w.gates;
+  out = join_out o p l w.wire w.gates w.out;
+  gates = capped_next (join_wire o w.gates);
+  wire = join_wire o w.gates;
 }
 
 -- the right side goes on where the left side ended
@@ -53,6 +57,6 @@ after_left join right l = join l.wire (right l.names l.out l.gates)
 unfoldable pub work : ℕ → Tree → List ℕ → List ℕ → ℕ → Work
 work p (Tree.Number v) names out g = record { names = names; out = number_out p g v out; gates = capped_next (capped_next g); wire = capped_next g }
 work p (Tree.Name x) names out g = record { names = set names (free_or (suc x) names) (suc x); out = out; gates = g; wire = free_or (suc x) names }
-work p (Tree.Times l r) names out g = after_left (join_by 42 p) (λ ns o h. work p r ns o h) (work p l names out g)
-work p (Tree.Plus l r) names out g = after_left (join_by 43 p) (λ ns o h. work p r ns o h) (work p l names out g)
-work p (Tree.Minus l r) names out g = after_left (join_by 45 p) (λ ns o h. work p r ns o h) (work p l names out g)
+work p (Tree.Times l r) names out g = after_left (join_by operator.Times p) (λ ns o h. work p r ns o h) (work p l names out g)
+work p (Tree.Plus l r) names out g = after_left (join_by operator.Plus p) (λ ns o h. work p r ns o h) (work p l names out g)
+work p (Tree.Minus l r) names out g = after_left (join_by operator.Minus p) (λ ns o h. work p r ns o h) (work p l names out g)

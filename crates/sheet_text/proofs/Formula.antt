@@ -1,9 +1,8 @@
 -- The value of the wire that a formula's gates make is the formula's value.
 -- Assumes nothing.
-use Prim.Native.Nat.{ℕ, zero, suc, ◌+◌, ◌-◌, ◌*◌, ◌%◌, ◌<◌, ◌≤◌}
-use mathlib.Core.Path.{◌≡◌, refl, sym, ap, subst, ◌∙◌}
-use mathlib.Core.Bool.{Bool, true, false, cond}
-use mathlib.Core.List.{List, [], ◌∷◌, ◌++◌, map, append_assoc, append-nil}
+use Prim.Native.Nat.{ℕ, suc, ◌+◌, ◌-◌, ◌*◌, ◌<◌, ◌≤◌}
+use mathlib.Core.Path.{◌≡◌, refl, sym, ap, ◌∙◌}
+use mathlib.Core.List.{List, [], ◌∷◌, ◌++◌, append_assoc, append-nil}
 use native.Mathlib.Omega.{arith}
 use native.Mathlib.Nat.{mod-eq_of_lt, zero-mod, mul-zero, mul-suc}
 use Rattle.field.proofs.Solve.{Same, same, same_by, plus, cancel, turn, ◌⨾◌, add_same, mul_same, sub_same, add_canon, sub_canon, canon_same}
@@ -11,7 +10,7 @@ use lib.ListN.{length, get_or, drop, length-append, get_or-append}
 use lib.Seq.{get_or-append_seam}
 use Rattle.field.specs.Mod.{add, mul, sub}
 use Rattle.plan.specs.declared.Gate.{Gate}
-use Rattle.plan.specs.declared.Gate.TheVariants.{Input, Add, Scale, Offset, Multiply}
+use Rattle.plan.specs.declared.Gate.TheVariants.{Add, Scale, Offset, Multiply}
 use Rattle.plan.specs.Plans.{Plan, input_owners_at}
 use Rattle.run_protocol.specs.Ideal.{inputs_taken, gate_value, values_from}
 use Rattle.sheet_text.specs.Trees.{Tree, name_index, formula_value, Emitted, ending, emit_number, emit_plus, emit_times, emit_minus, right_after, emit, input_gates}

@@ -3,33 +3,32 @@
 --     tree_proper             names that are known
 --     tree-value              what the plan grants
 -- Assumes nothing.
+use Rattle.std.proofs.Common.{Option, Some, None}
 use Prim.Native.Nat.{ℕ, zero, suc, ◌+◌, ◌-◌, ◌*◌, ◌/◌, ◌<◌, ◌≤◌}
-use mathlib.Core.Path.{◌≡◌, refl, sym, ap, subst, ◌∙◌}
-use mathlib.Core.Bool.{Bool, true, false, cond, not, ◌&&◌}
-use mathlib.Core.List.{List, [], ◌∷◌, ◌++◌, map}
+use mathlib.Core.Path.{◌≡◌, refl, ap}
+use mathlib.Core.Bool.{Bool, true, false, cond, not}
+use mathlib.Core.List.{List, [], ◌∷◌}
 use native.Mathlib.Omega.{arith}
-use borrow.Author.Tests.{eq-eqb, ne_eqb, eqb-false, eqb-true, leb-false, ltb-true, ltb-false, not-true, leb-true}
+use borrow.Author.Tests.{eq-eqb, ne_eqb, eqb-false, leb-false, not-true, leb-true}
 use lib.Dec.{eqb, leb, ltb}
-use lib.ListN.{length, get_or, length-append}
+use lib.ListN.{length, get_or}
 use Rattle.numbers.proofs.Truth.{both_true}
-use Rattle.plan.specs.Plans.{Plan, out_wires, out_wires_of}
-use Rattle.run_protocol.specs.Ideal.{values, values_from, granted}
+use Rattle.plan.specs.Plans.{out_wires, out_wires_of}
+use Rattle.run_protocol.specs.Ideal.{values, granted}
 use Rattle.plan_file.specs.Bodies.{plan_with}
-use Rattle.text_decimals.specs.declared.Numeral.{Numeral}
-use Rattle.text_decimals.specs.declared.Numeral.TheVariants as numeral
 use Rattle.text_decimals.specs.Reading.{blanks_end, digits_from, digits_at, is_digit, zero_at, decimal_at}
-use Rattle.sheet_text.specs.Trees.{Tree, party_of, name_index, with_name, names_from, names_of, formula_value, emit, input_gates}
+use Rattle.sheet_text.specs.Trees.{Tree, party_of, name_index, with_name, names_from, names_of, formula_value}
 use Rattle.sheet_text.specs.Sheets.{Parsed, Link, number_from, name_from, closed, is_letter, atom_by, joined, times_link, terms_link, linked, go_on, product_by, sum_by, inner_at, sum_at, whole, sheet_at}
-use Rattle.sheet_text.specs.Making.{tree_of, sheet_tree, sheet_ok, tree_made, bodies_with, tree_bodies}
+use Rattle.sheet_text.specs.Making.{tree_of, sheet_tree, tree_made, bodies_with, tree_bodies}
 use Rattle.sheet_text.proofs.Formula.{Proper, formula_wire}
 
 -- ---- numbers below the limit
-Small : ℕ → Numeral → Type 0
-Small limit (numeral.Value v e) = v < limit
-Small limit numeral.Wrong = Unit
+Small : ℕ → Option (ℕ × ℕ) → Type 0
+Small limit (Some (v, e)) = v < limit
+Small limit None = Unit
 
-small_step : (limit v e : ℕ) (r : Numeral) (x y z : Bool) → v < limit → (z ≡ false → Small limit r)
-    → Small limit (cond x (numeral.Value v e) (cond y (numeral.Value v e) (cond z numeral.Wrong r)))
+small_step : (limit v e : ℕ) (r : Option (ℕ × ℕ)) (x y z : Bool) → v < limit → (z ≡ false → Small limit r)
+    → Small limit (cond x (Some (v, e)) (cond y (Some (v, e)) (cond z None r)))
 unfolding Small
 small_step limit v e r true y z l f = l
 small_step limit v e r false true z l f = l
@@ -48,7 +47,7 @@ decimal_small : (limit : ℕ) (s : List ℕ) (at : ℕ) → 1 ≤ limit → Smal
 unfolding decimal_at zero_at digits_at Small
 decimal_small limit s at l = by (is_digit (get_or s at 0)) (eqb (get_or s at 0) 48) (is_digit (get_or s (suc at) 0)) (eqb limit 0)
   where
-    by : (a b c d : Bool) → Small limit (cond a (cond b (cond c numeral.Wrong (cond d numeral.Wrong (numeral.Value 0 (suc at)))) (digits_from (length s - at) limit s at 0)) numeral.Wrong)
+    by : (a b c d : Bool) → Small limit (cond a (cond b (cond c None (cond d None (Some (0, suc at)))) (digits_from (length s - at) limit s at 0)) None)
     by false b c d = tt
     by true false c d = digits_small (length s - at) limit s at 0 l
     by true true true d = tt
@@ -71,14 +70,14 @@ Good : ℕ → ℕ → Link → Type 0
 Good n p (Link.Joins op) = (l r : Tree) → Below n p l → Below n p r → Below n p (op l r)
 Good n p Link.Ends = Unit
 
-number_fine : (n p : ℕ) (s : List ℕ) (d : Numeral) → Small p d → Fine n p (number_from s d)
+number_fine : (n p : ℕ) (s : List ℕ) (d : Option (ℕ × ℕ)) → Small p d → Fine n p (number_from s d)
 unfolding Fine Below Small number_from
-number_fine n p s (numeral.Value v e) h = h
-number_fine n p s numeral.Wrong h = tt
+number_fine n p s (Some (v, e)) h = h
+number_fine n p s None h = tt
 
-name_fine : (n p b : ℕ) (s : List ℕ) (d : Numeral) → b < 256 → Small (suc n) d → Fine n p (name_from b s d)
+name_fine : (n p b : ℕ) (s : List ℕ) (d : Option (ℕ × ℕ)) → b < 256 → Small (suc n) d → Fine n p (name_from b s d)
 unfolding Fine Below name_from Small party_of
-name_fine n p b s (numeral.Value v e) l h = by (eqb v 0) refl
+name_fine n p b s (Some (v, e)) l h = by (eqb v 0) refl
   where
     some : (v : ℕ) → (v ≡ 0 → ⊥) → 1 ≤ v
     some zero n = absurd (n refl)
@@ -89,7 +88,7 @@ name_fine n p b s (numeral.Value v e) l h = by (eqb v 0) refl
     by false q =
         let party : (256 * v + b) / 256 ≡ v = omega arith in
         rw party (some v (eqb-false v 0 q), omega arith)
-name_fine n p b s numeral.Wrong l h = tt
+name_fine n p b s None l h = tt
 
 closed_fine : (n p : ℕ) (s : List ℕ) (q : Parsed) → Fine n p q → Fine n p (closed s q)
 unfolding Fine closed

@@ -5,12 +5,12 @@
 --     made_count, made-own                      figures
 -- Assumes nothing.
 use Prim.Native.Nat.{ℕ, zero, suc, ◌+◌, ◌-◌, ◌<◌, ◌≤◌}
-use mathlib.Core.Path.{◌≡◌, refl, sym, ap, ◌∙◌}
-use mathlib.Core.Bool.{Bool, true, false, cond, ◌&&◌}
+use mathlib.Core.Path.{◌≡◌, refl, ap, ◌∙◌}
+use mathlib.Core.Bool.{Bool, true, false, ◌&&◌}
 use mathlib.Core.List.{List, [], ◌∷◌, ◌++◌, map, flat_map}
 use native.Mathlib.Omega.{arith}
 use borrow.Author.Tests.{lt-ltb, le-leb, ltb-true, ltb-false}
-use lib.Dec.{leb, ltb}
+use lib.Dec.{ltb}
 use lib.ListN.{length, get_or, length-append, get_or-append}
 use lib.Seq.{get_or-append_seam}
 use Rattle.plan.specs.declared.Gate.{Gate}
@@ -18,7 +18,7 @@ use Rattle.plan.specs.declared.Gate.TheVariants.{Input, Add, Scale, Offset, Mult
 use Rattle.plan.specs.Plans.{Plan, kind_of, input_owners_at, input_owners, own_of, own_inputs, input_count}
 use Rattle.plan.specs.File.{between, gate_ok}
 use Rattle.plan_file.specs.Bodies.{plan_with}
-use Rattle.sheet_text.specs.Trees.{Tree, party_of, name_index, names_of, Emitted, ending, emit_number, emit_plus, emit_times, emit_minus, right_after, emit, input_gates, gate_count}
+use Rattle.sheet_text.specs.Trees.{Tree, party_of, names_of, Emitted, ending, emit_number, emit_plus, emit_times, emit_minus, right_after, emit, input_gates, gate_count}
 use Rattle.sheet_text.specs.Making.{tree_made, bodies_with, tree_bodies}
 use Rattle.sheet_text.proofs.Formula.{Proper, inputs_long}
 use Rattle.sheet_text.proofs.Proper.{Below, Parties, tree_proper, tree-parties}

@@ -1,4 +1,4 @@
--- A sheet's gates and its one out (document 02, R-5).
+-- A sheet's gates and its one out.
 use Rattle.std.specs.Prelude.{ℕ, Bool, not, List, [], ◌∷◌, eqb, length}
 use Rattle.plan_file.specs.Bodies.{Bodies}
 use Rattle.sheet_text.specs.Trees.{Tree, names_of, Emitted, emit, input_gates}

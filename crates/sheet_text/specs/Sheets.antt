@@ -1,9 +1,7 @@
--- A sheet's text (document 02, R-5), read by three readers: a sum has products, a product has atoms, and an atom in brackets has a sum again.
+-- A sheet's text, read by three readers: a sum has products, a product has atoms, and an atom in brackets has a sum again.
 -- A reader takes a place where no blank stands, and leaves the place of the next byte that is none: the blanks after a part are skipped
 -- with it. The readers fall on the depth that is left, and the loops of a sum and of a product on the text that is left.
-use Rattle.std.specs.Prelude.{ℕ, zero, suc, ◌+◌, ◌*◌, Bool, true, false, cond, ◌&&◌, List, eqb, leb, length, get_or}
-use Rattle.text_decimals.specs.declared.Numeral.{Numeral}
-use Rattle.text_decimals.specs.declared.Numeral.TheVariants as numeral
+use Rattle.std.specs.Prelude.{Option, Some, None, ℕ, zero, suc, ◌+◌, ◌*◌, Bool, cond, ◌&&◌, List, eqb, leb, length, get_or}
 use Rattle.text_decimals.specs.Reading.{blanks_end, decimal_at}
 use Rattle.sheet_text.specs.Trees.{Tree}
 
@@ -14,14 +12,14 @@ pub data Parsed : Type 0 where
 
 -- ---- atoms
 -- a number below p
-unfoldable pub number_from : List ℕ → Numeral → Parsed
-number_from s (numeral.Value v e) = Read (Tree.Number v) (blanks_end s e)
-number_from s numeral.Wrong = Wrong
+unfoldable pub number_from : List ℕ → Option (ℕ × ℕ) → Parsed
+number_from s (Some (v, e)) = Read (Tree.Number v) (blanks_end s e)
+number_from s None = Wrong
 
 -- a letter's party, 1 to n
-unfoldable pub name_from : ℕ → List ℕ → Numeral → Parsed
-name_from letter s (numeral.Value v e) = cond (eqb v 0) Wrong (Read (Tree.Name (256 * v + letter)) (blanks_end s e))
-name_from letter s numeral.Wrong = Wrong
+unfoldable pub name_from : ℕ → List ℕ → Option (ℕ × ℕ) → Parsed
+name_from letter s (Some (v, e)) = cond (eqb v 0) Wrong (Read (Tree.Name (256 * v + letter)) (blanks_end s e))
+name_from letter s None = Wrong
 
 -- after the sum in brackets: the closing one
 unfoldable pub closed : List ℕ → Parsed → Parsed

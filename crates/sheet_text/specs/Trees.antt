@@ -1,10 +1,10 @@
--- A formula (document 02, R-5) as a tree: its names, its own value, and the gates that it makes.
-use Rattle.std.specs.Prelude.{ℕ, zero, suc, ◌+◌, ◌-◌, ◌/◌, Bool, cond, List, [], ◌∷◌, ◌++◌, map, eqb, length, get_or}
+-- A formula as a tree: its names, its own value, and the gates that it makes.
+use Rattle.std.specs.Prelude.{ℕ, suc, ◌+◌, ◌-◌, ◌/◌, cond, List, [], ◌∷◌, ◌++◌, map, eqb, length, get_or}
 use Rattle.field.specs.Mod.{add, mul, sub}
 use Rattle.plan.specs.declared.Gate.{Gate}
 use Rattle.plan.specs.declared.Gate.TheVariants.{Input, Add, Scale, Offset, Multiply}
 
--- a name is one number: 256 times its party (document 02: seat), and its letter's byte
+-- a name is one number: 256 times its party, and its letter's byte
 pub data Tree : Type 0 where
   Number : ℕ → Tree
   Name : ℕ → Tree

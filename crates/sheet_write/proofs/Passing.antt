@@ -1,15 +1,16 @@
 -- What each way through the two passes says of the definitions.
 --     surveying, listing, ending, compiling     what closes the needs of the functions
 -- Assumes nothing.
-use Prim.Native.Nat.{ℕ, zero, suc, ◌+◌, ◌-◌, ◌*◌, ◌/◌, ◌<◌, ◌≤◌}
+use Rattle.std.proofs.Common.{Option, Some, None}
+use Prim.Native.Nat.{ℕ, suc, ◌+◌, ◌-◌, ◌/◌, ◌<◌, ◌≤◌}
 use mathlib.Core.Path.{◌≡◌, refl, sym, ap, ap₂, ◌∙◌}
-use mathlib.Core.Bool.{Bool, true, false, cond, not}
-use mathlib.Core.List.{List, [], ◌∷◌, ◌++◌, flat_map, append-nil, append_assoc}
+use mathlib.Core.Bool.{Bool, true, false, cond}
+use mathlib.Core.List.{List, [], ◌∷◌, flat_map, append-nil}
 use native.Mathlib.Omega.{arith}
 use borrow.Author.Rules.{rules}
 use borrow.Author.Tests.{eq-eqb, ne_eqb, leb-true, leb-false}
-use lib.Dec.{eqb, leb, ltb}
-use lib.ListN.{length, get_or, replicate, get_or-eq_default, length-append}
+use lib.Dec.{leb, ltb}
+use lib.ListN.{length, get_or, replicate, get_or-eq_default}
 use Rattle.numbers.specs.Tables.{tab}
 use Rattle.numbers.proofs.Tables.{tab-zero, tab-next, length-tab}
 use Rattle.plan.specs.declared.Gate.{Gate}
@@ -20,18 +21,17 @@ use Rattle.plan_file.specs.Bodies.{Bodies, plan_with, written, gate_bytes, gates
 use Rattle.plan_file.proofs.Files as files
 use Rattle.plan_file.proofs.Writing.{written-whole, length-written, fits_for}
 use Rattle.plan_file.proofs.Rows.{gates_then, one_put, written_none, none_bytes, file_put}
-use Rattle.sheet_text.specs.Trees.{Tree, names_from, names_of, Emitted, emit, input_gates, gate_count}
+use Rattle.sheet_text.specs.Trees.{Tree, names_from, names_of, Emitted, input_gates, gate_count}
 use Rattle.sheet_text.specs.Sheets.{Parsed, sheet_at}
 use Rattle.sheet_text.specs.Making.{tree_of, sheet_tree, sheet_ok, tree_made, bodies_with, tree_bodies}
 use Rattle.sheet_text.proofs.Formula.{inputs_long}
 use Rattle.sheet_text.proofs.Proper.{sheet_below, tree_proper}
 use Rattle.sheet_text.proofs.Sound.{made_long}
 use Rattle.sheet_read.specs.declared.Part.{Part}
-use Rattle.sheet_read.specs.declared.Part.TheVariants as part
 use Rattle.sheet_read.specs.Working.{free_or, Work, work}
-use Rattle.sheet_read.specs.Reading.{part_of, Left, Sheet}
+use Rattle.sheet_read.specs.Reading.{Left, Sheet}
 use Rattle.sheet_read.proofs.Readers.{made_read, wrong_read}
-use Rattle.sheet_write.specs.declared.Survey.TheVariants as survey
+use Rattle.sheet_write.specs.declared.Counts.{Counts}
 use Rattle.sheet_write.specs.Passes.{table_of, inputs_in, up_to, SurveyIs, Surveyed, Compilable}
 use Rattle.sheet_write.proofs.Tables.{fresh-table, long-table, table_count, table_inputs}
 use Rattle.sheet_write.proofs.Works.{work_names, work_gates, filed, worked, work-emits}
@@ -72,18 +72,18 @@ up_le k = by (leb k 1025) refl
 
 -- ---- a sheet that was read
 -- what is left where a tree was read
-record Read (p g : ℕ) (names out : List ℕ) (q : Parsed) (w h e : ℕ) (names' out' : List ℕ) : Type 0 where
+record Read (p g : ℕ) (names out : List ℕ) (q : Parsed) (r : Part) (names' out' : List ℕ) : Type 0 where
   tree : Tree
-  is : q ≡ Parsed.Read tree e
-  wire : w ≡ (work p tree names out g).wire
-  gates : h ≡ (work p tree names out g).gates
+  is : q ≡ Parsed.Read tree r.at
+  wire : r.wire ≡ (work p tree names out g).wire
+  gates : r.gates ≡ (work p tree names out g).gates
   table : names' ≡ (work p tree names out g).names
   file : out' ≡ (work p tree names out g).out
 
-read : (p g : ℕ) (names out : List ℕ) (q : Parsed) (r : Part) (names' out' : List ℕ) (w h e : ℕ) → Sheet q p g names out r names' out' → r ≡ part.Made w h e → Read p g names out q w h e names' out'
+read : (p g : ℕ) (names out : List ℕ) (q : Parsed) (x : Option Part) (names' out' : List ℕ) (r : Part) → Sheet q p g names out x names' out' → x ≡ Some r → Read p g names out q r names' out'
 unfolding Left
-read p g names out q r names' out' w h e s i =
-    let t = made_read p g names out q w h e (sym i ∙ s.eq) in
+read p g names out q x names' out' r s i =
+    let t = made_read p g names out q r (sym i ∙ s.eq) in
     let k : record { table : names' ≡ (work p t.0 names out g).names; file : out' ≡ (work p t.0 names out g).out } = rw t.1 at s.left in
     record { tree = t.0; is = t.1; wire = t.2; gates = t.3; table = k.table; file = k.file }
 
@@ -107,26 +107,26 @@ read_tree n p s x e i = rw i
 pub fresh : (names : List ℕ) → names ≡ replicate 1025 0 → names ≡ table_of 1025 []
 fresh names e = e ∙ fresh-table 1025
 
-module _ (n p : ℕ) (s names none : List ℕ) (r : Part) (names' none' : List ℕ) (empty : names ≡ table_of 1025 []) (h : Sheet (sheet_at n p s) p 0 names none r names' none') where
+module _ (n p : ℕ) (s names none : List ℕ) (x : Option Part) (names' none' : List ℕ) (empty : names ≡ table_of 1025 []) (h : Sheet (sheet_at n p s) p 0 names none x names' none') where
   long : length names' ≡ 1025
   long = h.long_names ∙ ap length empty ∙ long-table 1025 []
 
-  pub survey_broken : r ≡ part.Wrong → Surveyed n p s survey.Wrong names'
+  pub survey_broken : (y : Option Counts) → x ≡ None → y ≡ None → Surveyed n p s y names'
   unfolding SurveyIs
-  survey_broken e = record { is = not_ok n p s (wrong_tree n p s (wrong_read p 0 names none (sheet_at n p s) (sym e ∙ h.eq))); long = long }
+  survey_broken y e z = rw z (record { is = not_ok n p s (wrong_tree n p s (wrong_read p 0 names none (sheet_at n p s) (sym e ∙ h.eq))); long = long })
 
-  module _ (w g e : ℕ) (q : r ≡ part.Made w g e) where
-    from : Read p 0 names none (sheet_at n p s) w g e names' none'
-    from = read p 0 names none (sheet_at n p s) r names' none' w g e h q
+  module _ (r : Part) (q : x ≡ Some r) where
+    from : Read p 0 names none (sheet_at n p s) r names' none'
+    from = read p 0 names none (sheet_at n p s) x names' none' r h q
 
     tree_is : sheet_tree n p s ≡ from.tree
-    tree_is = read_tree n p s from.tree e from.is
+    tree_is = read_tree n p s from.tree r.at from.is
 
     table_is : names' ≡ table_of 1025 (names_of (sheet_tree n p s))
     unfolding names_of
     table_is = from.table ∙ ap (λ (l : List ℕ). (work p from.tree l none 0).names) empty ∙ work_names p 1025 from.tree [] none 0 ∙ ap (λ (x : Tree). table_of 1025 (names_from [] x)) (sym tree_is)
 
-    gates-is : g ≡ up_to (gate_count (sheet_tree n p s))
+    gates-is : r.gates ≡ up_to (gate_count (sheet_tree n p s))
     gates-is =
         let z : up_to 0 ≡ 0 = unfold up_to in refl in
         let y : 0 + gate_count from.tree ≡ gate_count from.tree = omega arith in
@@ -137,14 +137,14 @@ module _ (n p : ℕ) (s names none : List ℕ) (r : Part) (names' none' : List �
       inputs-is : k ≡ up_to (length (names_of (sheet_tree n p s)))
       inputs-is = ek ∙ ap (free_or 0) table_is ∙ table_count (names_of (sheet_tree n p s))
 
-      pub survey-nameless : k ≡ 0 → Surveyed n p s survey.Wrong names'
+      pub survey-nameless : k ≡ 0 → Surveyed n p s None names'
       unfolding SurveyIs
       survey-nameless z = record { is = not_ok n p s (sym (up_is (length (names_of (sheet_tree n p s))) (omega (arith, inputs-is))) ∙ sym inputs-is ∙ z); long = long }
 
-      pub survey-fits : k + g < 18446744073709551616
+      pub survey-fits : k + r.gates < 18446744073709551616
       survey-fits = omega (arith, inputs-is, gates-is, up_few (length (names_of (sheet_tree n p s))), up_few (gate_count (sheet_tree n p s)))
 
-      pub survey-counts : (k ≡ 0 → ⊥) → Surveyed n p s (survey.Counts k (k + g)) names'
+      pub survey-counts : (k ≡ 0 → ⊥) → Surveyed n p s (Some (record { inputs = k; gates = k + r.gates })) names'
       unfolding SurveyIs
       survey-counts z = record {
         is = record {
@@ -161,9 +161,6 @@ pub ruleset surveying = (rules, fresh, survey_broken, survey-nameless, survey-fi
 -- ---- the input gates
 pub party-past : (names : List ℕ) (i : ℕ) → length names ≤ i → 0 ≡ (get_or names i 0 - 1) / 256
 party-past names i l = rw (get_or-eq_default names 0 l)
-
-pub party-none : (names : List ℕ) (i : ℕ) → get_or names i 0 ≡ 0 → 0 ≡ (get_or names i 0 - 1) / 256
-party-none names i e = rw e
 
 pub input_put : (names out new : List ℕ) (version i k : ℕ) → k ≡ (get_or names i 0 - 1) / 256 → new ≡ written out (place_in version i) (gate_bytes version (Input k))
     → new ≡ written out (place_in version i) (gate_bytes version (Input ((get_or names i 0 - 1) / 256)))
@@ -198,7 +195,7 @@ module _ (version count : ℕ) (names out₀ : List ℕ) where
     pub list-end : count ≤ i → out ≡ written out₀ (place_in version 0) (gates_bytes version (inputs_in count names))
     list-end l = let e : i ≡ count = omega (arith, h.within) in rw (← e) h.done
 
-pub ruleset listing = (rules, party-past, party-none, input_put, list_begin, list_on, list-fits, list-long, list-end)
+pub ruleset listing = (rules, party-past, input_put, list_begin, list_on, list-fits, list-long, list-end)
 
 -- ---- the end of the file
 pub end_put : (s s1 s2 : List ℕ) (version gates points : ℕ) (x : Output) (ps : List ℕ) → s1 ≡ written s (out_start version gates 0) (out_bytes x)
@@ -225,12 +222,12 @@ module _ (s : List ℕ) (n t p seat inputs gates : ℕ) (names : List ℕ) (h : 
   no_name : sheet_ok n p s ≡ true → length (names_of (sheet_tree n p s)) ≡ 0 → ⊥
   no_name k e = absurd (let z : ◌≡◌ {A = Bool} true false = sym k ∙ not_ok n p s e in (let y : ◌≡◌ {A = ℕ} 0 1 = cc in omega arith))
 
-  module _ (version : ℕ) (ev : version ≡ version_for p) (o o1 o2 : List ℕ) (r : Part) (names' o3 : List ℕ)
-      (put1 : o1 ≡ written o 0 (contents version n t p gates 1)) (put2 : o2 ≡ written o1 (place_in version 0) (gates_bytes version (inputs_in inputs names))) (sheet : Sheet (sheet_at n p s) p inputs names o2 r names' o3) where
-    pub write-broken : (new : List ℕ) → r ≡ part.Wrong → new ≡ file_of_plan n t p (tree_bodies p seat (sheet_tree n p s))
+  module _ (version : ℕ) (ev : version ≡ version_for p) (o o1 o2 : List ℕ) (answer : Option Part) (names' o3 : List ℕ)
+      (put1 : o1 ≡ written o 0 (contents version n t p gates 1)) (put2 : o2 ≡ written o1 (place_in version 0) (gates_bytes version (inputs_in inputs names))) (sheet : Sheet (sheet_at n p s) p inputs names o2 answer names' o3) where
+    pub write-broken : (new : List ℕ) → answer ≡ None → new ≡ file_of_plan n t p (tree_bodies p seat (sheet_tree n p s))
     write-broken new e = absurd (no_name h.ok (wrong_tree n p s (wrong_read p inputs names o2 (sheet_at n p s) (sym e ∙ sheet.eq))))
 
-    module _ (wire g e : ℕ) (q : r ≡ part.Made wire g e) where
+    module _ (r : Part) (q : answer ≡ Some r) where
       abbrev x : Tree
       x = sheet_tree n p s
 
@@ -240,8 +237,8 @@ module _ (s : List ℕ) (n t p seat inputs gates : ℕ) (names : List ℕ) (h : 
       abbrev made : Emitted
       made = tree_made p x
 
-      got : Read p inputs names o2 (sheet_at n p s) wire g e names' o3
-      got = read p inputs names o2 (sheet_at n p s) r names' o3 wire g e sheet q
+      got : Read p inputs names o2 (sheet_at n p s) r names' o3
+      got = read p inputs names o2 (sheet_at n p s) answer names' o3 r sheet q
 
       few : length ns + gate_count x ≤ 1024
       few = omega (arith, h.gates_are, made_long p x, h.few)
@@ -255,7 +252,7 @@ module _ (s : List ℕ) (n t p seat inputs gates : ℕ) (names : List ℕ) (h : 
       work-is : work p got.tree names o2 inputs ≡ worked p 1025 ns o1 made
       unfolding tree_made
       work-is =
-          ap (λ (y : Tree). work p y names o2 inputs) (sym (read_tree n p s got.tree e got.is))
+          ap (λ (y : Tree). work p y names o2 inputs) (sym (read_tree n p s got.tree r.at got.is))
           ∙ ap (λ (l : List ℕ). work p x l o2 inputs) h.table
           ∙ ap₂ (work p x (table_of 1025 ns)) inputs-filed (h.inputs_are ∙ sym (inputs_long ns))
           ∙ work-emits p 1025 ns o1 (omega (arith, few)) x (input_gates ns) (tree_proper n p x (sheet_below n p s (omega (arith, h.prime)))) (omega (arith, few, inputs_long ns))
@@ -265,7 +262,7 @@ module _ (s : List ℕ) (n t p seat inputs gates : ℕ) (names : List ℕ) (h : 
           got.file ∙ ap (λ (w : Work). w.out) work-is
           ∙ (unfold worked in unfold filed in ap (λ (v : ℕ). written o1 (place_in v 0) (gates_bytes v made.gates)) (sym ev))
 
-      wire-is : wire ≡ made.wire
+      wire-is : r.wire ≡ made.wire
       wire-is = got.wire ∙ ap (λ (w : Work). w.wire) work-is ∙ (unfold worked in refl)
 
       outs-bytes : flat_map out_bytes (record { party = seat; wire = made.wire } ∷ []) ≡ out_bytes (record { party = seat; wire = made.wire })
@@ -273,11 +270,11 @@ module _ (s : List ℕ) (n t p seat inputs gates : ℕ) (names : List ℕ) (h : 
       outs-bytes = append-nil (out_bytes (record { party = seat; wire = made.wire }))
 
       pub write-whole : (new : List ℕ) → length o ≡ file_size (version_for p) n gates 1
-          → new ≡ written (written o3 (out_start version gates 0) (out_bytes (record { party = seat; wire = wire }))) (out_start version gates 1) (points_bytes version (tab suc n))
+          → new ≡ written (written o3 (out_start version gates 0) (out_bytes (record { party = seat; wire = r.wire }))) (out_start version gates 1) (points_bytes version (tab suc n))
           → new ≡ file_of_plan n t p (tree_bodies p seat (sheet_tree n p s))
       unfolding tree_bodies bodies_with file_of_plan plan_with party_count
       write-whole new room last =
-          let o4 : List ℕ = written o3 (out_start version gates 0) (out_bytes (record { party = seat; wire = wire })) in
+          let o4 : List ℕ = written o3 (out_start version gates 0) (out_bytes (record { party = seat; wire = r.wire })) in
           let b : Bodies = record { gates = made.gates; outs = record { party = seat; wire = made.wire } ∷ [] } in
           let head : o1 ≡ written o 0 (contents version (length (tab suc n)) t p (length made.gates) 1) = put1 ∙ rw (length-tab suc n, ← h.gates_are) in
           let outs : o4 ≡ written o3 (out_start version (length made.gates) 0) (flat_map out_bytes b.outs) = rw (wire-is, outs-bytes, ← h.gates_are) in

@@ -3,7 +3,7 @@
 --     table_hold, table_place          a name held, and found
 --     table_count, table_inputs        how many, and their input gates
 -- Assumes nothing.
-use Prim.Native.Nat.{ℕ, zero, suc, ◌+◌, ◌-◌, ◌/◌, ◌<◌, ◌≤◌}
+use Prim.Native.Nat.{ℕ, zero, suc, ◌-◌, ◌/◌, ◌<◌, ◌≤◌}
 use mathlib.Core.Path.{◌≡◌, refl, sym, ap, ◌∙◌}
 use mathlib.Core.Bool.{Bool, true, false, cond}
 use mathlib.Core.List.{List, [], ◌∷◌}
@@ -11,9 +11,7 @@ use native.Mathlib.Omega.{arith}
 use borrow.Author.Tests.{eq-eqb, ne_eqb, eqb-true, eqb-false, leb-true, leb-false}
 use lib.Dec.{eqb, leb}
 use lib.ListN.{length, get_or, set, replicate}
-use Rattle.numbers.specs.Tables.{tab}
 use Rattle.numbers.proofs.Tables.{is-tab}
-use Rattle.plan.specs.declared.Gate.{Gate}
 use Rattle.plan.specs.declared.Gate.TheVariants.{Input}
 use Rattle.sheet_text.specs.Trees.{party_of, name_index, with_name, input_gates}
 use Rattle.sheet_text.proofs.Formula.{inputs_long}

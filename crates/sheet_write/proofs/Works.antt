@@ -2,22 +2,24 @@
 --     work_names, work_gates     the first pass: the table of names, and the count
 --     work-emits                 the second pass: the gates, after those that the file has
 -- Assumes nothing.
-use Prim.Native.Nat.{ℕ, zero, suc, ◌+◌, ◌-◌, ◌*◌, ◌<◌, ◌≤◌}
+use Prim.Native.Nat.{ℕ, suc, ◌+◌, ◌-◌, ◌<◌, ◌≤◌}
 use mathlib.Core.Path.{◌≡◌, refl, sym, ap, ◌∙◌}
 use mathlib.Core.Bool.{Bool, true, false, cond}
 use mathlib.Core.List.{List, [], ◌∷◌, ◌++◌}
 use native.Mathlib.Omega.{arith}
-use borrow.Author.Tests.{eq-eqb, ne_eqb, le-leb, lt-leb, leb-true, leb-false}
-use lib.Dec.{eqb, leb}
-use lib.ListN.{length, get_or, set, length-append}
+use borrow.Author.Tests.{le-leb, lt-leb, leb-true, leb-false}
+use lib.Dec.{leb}
+use lib.ListN.{length, length-append}
 use Rattle.plan.specs.declared.Gate.{Gate}
 use Rattle.plan.specs.declared.Gate.TheVariants.{Add, Scale, Offset, Multiply}
 use Rattle.plan_file.specs.Bodies.{written, gates_bytes, place_in, version_for}
 use Rattle.plan_file.proofs.Rows.{gates_then, one_put}
-use Rattle.sheet_text.specs.Trees.{Tree, name_index, with_name, names_from, Emitted, ending, emit_number, emit_plus, emit_times, emit_minus, right_after, emit, gate_count}
+use Rattle.sheet_text.specs.Trees.{Tree, name_index, names_from, Emitted, ending, emit_number, emit_plus, emit_times, emit_minus, right_after, emit, gate_count}
 use Rattle.sheet_text.proofs.Formula.{Proper}
 use Rattle.sheet_text.proofs.Sound.{emit_long}
-use Rattle.sheet_read.specs.Working.{free_or, capped_next, put_gate, number_out, join_out, join_wire, join_by, after_left, Work, work}
+use Rattle.sheet_read.specs.declared.Operator.{Operator}
+use Rattle.sheet_read.specs.declared.Operator.TheVariants as operator
+use Rattle.sheet_read.specs.Working.{capped_next, put_gate, number_out, join_out, join_wire, join_by, after_left, Work, work}
 use Rattle.sheet_write.specs.Passes.{table_of, up_to}
 use Rattle.sheet_write.proofs.Tables.{table_hold, table_place, with_same}
 
@@ -42,15 +44,15 @@ next_up k = by (leb k 1025) refl
         last false f = rw (f, lt-leb (k + 1) 1025 (omega (arith, leb-false k 1024 f)))
     by false e = rw (lt-leb (k + 1) 1025 (omega (arith, leb-false k 1025 e)))
 
-plus_wire : (g : ℕ) → join_wire 43 g ≡ g
+plus_wire : (g : ℕ) → join_wire operator.Plus g ≡ g
 unfolding join_wire
 plus_wire g = refl
 
-times_wire : (g : ℕ) → join_wire 42 g ≡ g
+times_wire : (g : ℕ) → join_wire operator.Times g ≡ g
 unfolding join_wire
 times_wire g = refl
 
-minus_wire : (g : ℕ) → join_wire 45 g ≡ capped_next g
+minus_wire : (g : ℕ) → join_wire operator.Minus g ≡ capped_next g
 unfolding join_wire
 minus_wire g = refl
 
@@ -95,16 +97,16 @@ worked p m ns o e = record { names = table_of m ns; out = filed p o e.gates; gat
 
 module _ (p m : ℕ) (ns o : List ℕ) (room : length ns ≤ m) where
   -- two sides joined by one gate
-  join-plus : (l : ℕ) (r : Emitted) → length r.gates < 1025 → join_by 43 p l (worked p m ns o r) ≡ worked p m ns o (ending r.gates (Add l r.wire))
+  join-plus : (l : ℕ) (r : Emitted) → length r.gates < 1025 → join_by operator.Plus p l (worked p m ns o r) ≡ worked p m ns o (ending r.gates (Add l r.wire))
   unfolding join_by join_out join_wire worked ending
   join-plus l r s = rw (file-one p o r.gates (Add l r.wire), next_one r.gates (Add l r.wire) (omega (arith, one_long r.gates (Add l r.wire))))
 
-  join-times : (l : ℕ) (r : Emitted) → length r.gates < 1025 → join_by 42 p l (worked p m ns o r) ≡ worked p m ns o (ending r.gates (Multiply l r.wire))
+  join-times : (l : ℕ) (r : Emitted) → length r.gates < 1025 → join_by operator.Times p l (worked p m ns o r) ≡ worked p m ns o (ending r.gates (Multiply l r.wire))
   unfolding join_by join_out join_wire worked ending
   join-times l r s = rw (file-one p o r.gates (Multiply l r.wire), next_one r.gates (Multiply l r.wire) (omega (arith, one_long r.gates (Multiply l r.wire))))
 
   join-minus : (l : ℕ) (r : Emitted) → length r.gates < 1024
-      → join_by 45 p l (worked p m ns o r) ≡ worked p m ns o (ending (r.gates ++ (Scale r.wire (p - 1) ∷ [])) (Add l (length r.gates)))
+      → join_by operator.Minus p l (worked p m ns o r) ≡ worked p m ns o (ending (r.gates ++ (Scale r.wire (p - 1) ∷ [])) (Add l (length r.gates)))
   unfolding join_by join_out join_wire worked ending
   join-minus l r s =
       let neg : Gate = Scale r.wire (p - 1) in
@@ -125,7 +127,7 @@ module _ (p m : ℕ) (ns o : List ℕ) (room : length ns ≤ m) where
   name-work x gs h = rw (table_hold m x ns, with_same x ns h, table_place m x ns h room)
 
   -- two sides, each worked as it is emitted
-  sides : (c : ℕ) (l r : Tree) (gs : List Gate) → work p l (table_of m ns) (filed p o gs) (length gs) ≡ worked p m ns o (emit p ns l gs)
+  sides : (c : Operator) (l r : Tree) (gs : List Gate) → work p l (table_of m ns) (filed p o gs) (length gs) ≡ worked p m ns o (emit p ns l gs)
       → work p r (table_of m ns) (filed p o (emit p ns l gs).gates) (length (emit p ns l gs).gates) ≡ worked p m ns o (emit p ns r (emit p ns l gs).gates)
       → after_left (join_by c p) (λ k f h. work p r k f h) (work p l (table_of m ns) (filed p o gs) (length gs)) ≡ join_by c p (emit p ns l gs).wire (worked p m ns o (emit p ns r (emit p ns l gs).gates))
   unfolding after_left worked
@@ -138,15 +140,15 @@ module _ (p m : ℕ) (ns o : List ℕ) (room : length ns ≤ m) where
   work-emits (Tree.Plus l r) gs h s =
       let a = emit_long p ns l gs in
       let b = emit_long p ns r (emit p ns l gs).gates in
-      sides 43 l r gs (work-emits l gs h.0 (omega arith)) (work-emits r (emit p ns l gs).gates h.1 (omega (arith, a)))
+      sides operator.Plus l r gs (work-emits l gs h.0 (omega arith)) (work-emits r (emit p ns l gs).gates h.1 (omega (arith, a)))
       ∙ join-plus (emit p ns l gs).wire (emit p ns r (emit p ns l gs).gates) (omega (arith, a, b))
   work-emits (Tree.Times l r) gs h s =
       let a = emit_long p ns l gs in
       let b = emit_long p ns r (emit p ns l gs).gates in
-      sides 42 l r gs (work-emits l gs h.0 (omega arith)) (work-emits r (emit p ns l gs).gates h.1 (omega (arith, a)))
+      sides operator.Times l r gs (work-emits l gs h.0 (omega arith)) (work-emits r (emit p ns l gs).gates h.1 (omega (arith, a)))
       ∙ join-times (emit p ns l gs).wire (emit p ns r (emit p ns l gs).gates) (omega (arith, a, b))
   work-emits (Tree.Minus l r) gs h s =
       let a = emit_long p ns l gs in
       let b = emit_long p ns r (emit p ns l gs).gates in
-      sides 45 l r gs (work-emits l gs h.0 (omega arith)) (work-emits r (emit p ns l gs).gates h.1 (omega (arith, a)))
+      sides operator.Minus l r gs (work-emits l gs h.0 (omega arith)) (work-emits r (emit p ns l gs).gates h.1 (omega (arith, a)))
       ∙ join-minus (emit p ns l gs).wire (emit p ns r (emit p ns l gs).gates) (omega (arith, a, b))

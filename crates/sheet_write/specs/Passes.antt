@@ -1,12 +1,11 @@
 -- The two passes over a sheet: the table of names, the counts, and what the second pass asks.
-use Rattle.std.specs.Prelude.{ℕ, zero, suc, ◌+◌, ◌-◌, ◌/◌, ◌<◌, ◌≤◌, ◌≡◌, true, false, cond, List, [], ◌∷◌, leb, length, get_or}
+use Rattle.std.specs.Prelude.{Option, Some, None, ℕ, zero, suc, ◌+◌, ◌-◌, ◌/◌, ◌<◌, ◌≤◌, ◌≡◌, true, false, cond, List, [], ◌∷◌, leb, length, get_or}
 use Rattle.numbers.specs.Tables.{tab}
 use Rattle.plan.specs.declared.Gate.{Gate}
 use Rattle.plan.specs.declared.Gate.TheVariants.{Input}
 use Rattle.sheet_text.specs.Trees.{names_of, gate_count}
 use Rattle.sheet_text.specs.Making.{sheet_tree, sheet_ok, tree_made}
-use Rattle.sheet_write.specs.declared.Survey.{Survey}
-use Rattle.sheet_write.specs.declared.Survey.TheVariants as survey
+use Rattle.sheet_write.specs.declared.Counts.{Counts}
 
 -- a table of m numbers that holds names, each with 1 added, and 0 where there is none
 unfoldable pub table_of : ℕ → List ℕ → List ℕ
@@ -23,16 +22,16 @@ unfoldable pub up_to : ℕ → ℕ
 up_to k = cond (leb k 1025) k 1025
 
 -- ---- the first pass: refusal 27, and the counts of inputs and of all gates
-unfoldable pub SurveyIs : ℕ → ℕ → List ℕ → Survey → List ℕ → Type 0
-SurveyIs n p s (survey.Counts inputs gates) names = record {
+unfoldable pub SurveyIs : ℕ → ℕ → List ℕ → Option Counts → List ℕ → Type 0
+SurveyIs n p s (Some c) names = record {
   ok : sheet_ok n p s ≡ true;
-  inputs_are : inputs ≡ up_to (length (names_of (sheet_tree n p s)));
-  gates_are : gates ≡ inputs + up_to (gate_count (sheet_tree n p s));
+  inputs_are : c.inputs ≡ up_to (length (names_of (sheet_tree n p s)));
+  gates_are : c.gates ≡ c.inputs + up_to (gate_count (sheet_tree n p s));
   table : names ≡ table_of 1025 (names_of (sheet_tree n p s));
 }
-SurveyIs n p s survey.Wrong names = sheet_ok n p s ≡ false
+SurveyIs n p s None names = sheet_ok n p s ≡ false
 
-pub record Surveyed (n p : ℕ) (s : List ℕ) (r : Survey) (names : List ℕ) : Type 0 where
+pub record Surveyed (n p : ℕ) (s : List ℕ) (r : Option Counts) (names : List ℕ) : Type 0 where
   pub is : SurveyIs n p s r names
   pub long : length names ≡ 1025
 

@@ -1,10 +1,6 @@
-use Prim.Native.Nat.{◌-◌}
 use lib.ListN.{length, get_or}
 use Rattle.numbers.proofs.Fills.{Stored}
 use Rattle.charge_parts.proofs.put_parts.Given as goal
 
 abbrev pub invariant-loop-i : goal.invariant-loop-i
 invariant-loop-i l = Stored (λ k. get_or l.parts k 0) (length l.parts) l.initial.out l.out l.i
-
-abbrev pub decreases-loop-i : goal.decreases-loop-i
-decreases-loop-i l = length l.parts - l.i

@@ -1,23 +1,11 @@
-use Rattle.convert_call.proofs.Reading.{versions}
+use Rattle.std.proofs.lemmas.Result.{err_from_is_err_and}
+use Rattle.convert_call.proofs.Reading.{old-refused, old-passes}
 use Rattle.convert_call.proofs.read_old.Goals as goal
 
-pub byte-requires : goal.byte-requires
-byte-requires c = search versions
+pub returns-in_err-plan-clause-refused : goal.returns-in_err-plan-clause-refused
+returns-in_err-plan-clause-refused c =
+    let p = err_from_is_err_and c.from_residual.result c.from_residual.ensures.1 in
+    rw (p.1, p.2) (old-refused _ _ c.is_third.ensures _ c.if-is_third.false c.in_err-plan.ensures.refused)
 
-pub read-requires : goal.read-requires
-read-requires c = search versions
-
-pub returns-then-byte-ne3 : goal.returns-then-byte-ne3
-returns-then-byte-ne3 c = search versions
-
-pub begins-requires : goal.begins-requires
-begins-requires c = search versions
-
-pub returns-then-begins : goal.returns-then-begins
-returns-then-begins c = search versions
-
-pub read-requires-2 : goal.read-requires-2
-read-requires-2 c = search versions
-
-pub returns : goal.returns
-returns c = search versions
+pub returns-clause-passed : goal.returns-clause-passed
+returns-clause-passed c = old-passes _ _ c.is_third.ensures _ _ c.if-is_third.false c.in_ok-plan.plan.planned c.in_ok-plan.ensures.passed

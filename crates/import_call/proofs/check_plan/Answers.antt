@@ -1,20 +1,11 @@
-use Rattle.import_call.proofs.Calls.{checking_plan}
+use Rattle.std.proofs.lemmas.Result.{err_from_is_err_and}
+use Rattle.import_call.proofs.Calls.{checking_plan, plan-refused}
 use Rattle.import_call.proofs.check_plan.Goals as goal
 
-pub check-c-requires : goal.check-c-requires
-check-c-requires c = search checking_plan
+pub returns-in_err-check : goal.returns-in_err-check
+returns-in_err-check c =
+    let p = err_from_is_err_and c.from_residual.result c.from_residual.ensures.1 in
+    rw (p.1, p.2) (plan-refused _ _ _ _ _ _ c.requires _ c.check.ensures _ _ c.in_err-check.was)
 
-pub enum_told-1 : goal.enum_told-1
-enum_told-1 c = search checking_plan
-
-pub enum_told-in_default : goal.enum_told-in_default
-enum_told-in_default c = search checking_plan
-
-pub returns-in_default : goal.returns-in_default
-returns-in_default c = search checking_plan
-
-pub check_majority-requires : goal.check_majority-requires
-check_majority-requires c = search checking_plan
-
-pub returns : goal.returns
-returns c = search checking_plan
+pub check_majority-requires-clause-importable : goal.check_majority-requires-clause-importable
+check_majority-requires-clause-importable c = search (checking_plan, c.in_ok-check.was)

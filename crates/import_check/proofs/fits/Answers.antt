@@ -1,29 +1,24 @@
-use Rattle.import_check.proofs.Marks.{marking}
+use Rattle.import_check.proofs.Marks.{inv_on, two_not, two_on, both_then, both_else}
 use Rattle.import_check.proofs.fits.Goals as goal
+use Rattle.import_check.proofs.fits.Goals.{then-is_set-2, else-is_set-2}
 
-pub enum_known-gate : goal.enum_known-gate
-enum_known-gate c = search marking
+pub returns-then-is_set-3 : goal.returns-then-is_set-3
+returns-then-is_set-3 c =
+    two_on _ _ _ _ _ c.in-Xor.is _
+    (elim c.if-is_set-2.branch [
+      | then-is_set-2 w ↦ both_then _ _ _ _ _ c.is_set-in-Xor.ensures _ w.if-is_set-2.true w.is_set-then-is_set-2.ensures w.value-is
+      | else-is_set-2 w ↦ both_else _ _ _ _ _ c.is_set-in-Xor.ensures w.if-is_set-2.false w.value-is
+    ])
+    _ c.if-is_set-3.true c.can_set-then-is_set-3.ensures
 
-pub two_fit-requires : goal.two_fit-requires
-two_fit-requires c = search marking
+pub returns-else-is_set-3 : goal.returns-else-is_set-3
+returns-else-is_set-3 c =
+    two_not _ _ _ _ _ c.in-Xor.is _
+    (elim c.if-is_set-2.branch [
+      | then-is_set-2 w ↦ both_then _ _ _ _ _ c.is_set-in-Xor.ensures _ w.if-is_set-2.true w.is_set-then-is_set-2.ensures w.value-is
+      | else-is_set-2 w ↦ both_else _ _ _ _ _ c.is_set-in-Xor.ensures w.if-is_set-2.false w.value-is
+    ])
+    c.if-is_set-3.false
 
-pub enum_known-gate-in-And-1 : goal.enum_known-gate-in-And-1
-enum_known-gate-in-And-1 c = search marking
-
-pub two_fit-requires-in-And : goal.two_fit-requires-in-And
-two_fit-requires-in-And c = search marking
-
-pub enum_known-gate-in-Inv-1 : goal.enum_known-gate-in-Inv-1
-enum_known-gate-in-Inv-1 c = search marking
-
-pub one_fits-requires : goal.one_fits-requires
-one_fits-requires c = search marking
-
-pub returns-in-Xor : goal.returns-in-Xor
-returns-in-Xor c = search marking
-
-pub returns-in-And : goal.returns-in-And
-returns-in-And c = search marking
-
-pub returns-in-Inv : goal.returns-in-Inv
-returns-in-Inv c = search marking
+pub returns-then-is_set : goal.returns-then-is_set
+returns-then-is_set c = inv_on _ _ _ _ c.in-Inv.is _ c.is_set.ensures _ c.if-is_set.true c.can_set.ensures

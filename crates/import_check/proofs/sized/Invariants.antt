@@ -1,9 +1,5 @@
-use Prim.Native.Nat.{◌-◌}
 use Rattle.import_check.proofs.Marks.{Sizing}
 use Rattle.import_check.proofs.sized.Given as goal
 
 abbrev pub invariant-loop-k : goal.invariant-loop-k
 invariant-loop-k l = Sizing l.s l.at l.gates l.initial.marks l.e l.size l.k l.marks
-
-abbrev pub decreases-loop-k : goal.decreases-loop-k
-decreases-loop-k l = l.gates - l.k

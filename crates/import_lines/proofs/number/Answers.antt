@@ -1,26 +1,11 @@
-use Rattle.import_lines.proofs.Reading.{reading}
+use Rattle.import_lines.proofs.Reading.{fields, number-none}
 use Rattle.import_lines.proofs.number.Goals as goal
 
-pub decimal-requires : goal.decimal-requires
-decimal-requires c = search reading
-
-pub enum_known-v : goal.enum_known-v
-enum_known-v c = search reading
-
-pub enum_told-1 : goal.enum_told-1
-enum_told-1 c = search reading
-
-pub returns-in_default : goal.returns-in_default
-returns-in_default c = search reading
-
-pub field_over-requires : goal.field_over-requires
-field_over-requires c = search reading
+pub returns-in_err-v : goal.returns-in_err-v
+returns-in_err-v c = number-none _ _ _ c.decimal.ensures _ c.in_err-v.was c.from_residual.ensures
 
 pub returns-then-not-field_over : goal.returns-then-not-field_over
-returns-then-not-field_over c = search reading
-
-pub blanks-requires : goal.blanks-requires
-blanks-requires c = search reading
+returns-then-not-field_over c = search (fields, c.in_ok-v.was)
 
 pub returns : goal.returns
-returns c = search reading
+returns c = search (fields, c.in_ok-v.was)

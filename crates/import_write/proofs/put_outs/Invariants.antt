@@ -1,9 +1,5 @@
-use Prim.Native.Nat.{◌-◌}
 use Rattle.import_write.proofs.Bytes.{Outing}
 use Rattle.import_write.proofs.put_outs.Given as goal
 
 abbrev pub invariant-loop-o : goal.invariant-loop-o
 invariant-loop-o l = Outing l.version l.gates l.held l.w l.count l.initial.out l.o l.out
-
-abbrev pub decreases-loop-o : goal.decreases-loop-o
-decreases-loop-o l = l.count - l.o

@@ -1,4 +1,4 @@
-use Prim.Native.Nat.{◌-◌, ◌/◌}
+use Prim.Native.Nat.{◌/◌}
 use lib.ListN.{length}
 use Rattle.numbers.specs.Bytes.{width}
 use Rattle.numbers.proofs.Searches.{Seeking}
@@ -7,6 +7,3 @@ use Rattle.numbers.proofs.seek_over.Given as goal
 
 abbrev pub invariant-loop-i : goal.invariant-loop-i
 invariant-loop-i l = Seeking (is_below l.s l.p) (length l.s / width) l.i
-
-abbrev pub decreases-loop-i : goal.decreases-loop-i
-decreases-loop-i l = l.n - l.i

@@ -1,41 +1,9 @@
-use Rattle.plan.proofs.Ways.{reads}
+use Rattle.std.proofs.lemmas.Result.{err_from_is_err_and}
+use Rattle.plan_reading.proofs.Reading.{reads}
 use Rattle.plan_reading.proofs.read_on.Goals as goal
 
-pub byte-n-requires : goal.byte-n-requires
-byte-n-requires c = search reads
+pub returns-in_err-check_body-clause-refused : goal.returns-in_err-check_body-clause-refused
+returns-in_err-check_body-clause-refused c = let p = err_from_is_err_and c.from_residual.result c.from_residual.ensures.1 in rw (p.1, p.2) (search (reads, c.in_err-check_body.was))
 
-pub field-p-requires : goal.field-p-requires
-field-p-requires c = search reads
-
-pub overflow_cast-p : goal.overflow_cast-p
-overflow_cast-p c = search reads
-
-pub field_above-requires : goal.field_above-requires
-field_above-requires c = search reads
-
-pub enum_known-field : goal.enum_known-field
-enum_known-field c = search reads
-
-pub enum_told-1 : goal.enum_told-1
-enum_told-1 c = search reads
-
-pub returns-in_default : goal.returns-in_default
-returns-in_default c = search reads
-
-pub byte-requires : goal.byte-requires
-byte-requires c = search reads
-
-pub field-requires : goal.field-requires
-field-requires c = search reads
-
-pub field-requires-2 : goal.field-requires-2
-field-requires-2 c = search reads
-
-pub check_body-requires : goal.check_body-requires
-check_body-requires c = search reads
-
-pub reading_of-requires : goal.reading_of-requires
-reading_of-requires c = search reads
-
-pub returns : goal.returns
-returns c = search reads
+pub returns-clause-passed : goal.returns-clause-passed
+returns-clause-passed c = search (reads, c.in_ok-check_body.was)

@@ -1,4 +1,4 @@
-use Prim.Native.Nat.{◌+◌, ◌-◌}
+use Prim.Native.Nat.{◌+◌}
 use lib.ListN.{get_or}
 use Rattle.numbers.specs.Bytes.{numbers}
 use Rattle.run_views.proofs.ViewLaws.{Tabbing}
@@ -6,6 +6,3 @@ use Rattle.run_views.proofs.put_coins.Given as goal
 
 abbrev pub invariant-loop-j : goal.invariant-loop-j
 invariant-loop-j l = Tabbing (λ k. get_or (numbers l.coins) (l.from + k) 0) l.t l.at l.initial.out l.out l.next l.j
-
-abbrev pub decreases-loop-j : goal.decreases-loop-j
-decreases-loop-j l = l.t - l.j

@@ -1,4 +1,3 @@
-use Prim.Native.Nat.{◌-◌}
 use Rattle.numbers.specs.Bytes.{numbers}
 use Rattle.plan.specs.File.{plan_of}
 use Rattle.run_views.specs.Flat.{view_in}
@@ -6,7 +5,4 @@ use Rattle.run_views.proofs.JoinLaws.{Viewed}
 use Rattle.run_views.proofs.write_views.Given as goal
 
 abbrev pub invariant-loop-i : goal.invariant-loop-i
-invariant-loop-i l = Viewed (view_in (plan_of l.plan) l.h l.table (numbers l.inputs) (numbers l.coins)) l.set l.initial.out l.out l.at l.i
-
-abbrev pub decreases-loop-i : goal.decreases-loop-i
-decreases-loop-i l = 17 - l.i
+invariant-loop-i l = Viewed (view_in (plan_of l.plan.bytes.now) l.plan.header l.table (numbers l.inputs) (numbers l.coins)) l.set l.initial.out l.out l.at l.i

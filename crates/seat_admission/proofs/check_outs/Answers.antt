@@ -1,11 +1,15 @@
-use Rattle.seat_admission.proofs.CheckLaws.{owning}
+use Rattle.std.proofs.lemmas.Result.{err_from_is_err_and}
+use Rattle.seat_admission.proofs.CheckLaws.{each}
 use Rattle.seat_admission.proofs.check_outs.Goals as goal
 
-pub own_out_count-own-requires : goal.own_out_count-own-requires
-own_out_count-own-requires c = search owning
+pub loop-j-init : goal.loop-j-init
+loop-j-init c = search (each)
 
-pub check_each_of-requires : goal.check_each_of-requires
-check_each_of-requires c = search owning
+pub returns-in_err-check_out : goal.returns-in_err-check_out
+returns-in_err-check_out c = let p = err_from_is_err_and c.from_residual.result c.from_residual.ensures.1 in rw (p.1, p.2) (search (each, c.in_err-check_out.was))
+
+pub loop-j-preserved : goal.loop-j-preserved
+loop-j-preserved c = search (each, c.in_ok-check_out.was)
 
 pub returns : goal.returns
-returns c = search owning
+returns c = search (each)

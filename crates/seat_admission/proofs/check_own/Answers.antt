@@ -1,29 +1,17 @@
-use Rattle.seat_admission.proofs.CheckLaws.{owning}
+use Rattle.std.proofs.Common.{inl, inr}
+use Rattle.std.proofs.lemmas.Result.{err_from_is_err_and}
+use Rattle.seat_admission.proofs.CheckLaws.{owning, own-outside}
+use Rattle.seat_admission.proofs.check_own.Goals.{then-seat-lt1-via-then-seat-lt1, then-seat-lt1-via-else-seat-lt1+then-h-seat}
 use Rattle.seat_admission.proofs.check_own.Goals as goal
 
-pub returns-then-i-lt1 : goal.returns-then-i-lt1
-returns-then-i-lt1 c = search owning
+pub returns-then-seat-lt1 : goal.returns-then-seat-lt1
+returns-then-seat-lt1 c = elim c.then-seat-lt1.branch [
+  | then-seat-lt1-via-then-seat-lt1 w ↦ own-outside _ _ c.args.seat.now.plan.now.planned _ _ _ (inl w.if-seat-lt1.true)
+  | then-seat-lt1-via-else-seat-lt1+then-h-seat w ↦ own-outside _ _ c.args.seat.now.plan.now.planned _ _ _ (inr w.if-h-seat.true)
+]
 
-pub returns-then-h-i : goal.returns-then-h-i
-returns-then-h-i c = search owning
-
-pub own_inputs_by-own-requires : goal.own_inputs_by-own-requires
-own_inputs_by-own-requires c = search owning
-
-pub check_inputs-c-requires : goal.check_inputs-c-requires
-check_inputs-c-requires c = search owning
-
-pub enum_told-1 : goal.enum_told-1
-enum_told-1 c = search owning
-
-pub enum_told-in_default : goal.enum_told-in_default
-enum_told-in_default c = search owning
-
-pub returns-in_default : goal.returns-in_default
-returns-in_default c = search owning
-
-pub check_coins-requires : goal.check_coins-requires
-check_coins-requires c = search owning
+pub returns-in_err-check_inputs : goal.returns-in_err-check_inputs
+returns-in_err-check_inputs c = let p = err_from_is_err_and c.from_residual.result c.from_residual.ensures.1 in rw (p.1, p.2) (search (owning, c.in_err-check_inputs.was))
 
 pub returns : goal.returns
-returns c = search owning
+returns c = search (owning, c.in_ok-check_inputs.was)

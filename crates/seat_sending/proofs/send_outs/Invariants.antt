@@ -1,4 +1,4 @@
-use Prim.Native.Nat.{◌-◌, ◌+◌}
+use Prim.Native.Nat.{◌+◌}
 use Rattle.numbers.specs.Bytes.{numbers}
 use Rattle.plan.specs.Plans.{out_wires}
 use Rattle.plan.specs.File.{plan_of}
@@ -7,7 +7,4 @@ use Rattle.seat_sending.proofs.SendLaws.{Rows}
 use Rattle.seat_sending.proofs.send_outs.Given as goal
 
 abbrev pub invariant-loop-j : goal.invariant-loop-j
-invariant-loop-j l = Rows (λ j. out_shares (numbers l.shares) (out_wires (plan_of l.plan) (j + 1))) 64 l.h.n l.initial.out l.out l.at l.j
-
-abbrev pub decreases-loop-j : goal.decreases-loop-j
-decreases-loop-j l = l.h.n - l.j
+invariant-loop-j l = Rows (λ j. out_shares (numbers l.shares) (out_wires (plan_of l.plan.bytes.now) (j + 1))) 64 l.plan.header.n l.initial.out l.out l.at l.j

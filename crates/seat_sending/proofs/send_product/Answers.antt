@@ -1,26 +1,14 @@
 use Rattle.seat_sending.proofs.ProductLaws.{product_sending}
 use Rattle.seat_sending.proofs.send_product.Goals as goal
 
-pub overflow_add-h : goal.overflow_add-h
-overflow_add-h c = search product_sending
+pub returns-then-t-seat : goal.returns-then-t-seat
+returns-then-t-seat c = search product_sending
 
-pub overflow_add-h-2 : goal.overflow_add-h-2
-overflow_add-h-2 c = search product_sending
+pub coins_below-requires : goal.coins_below-requires
+coins_below-requires c = search product_sending
 
-pub returns-then-h-i : goal.returns-then-h-i
-returns-then-h-i c = search product_sending
+pub send-requires-clause-points_value : goal.send-requires-clause-points_value
+send-requires-clause-points_value c = search product_sending
 
-pub product-secret-requires : goal.product-secret-requires
-product-secret-requires c = search product_sending
-
-pub coins_below-from-requires : goal.coins_below-from-requires
-coins_below-from-requires c = search product_sending
-
-pub deal-requires : goal.deal-requires
-deal-requires c = search product_sending
-
-pub shape_of-out : goal.shape_of-out
-shape_of-out c = search product_sending
-
-pub returns : goal.returns
-returns c = search product_sending
+pub send-requires-clause-out_len : goal.send-requires-clause-out_len
+send-requires-clause-out_len c = search product_sending

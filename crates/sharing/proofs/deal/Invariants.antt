@@ -1,11 +1,7 @@
-use Prim.Native.Nat.{◌-◌}
-use lib.ListN.{length, get_or}
+use lib.ListN.{get_or}
 use Rattle.numbers.proofs.Fills.{Filled}
 use Rattle.sharing_laws.specs.Poly.{eval}
 use Rattle.sharing.proofs.deal.Given as goal
 
 abbrev pub invariant-loop-k : goal.invariant-loop-k
 invariant-loop-k l = Filled (λ j. eval l.f.p l.polynomial (get_or l.points j 0)) l.initial.shares l.shares l.k
-
-abbrev pub decreases-loop-k : goal.decreases-loop-k
-decreases-loop-k l = length l.initial.shares - l.k

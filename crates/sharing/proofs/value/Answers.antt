@@ -1,32 +1,23 @@
+use Rattle.std.proofs.Common.{length}
+use Rattle.std.proofs.lemmas.List.{length_push}
+use Rattle.std.proofs.lemmas.Iterator.Adapters.{YieldsList-from_rev_slice}
+use Rattle.std.proofs.lemmas.Iterator.Consumers.{YieldsList-turn, YieldsList-end}
+use Rattle.sharing.proofs.Walks.{Next, next_back}
 use Rattle.sharing.proofs.Coding.{valuing}
 use Rattle.sharing.proofs.value.Goals as goal
 
-pub loop-i-init : goal.loop-i-init
-loop-i-init c = search valuing
-
-pub overflow_sub-i : goal.overflow_sub-i
-overflow_sub-i c = search valuing
-
-pub offset_bounds-coefficients-i : goal.offset_bounds-coefficients-i
-offset_bounds-coefficients-i c = search valuing
-
-pub bounds-coefficients-i : goal.bounds-coefficients-i
-bounds-coefficients-i c = search valuing
-
-pub overflow_mul-acc : goal.overflow_mul-acc
-overflow_mul-acc c = search valuing
-
 pub overflow_add-acc : goal.overflow_add-acc
-overflow_add-acc c = search valuing
+overflow_add-acc c =
+    let n : Next c.args.coefficients.now (length c.loop-a.yielded) c.in-Some.a.now = next_back _ _ _ (YieldsList-turn (YieldsList-from_rev_slice c.args.coefficients.now cc) c.loop-a.yielded _ c.loop-a.yielded_by _ _ c.in-Some.a c.in-Some.is c.next.ensures.steps) in
+    search valuing
 
-pub nonzero_rem-acc : goal.nonzero_rem-acc
-nonzero_rem-acc c = search valuing
-
-pub loop-i-smaller : goal.loop-i-smaller
-loop-i-smaller c = search valuing
-
-pub loop-i-preserved : goal.loop-i-preserved
-loop-i-preserved c = search valuing
+pub loop-a-preserved : goal.loop-a-preserved
+loop-a-preserved c =
+    let n : Next c.args.coefficients.now (length c.loop-a.yielded) c.in-Some.a.now = next_back _ _ _ (YieldsList-turn (YieldsList-from_rev_slice c.args.coefficients.now cc) c.loop-a.yielded _ c.loop-a.yielded_by _ _ c.in-Some.a c.in-Some.is c.next.ensures.steps) in
+    let l = length_push c.loop-a.yielded c.in-Some.a in
+    search valuing
 
 pub returns : goal.returns
-returns c = search valuing
+returns c =
+    let t = YieldsList-end (YieldsList-from_rev_slice c.args.coefficients.now cc) c.loop-a.yielded _ c.loop-a.yielded_by _ _ c.in-None.is c.next.ensures.steps in
+    search (valuing, t.1)

@@ -1,38 +1,23 @@
-use Rattle.sharing_delta.proofs.Factors.{growing}
+use Rattle.std.proofs.Common.{◌≤◌, length}
+use Rattle.std.proofs.lemmas.List.{length_push}
+use Rattle.std.proofs.lemmas.Iterator.Adapters.{YieldsList-from_rev_slice}
+use Rattle.std.proofs.lemmas.Iterator.Consumers.{YieldsList-turn, YieldsList-end}
+use Rattle.sharing.proofs.Walks.{Next, next_back}
+use Rattle.sharing_delta.proofs.Factors.{growing, none-left}
 use Rattle.sharing_delta.proofs.vanishing.Goals as goal
 
-pub one-requires : goal.one-requires
-one-requires c = search growing
-
-pub loop-left-init : goal.loop-left-init
-loop-left-init c = search growing
-
-pub overflow_sub-left : goal.overflow_sub-left
-overflow_sub-left c = search growing
-
-pub offset_bounds-members-left : goal.offset_bounds-members-left
-offset_bounds-members-left c = search growing
-
-pub bounds-members-left : goal.bounds-members-left
-bounds-members-left c = search growing
-
 pub inverse-requires : goal.inverse-requires
-inverse-requires c = search growing
+inverse-requires c =
+    let n : Next c.args.members.now (length c.loop-member.yielded) c.in-Some.member.now = next_back _ _ _ (YieldsList-turn (YieldsList-from_rev_slice c.args.members.now cc) c.loop-member.yielded _ c.loop-member.yielded_by _ _ c.in-Some.member c.in-Some.is c.next.ensures.steps) in
+    search growing
 
-pub neg-requires : goal.neg-requires
-neg-requires c = search growing
-
-pub times-requires : goal.times-requires
-times-requires c = search growing
-
-pub loop-left-smaller : goal.loop-left-smaller
-loop-left-smaller c = search growing
-
-pub loop-left-preserved : goal.loop-left-preserved
-loop-left-preserved c = search growing
-
-pub shape_of-out : goal.shape_of-out
-shape_of-out c = search growing
+pub loop-member-preserved : goal.loop-member-preserved
+loop-member-preserved c =
+    let n : Next c.args.members.now (length c.loop-member.yielded) c.in-Some.member.now = next_back _ _ _ (YieldsList-turn (YieldsList-from_rev_slice c.args.members.now cc) c.loop-member.yielded _ c.loop-member.yielded_by _ _ c.in-Some.member c.in-Some.is c.next.ensures.steps) in
+    let l = length_push c.loop-member.yielded c.in-Some.member in
+    search growing
 
 pub returns : goal.returns
-returns c = search growing
+returns c =
+    let n : length c.args.members.now ≤ length c.loop-member.yielded = none-left _ _ (YieldsList-end (YieldsList-from_rev_slice c.args.members.now cc) c.loop-member.yielded _ c.loop-member.yielded_by _ _ c.in-None.is c.next.ensures.steps).1 in
+    search growing

@@ -1,8 +1,5 @@
-use Rattle.std.proofs.Common.{◌-◌, ◌<◌, ◌≤◌, length}
+use Rattle.std.proofs.Common.{◌<◌}
 use Rattle.sharing_test.proofs.by_powers.Given as goal
 
-abbrev pub invariant-loop-i : goal.invariant-loop-i
-invariant-loop-i l = (l.sum < 2147483648) × (l.power < 2147483648) × (l.i ≤ length l.coefficients)
-
-abbrev pub decreases-loop-i : goal.decreases-loop-i
-decreases-loop-i l = length l.coefficients - l.i
+abbrev pub invariant-loop-a : goal.invariant-loop-a
+invariant-loop-a l = (l.sum < 2147483648) × (l.power < 2147483648)

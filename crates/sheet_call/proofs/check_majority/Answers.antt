@@ -1,53 +1,11 @@
 use Rattle.sheet_call.proofs.Calls.{majorities}
 use Rattle.sheet_call.proofs.check_majority.Goals as goal
 
-pub overflow_mul-t : goal.overflow_mul-t
-overflow_mul-t c = search majorities
+pub survey-requires : goal.survey-requires
+survey-requires c = search majorities
 
-pub returns-then-t-n : goal.returns-then-t-n
-returns-then-t-n c = search majorities
-
-pub slice_bounds-survey_sheet-end : goal.slice_bounds-survey_sheet-end
-slice_bounds-survey_sheet-end c = search majorities
-
-pub survey_sheet-requires : goal.survey_sheet-requires
-survey_sheet-requires c = search majorities
-
-pub enum_told-1 : goal.enum_told-1
-enum_told-1 c = search majorities
-
-pub enum_told-in_default : goal.enum_told-in_default
-enum_told-in_default c = search majorities
-
-pub returns-in_default : goal.returns-in_default
-returns-in_default c = search majorities
-
-pub version_for-requires : goal.version_for-requires
-version_for-requires c = search majorities
-
-pub file_size-size-requires : goal.file_size-size-requires
-file_size-size-requires c = search majorities
-
-pub slice_bounds-write_sheet-end : goal.slice_bounds-write_sheet-end
-slice_bounds-write_sheet-end c = search majorities
-
-pub slice_bounds-room-end : goal.slice_bounds-room-end
-slice_bounds-room-end c = search majorities
-
-pub slice_bounds-write_sheet-end-2 : goal.slice_bounds-write_sheet-end-2
-slice_bounds-write_sheet-end-2 c = search majorities
-
-pub write_sheet-requires : goal.write_sheet-requires
-write_sheet-requires c = search majorities
-
-pub slice_bounds-room-end-2 : goal.slice_bounds-room-end-2
-slice_bounds-room-end-2 c = search majorities
-
-pub slice_bounds-check_majority-end : goal.slice_bounds-check_majority-end
-slice_bounds-check_majority-end c = search majorities
-
-pub check_majority-requires : goal.check_majority-requires
-check_majority-requires c = search majorities
+pub write-requires-clause-compilable : goal.write-requires-clause-compilable
+write-requires-clause-compilable c = search majorities
 
 pub returns : goal.returns
 returns c = search majorities

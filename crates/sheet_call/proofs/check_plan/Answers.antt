@@ -1,23 +1,12 @@
+use Rattle.std.proofs.Common.{◌≡◌, Err, rules}
+use Rattle.plan.specs.Refusals.{Checked}
 use Rattle.sheet_call.proofs.Calls.{checking_plan}
 use Rattle.sheet_call.proofs.check_plan.Goals as goal
 
-pub check-requires : goal.check-requires
-check-requires c = search checking_plan
-
-pub result_checked-c-requires : goal.result_checked-c-requires
-result_checked-c-requires c = search checking_plan
-
-pub enum_told-1 : goal.enum_told-1
-enum_told-1 c = search checking_plan
-
-pub enum_told-in_default : goal.enum_told-in_default
-enum_told-in_default c = search checking_plan
-
-pub returns-in_default : goal.returns-in_default
-returns-in_default c = search checking_plan
-
-pub check_majority-requires : goal.check_majority-requires
-check_majority-requires c = search checking_plan
+pub returns-in_err-check : goal.returns-in_err-check
+returns-in_err-check c =
+    let e : ◌≡◌ {A = Checked} c.from_residual.result (Err c.in_err-check.field-0.0) = search rules in
+    search (checking_plan, c.in_err-check.was)
 
 pub returns : goal.returns
-returns c = search checking_plan
+returns c = search (checking_plan, c.in_ok-check.was)

@@ -1,17 +1,11 @@
-use Rattle.text_decimals.proofs.Laws.{reading}
+use Rattle.text_decimals.proofs.Laws.{placing}
 use Rattle.text_decimals.proofs.decimal.Goals as goal
 
-pub byte-b-requires : goal.byte-b-requires
-byte-b-requires c = search reading
-
-pub is_digit-requires : goal.is_digit-requires
-is_digit-requires c = search reading
-
-pub number-requires : goal.number-requires
-number-requires c = search reading
+pub returns-then-b-eq48 : goal.returns-then-b-eq48
+returns-then-b-eq48 c = search placing
 
 pub returns-then-is_digit : goal.returns-then-is_digit
-returns-then-is_digit c = search reading
+returns-then-is_digit c = search placing
 
 pub returns : goal.returns
-returns c = search reading
+returns c = search placing

@@ -1,26 +1,9 @@
+use Rattle.std.proofs.lemmas.Result.{err_from_is_err_and}
 use Rattle.run_bench.proofs.RunCheckLaws.{giving}
 use Rattle.run_bench.proofs.checking.check_given.Goals as goal
 
-pub input_count-requires : goal.input_count-requires
-input_count-requires c = search giving
-
-pub check_inputs-given-requires : goal.check_inputs-given-requires
-check_inputs-given-requires c = search giving
-
-pub enum_told-1 : goal.enum_told-1
-enum_told-1 c = search giving
-
-pub enum_told-in_default : goal.enum_told-in_default
-enum_told-in_default c = search giving
-
-pub returns-in_default : goal.returns-in_default
-returns-in_default c = search giving
-
-pub coin_count-requires : goal.coin_count-requires
-coin_count-requires c = search giving
-
-pub check_coins-requires : goal.check_coins-requires
-check_coins-requires c = search giving
+pub returns-in_err-check_inputs : goal.returns-in_err-check_inputs
+returns-in_err-check_inputs c = let p = err_from_is_err_and c.from_residual.result c.from_residual.ensures.1 in rw (p.1, p.2) (search (giving, c.in_err-check_inputs.was))
 
 pub returns : goal.returns
-returns c = search giving
+returns c = search (giving, c.in_ok-check_inputs.was)

@@ -1,0 +1,14 @@
+use Rattle.count_fill.proofs.RowLaws.{filling}
+use Rattle.count_fill.proofs.Settings.fill_by.Goals as goal
+
+pub set_coins-requires-clause-out_len : goal.set_coins-requires-clause-out_len
+set_coins-requires-clause-out_len c = search filling
+
+pub fill_row-requires-clause-given : goal.fill_row-requires-clause-given
+fill_row-requires-clause-given c = search filling
+
+pub loop-s-preserved : goal.loop-s-preserved
+loop-s-preserved c = search filling
+
+pub returns : goal.returns
+returns c = search filling

@@ -1,0 +1,29 @@
+use Rattle.match_moves.proofs.GateMoveLaws.{moving_gate}
+use Rattle.match_moves.proofs.Mover.gate.Goals as goal
+
+pub dealing-requires-clause-before_lt_p : goal.dealing-requires-clause-before_lt_p
+dealing-requires-clause-before_lt_p c = search moving_gate
+
+pub dealing-requires-clause-lent : goal.dealing-requires-clause-lent
+dealing-requires-clause-lent c = search moving_gate
+
+pub multiply-requires-clause-t_bound : goal.multiply-requires-clause-t_bound
+multiply-requires-clause-t_bound c = search moving_gate
+
+pub multiply-requires-clause-rowed : goal.multiply-requires-clause-rowed
+multiply-requires-clause-rowed c = search moving_gate
+
+pub multiply-requires-clause-rowed_2 : goal.multiply-requires-clause-rowed_2
+multiply-requires-clause-rowed_2 c = search moving_gate
+
+pub multiply-requires-clause-lent : goal.multiply-requires-clause-lent
+multiply-requires-clause-lent c = search moving_gate
+
+pub returns-in-Input : goal.returns-in-Input
+returns-in-Input c = search moving_gate
+
+pub returns-in-Multiply : goal.returns-in-Multiply
+returns-in-Multiply c = search moving_gate
+
+pub returns-in_default : goal.returns-in_default
+returns-in_default c = search moving_gate

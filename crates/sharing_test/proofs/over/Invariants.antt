@@ -1,8 +1,0 @@
-use Rattle.std.proofs.Common.{◌-◌, ◌≤◌}
-use Rattle.sharing_test.proofs.over.Given as goal
-
-abbrev pub invariant-loop-n : goal.invariant-loop-n
-invariant-loop-n l = l.n ≤ 16
-
-abbrev pub decreases-loop-n : goal.decreases-loop-n
-decreases-loop-n l = 16 - l.n
