@@ -169,9 +169,17 @@ module _ (plan : Plan) (set i k j : ℕ) (h : Parting plan set i k j) where
   pub part_few : i ≤ 16 → k ≤ 524288
   part_few l = omega (arith, h.few, h.high, h.low)
 
+-- As it is: answers name this set, since the check leaves their goals open by `using` alone.
 pub ruleset parting = (rules, part_none, part_next, part_done, part_few)
 
 -- ---- a party's lines, where it is a member
+pub member_few : (set i : ℕ) (b : Bool) → b ≡ in_set set i → b ≡ true → Fits w16 set → i ≤ 16
+member_few set i b e f s = leb-true i 16 (pick (leb i 16) refl)
+  where
+    pick : (t : Bool) → leb i 16 ≡ t → leb i 16 ≡ true
+    pick true q = q
+    pick false q = let z : ◌≡◌ {A = ℕ} 0 1 = cc (bit_past set i s (leb-false i 16 q)) in absurd (omega arith)
+
 module _ (plan : Plan) (set i : ℕ) (vs : List ℕ) (at : ℕ) (old : List ℕ) (b : Bool) (e : b ≡ in_set set i) where
   pub party-none : b ≡ false → at ≤ length old → Put (cond (in_set set i) (member_part plan set vs i) []) at old old at
   party-none f h = rw (← e, f) (put-nothing at old h)
@@ -180,7 +188,7 @@ module _ (plan : Plan) (set i : ℕ) (vs : List ℕ) (at : ℕ) (old : List ℕ)
   unfolding member_part
   party_lines from r new f p w = rw (← e, f, ← p) w
 
-pub ruleset partying = (rules, not-true, not-false, party-none, party_lines)
+pub ruleset partying = (rules, not-true, not-false, member_few, party-none, party_lines)
 
 -- ---- the loop over the parties
 module _ (f : ℕ → List ℕ) (set : ℕ) where
@@ -273,6 +281,7 @@ module _ {bs : List ℕ} {h : Header} (p : Planned bs h) where
   pub before_few : (i o count k : ℕ) → Before bs i o count k → o ≤ h.outs → count ≤ 64
   before_few i o count k s l = omega (arith, s.le, s.within, p.outs-high)
 
+-- As it is: answers name this set, since the check leaves their goals open by `using` alone.
 pub ruleset earlier = (rules, before-none, before_next, before_done, before_few)
 
 -- ---- where a party's results begin
@@ -288,13 +297,6 @@ module _ (plan : Plan) (set i count outs at : ℕ) (eo : outs ≡ own_out_count 
 pub ruleset placing = (rules, results_behind, results_place)
 
 -- ---- the line of an out
-pub member_few : (set i : ℕ) (b : Bool) → b ≡ in_set set i → b ≡ true → Fits w16 set → i ≤ 16
-member_few set i b e f s = leb-true i 16 (pick (leb i 16) refl)
-  where
-    pick : (t : Bool) → leb i 16 ≡ t → leb i 16 ≡ true
-    pick true q = q
-    pick false q = let z : ◌≡◌ {A = ℕ} 0 1 = cc (bit_past set i s (leb-false i 16 q)) in absurd (omega arith)
-
 module _ (bs : List ℕ) (set : ℕ) (vs : List ℕ) (o at : ℕ) (old : List ℕ) (out : Output) (eo : out ≡ out_at bs o) (b : Bool) (e : b ≡ in_set set out.party) where
   pub out_none : b ≡ false → at ≤ length old → Put (out_line_in (plan_of bs) set vs o (take o (plan_of bs).outs) (out_at bs o)) at old old at
   unfolding out_line_in
@@ -344,6 +346,7 @@ module _ (bs : List ℕ) (set : ℕ) (vs : List ℕ) where
         left_end (out_lines_in (plan_of bs) set vs 0 [] (plan_of bs).outs) at old new next (outs_from o) s.left
         (rw (drop_of_length-le (plan_of bs).outs {i = o} (rw (plan_outs p) l)))
 
+-- As it is: answers name this set, since the check leaves their goals open by `using` alone.
 pub ruleset outing_all_outs = (rules, outing_all, outing-next, outing-end)
 
 -- ---- the lines of a run
@@ -355,4 +358,5 @@ unfolding run_lines_in
 run_lines_lem plan set vs at a b c r old s t u new k l m n =
     put_then (plan_line plan) _ at a r old s new k (put_then (flat_map (member_part plan set vs) (members set)) _ a b r s t new l (put_then (out_lines_in plan set vs 0 [] plan.outs) _ b c r t u new m n))
 
+-- As it is: answers name this set, since the check leaves their goals open by `using` alone.
 pub ruleset all_lines = (rules, run_lines_lem)

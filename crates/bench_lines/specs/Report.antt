@@ -32,7 +32,7 @@ sent_word = 115 ∷ 101 ∷ 110 ∷ 116 ∷ []
 unfoldable pub refused_word : List ℕ
 refused_word = 114 ∷ 101 ∷ 102 ∷ 117 ∷ 115 ∷ 101 ∷ 100 ∷ []
 
--- n t p G O
+-- n, t and p, and how many gates and outs there are
 unfoldable pub plan_line : Plan → List ℕ
 plan_line plan = line plan_word (party_count plan ∷ plan.t ∷ plan.p ∷ length plan.gates ∷ length plan.outs ∷ [])
 

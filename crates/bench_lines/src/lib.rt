@@ -27,7 +27,7 @@ pub fn put_refused(text: &mut Text, r: Refusal)
     text.put_line(b"refused", &[plan_codes::number(r), plan_codes::place(r)]);
 }
 
-// n t p G O
+// The line of the plan: n, t and p, and how many gates and outs it has.
 #[tactic(auto, using(crate::proofs::Printed::fewing), unfolding(crate::specs::Report::plan_word))]
 fn put_plan(text: &mut Text, plan: &PlanFile)
     ensures same { text.new.room.ghost_name ≡ text.old.room.ghost_name }
@@ -44,7 +44,7 @@ fn put_plan(text: &mut Text, plan: &PlanFile)
     text.put_line(b"plan", &xs);
 }
 
-// Elements sent.
+// The line of the elements sent.
 #[tactic(auto, using(crate::proofs::Printed::fewing), unfolding(crate::specs::Report::sent_word))]
 fn put_sent(text: &mut Text, plan: &PlanFile)
     ensures same { text.new.room.ghost_name ≡ text.old.room.ghost_name }
@@ -53,7 +53,7 @@ fn put_sent(text: &mut Text, plan: &PlanFile)
     text.put_line(b"sent", &[plan_sizes::sent_count(plan) as u64]);
 }
 
-// A party's own inputs and coins.
+// How many inputs and coins of its own a party has.
 #[tactic(auto, using(crate::proofs::Printed::membering))]
 fn own_count(plan: &PlanFile, i: usize) -> usize
     ensures { record { eq : result ≡ own_count (plan_of plan.now.bytes.now) i; le : result ≤ 15360 } }
@@ -129,7 +129,6 @@ impl Seen<'_> {
     // Party i's lines, where it is a member.
     #[tactic(auto, using(crate::proofs::Printed::partying))]
     fn put_party(&self, text: &mut Text, i: usize)
-        requires i_bound { i ≤ 16 }
         ensures same { text.new.room.ghost_name ≡ text.old.room.ghost_name }
         ensures put { Put (cond (in_set self.now.set i) (member_part (plan_of self.now.plan.now.bytes.now) self.now.set (numbers self.now.view.now) i) []) text.old.written text.old.room.now text.new.room.now text.new.written }
     {

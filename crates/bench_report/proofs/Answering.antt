@@ -10,12 +10,13 @@ use mathlib.Core.Path.{◌≡◌, refl, sym, ap, ◌∙◌}
 use mathlib.Core.Bool.{Bool, true, false, cond, ◌||◌, not}
 use mathlib.Core.List.{List, [], ◌∷◌, Memᴰ}
 use Prim.Native.Nat.{ℕ, ◌+◌, ◌-◌, ◌*◌, ◌/◌, ◌%◌, ◌^◌, ◌<◌, ◌≤◌, min}
-use native.Mathlib.Nat.{min-eq_left, min-eq_right}
 use native.Mathlib.Omega.{arith}
 use borrow.Author.Rules.{rules}
-use borrow.Author.Tests.{ne_eqb, lt-ltb, le-ltb, ltb-false, leb-true, leb-false}
-use lib.Dec.{eqb, leb, ltb}
-use lib.ListN.{length, get_or, take, drop, length-drop, drop_of_length-le}
+use borrow.Author.Tests.{ne_eqb, lt-ltb, le-ltb, ltb-false}
+use Rattle.std.proofs.lemmas.List.{take_min, drop_min}
+use Rattle.std.proofs.lemmas.Bool.{or_parts}
+use lib.Dec.{eqb, ltb}
+use lib.ListN.{length, get_or, take, drop, length-drop}
 use lib.Seq.{take_all, take_at, length-take-le}
 use mir.Syntax.{w64}
 use mir.Val.{Fits}
@@ -117,21 +118,10 @@ module _ (bs : List ℕ) (h : Header) (set : ℕ) (figures coins : List ℕ) (p 
         let d : bench_answer bs set figures coins (width * view_count plan (members set)) ≡ (Ok tt) = ap (bench_answer bs set figures coins) (sym room) ∙ c in
         put_as _ _ at e t u (ap (λ (l : List ℕ). run_lines_in plan set (numbers l)) q ∙ lines_passed (length old) c ∙ passed_lines _ plan set (numbers figures) (numbers coins) d) w
 
+-- As it is: answers name this set, since the check leaves their goals open by `using` alone.
 pub ruleset benching_lines = (rules, bench-refused-lines, bench-run-lines)
 
 -- ---- figures and coins
-take_least : (k : ℕ) (l : List ℕ) (b : Bool) → leb k (length l) ≡ b → take (min k (length l)) l ≡ take k l
-take_least k l true e = rw (min-eq_left (leb-true k (length l) e))
-take_least k l false e =
-    let h : length l < k = leb-false k (length l) e in
-    rw (min-eq_right {n = length l} {m = k} (omega arith)) (take_all (length l) l (omega arith) ∙ sym (take_all k l (omega arith)))
-
-drop_least : (k : ℕ) (l : List ℕ) (b : Bool) → leb k (length l) ≡ b → drop (min k (length l)) l ≡ drop k l
-drop_least k l true e = rw (min-eq_left (leb-true k (length l) e))
-drop_least k l false e =
-    let h : length l < k = leb-false k (length l) e in
-    rw (min-eq_right {n = length l} {m = k} (omega arith)) (drop_of_length-le l {i = length l} (omega arith) ∙ sym (drop_of_length-le l {i = k} (omega arith)))
-
 rest_all : (m : ℕ) (l : List ℕ) → take (length l - m) (drop m l) ≡ drop m l
 rest_all m l = take_all (length l - m) (drop m l) (omega (arith, length-drop m l))
 
@@ -148,7 +138,7 @@ pub split_lines : (bs : List ℕ) (set : ℕ) (list : List ℕ) (k m at e : ℕ)
     → Put (answered bs set (take m list) (take (length list - m) (drop m list))) at t u e → Put (listed bs set list) at t u e
 unfolding listed
 split_lines bs set list k m at e t u ek em w =
-    rw (← ek, ← take_least (width * k) list (leb (width * k) (length list)) refl, ← drop_least (width * k) list (leb (width * k) (length list)) refl, ← em, ← rest_all m list) w
+    rw (← ek, ← take_min (width * k) list, ← drop_min (width * k) list, ← em, ← rest_all m list) w
 
 pub ruleset splitting = (rules, front_long, view_long, view_sized, split_lines)
 
@@ -176,9 +166,9 @@ pub width_two : (plan : List ℕ) (b : ℕ) → b ≡ get_or plan 4 0 → (b ≡
 unfolding input_width
 width_two plan b e f = rw (← e, ne_eqb b 3 f)
 
-width-not_four : (plan : List ℕ) → (input_width plan ≡ 4 → ⊥) → 2 ≡ input_width plan
+width_not_four : (plan : List ℕ) → (input_width plan ≡ 4 → ⊥) → 2 ≡ input_width plan
 unfolding input_width
-width-not_four plan = by (eqb (get_or plan 4 0) 3)
+width_not_four plan = by (eqb (get_or plan 4 0) 3)
   where
     by : (b : Bool) → (◌≡◌ {A = ℕ} (cond b 4 2) 4 → ⊥) → ◌≡◌ {A = ℕ} 2 (cond b 4 2)
     by true f = absurd (f refl)
@@ -197,7 +187,7 @@ module _ (plan list : List ℕ) (w : ℕ) (e : w ≡ input_width plan) where
   read_four i x f l q = let z : input_width plan ≡ width = sym e ∙ f in rw z (q ∙ get_or-numbers list i (rw z at l))
 
   pub read-two : (i x : ℕ) → (w ≡ 4 → ⊥) → x ≡ word_at list (2 * i) → x ≡ number_at (input_width plan) list (input_width plan * i)
-  read-two i x f q = rw (← width-not_four plan (λ g. f (e ∙ g))) (q ∙ word_number list (2 * i))
+  read-two i x f q = rw (← width_not_four plan (λ g. f (e ∙ g))) (q ∙ word_number list (2 * i))
 
   pub read_fits : (i : ℕ) → i < length list / input_width plan → length list * 1 < 2 ^ 63 → Fits w64 (2 * i)
   read_fits i l m = record { fits = omega (arith, width_at_least plan list) }
@@ -238,6 +228,7 @@ module _ (plan list : List ℕ) (w : ℕ) (e : w ≡ input_width plan) where
         let long : length (bytes_of (tab f count)) ≡ width * count = length-bytes_of (tab f count) ∙ rw length-tab in
         ap (take (width * count)) (stored-part f count room₀ room i h.is l) ∙ take_at (bytes_of (tab f count)) (drop (width * count) room₀) (width * count) long ∙ rw e
 
+-- As it is: answers name this set, since the check leaves their goals open by `using` alone.
 pub ruleset widening = (rules, width_four, width_two, read_four, read-two, read_fits, widen_few, widen_within, widen_none, widen_next, widened-room, widened)
 
 pub lent_lines : (bs list : List ℕ) (set e : ℕ) (room : List ℕ) (at r : ℕ) (t u : List ℕ) → take e room ≡ lent bs list → Put (listed bs set (take e room)) at t u r → Put (listed bs set (lent bs list)) at t u r
@@ -266,23 +257,19 @@ module _ (bs : List ℕ) where
 pub ruleset unreading = (rules, too_long, too_short, bytes_left)
 
 -- ---- an input's parts
-or-false : (a b : Bool) → (a || b) ≡ false → (a ≡ false) × (b ≡ false)
-or-false true b e = let z : ◌≡◌ {A = ℕ} 0 1 = cc in absurd (omega arith)
-or-false false b e = (refl, e)
-
 module _ (bs : List ℕ) (b : Bool) (eb : b ≡ unreadable bs) (f : b ≡ false) (w : ℕ) (ew : w ≡ word_at bs 0) where
   pub parts_long : 2 + w + 2 ≤ length bs
   unfolding unreadable
   parts_long =
       let short : Bool = ltb (length bs) (4 + word_at bs 0) in
       let left : Bool = not (eqb (length (list_part bs) % input_width (plan_part bs)) 0) in
-      let o : short ≡ false = (or-false short left (or-false (ltb 32768 (length bs)) (short || left) (sym eb ∙ f)).1).0 in
+      let o : short ≡ false = (or_parts short left (or_parts (ltb 32768 (length bs)) (short || left) (sym eb ∙ f)).1).0 in
       omega (arith, ew, ltb-false (length bs) (4 + word_at bs 0) o)
 
   pub parts_few : (at : ℕ) → length (take (length bs - at) (drop at bs)) ≤ 32768
   unfolding unreadable
   parts_few at =
-      let few : length bs ≤ 32768 = ltb-false 32768 (length bs) (or-false (ltb 32768 (length bs)) _ (sym eb ∙ f)).0 in
+      let few : length bs ≤ 32768 = ltb-false 32768 (length bs) (or_parts (ltb 32768 (length bs)) _ (sym eb ∙ f)).0 in
       rw (rest_all at bs, length-drop) (omega arith)
 
   whole : report bs ≡ listed (plan_part bs) (set_part bs) (lent (plan_part bs) (list_part bs))

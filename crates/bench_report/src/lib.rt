@@ -33,11 +33,11 @@ fn put_benched(
     }
 }
 
-// As it is: text, plan, set and list go through four steps of which each adds one thing; a struct would be made for them and taken apart in the last.
 // The text of a bench run of a plan that passes: the list's first numbers, as many as the plan has input gates, are the figures.
+// As it is: text, plan, set and list go from `put_answer`, which reads the plan, through `put_planned`, which makes room for the view, to here, where
+// the list is split; a struct of them would be made in the first and taken apart here.
 #[tactic(auto, using(crate::proofs::Answering::splitting))]
-fn put_listed(text: &mut Text, plan: &PlanFile, set: u16, list: &[u8], view: &mut [u8])
-    requires in_bounds { 2097152 ≤ length view.old }
+fn put_listed(text: &mut Text, plan: &PlanFile, set: u16, list: &[u8], view: &mut [u8; 2097152])
     ensures same { text.new.room.ghost_name ≡ text.old.room.ghost_name }
     ensures put { Put (listed plan.now.bytes.now set list.now) text.old.written text.old.room.now text.new.room.now text.new.written }
 {
@@ -46,22 +46,14 @@ fn put_listed(text: &mut Text, plan: &PlanFile, set: u16, list: &[u8], view: &mu
     put_benched(text, plan, set, &list[..m], &list[m..], &mut view[..size]);
 }
 
-// The same, with room for the view of all 16 parties that a set can name.
-#[tactic(auto, using(crate::proofs::Answering::splitting))]
-fn put_in(text: &mut Text, plan: &PlanFile, set: u16, list: &[u8], view: &mut [u8; 2097152])
-    ensures same { text.new.room.ghost_name ≡ text.old.room.ghost_name }
-    ensures put { Put (listed plan.now.bytes.now set list.now) text.old.written text.old.room.now text.new.room.now text.new.written }
-{
-    put_listed(text, plan, set, list, view);
-}
-
-// As it is: the view's bytes stand in a function of their own, since a proof of more over so long an array goes too deep.
+// The same, with room for the view.
+// As it is: the room stands in a function that does nothing else with it, since the check goes too deep in a longer one over so long an array.
 fn put_planned(text: &mut Text, plan: &PlanFile, set: u16, list: &[u8])
     ensures same { text.new.room.ghost_name ≡ text.old.room.ghost_name }
     ensures put { Put (listed plan.now.bytes.now set list.now) text.old.written text.old.room.now text.new.room.now text.new.written }
 {
     let mut view = [0u8; 2097152];
-    put_in(text, plan, set, list, &mut view);
+    put_listed(text, plan, set, list, &mut view);
 }
 
 // The text of a bench run.
@@ -128,6 +120,7 @@ fn put_numbers(text: &mut Text, plan: &[u8], set: u16, list: &[u8])
 // ---- the input
 
 // Whether an input is over 32,768 bytes, too short for its plan and set, or has bytes left over after its last number.
+// As it is: the answer is `unreadable`, a definition; an Option of the plan, set and list would need a contract that states each of them too.
 #[tactic(auto, using(crate::proofs::Answering::unreading))]
 fn is_unreadable(input: &[u8]) -> bool
     ensures { result ≡ unreadable input.now }

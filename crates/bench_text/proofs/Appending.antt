@@ -11,6 +11,8 @@ use Rattle.std.proofs.lemmas.Bool.{cases_lt}
 use Prim.Native.Nat.{min, ℕ, zero, suc, ◌+◌, ◌-◌, ◌/◌, ◌%◌, ◌^◌, ◌<◌, ◌≤◌}
 use native.Mathlib.Numerals.{add-one}
 use native.Mathlib.Nat.{pow-suc, min-le_left, min-le_right, min-eq_left, min-eq_right}
+use Rattle.std.proofs.Math.Nat.{min_comm}
+use Rattle.std.proofs.lemmas.List.{take_min}
 use native.Mathlib.Omega.{arith}
 use borrow.Author.Rules.{rules}
 use borrow.Author.Tests.{lt-ltb, le-ltb, ltb-false}
@@ -95,12 +97,8 @@ module _ (whole : List ℕ) (at : ℕ) (old new : List ℕ) (next : ℕ) (left :
       }
 
 -- ---- a word, of which as much is copied as there is room for
-copied-part : (word : List ℕ) (n m : ℕ) → n ≡ min (length word) m → take n word ≡ take m word
-copied-part word n m e =
-    ⊎_elim
-    (λ l. let f : n ≡ length word = e ∙ min-eq_left (omega arith) in rw f (take_all (length word) word (omega arith) ∙ sym (take_all m word (omega arith))))
-    (λ l. let f : n ≡ m = e ∙ min-eq_right l in rw f)
-    (cases_lt (length word) m)
+copied_part : (word : List ℕ) (n m : ℕ) → n ≡ min (length word) m → take n word ≡ take m word
+copied_part word n m e = ap (λ (k : ℕ). take k word) (e ∙ min_comm (length word) m) ∙ take_min m word
 
 pub put_copied : (word : List ℕ) (at n : ℕ) (old ys : List ℕ) → at ≤ length old → n ≡ min (length word) (length old - at) → ys ≡ take n word
     → Put word at old (put_mid at (at + n - at) old ys) (at + n)
@@ -114,7 +112,7 @@ put_copied word at n old ys h e f =
       long = same_len_mid at (at + n - at) old ys (omega (arith, length-take-le (at + n - at) (drop at old) (omega (arith, length-drop at old))));
       room = omega arith;
       text =
-          take-put_mid at (at + n - at) old ys (at + n) (omega arith) h ∙ ap (λ (l : List ℕ). take at old ++ l) (f ∙ copied-part word n (length old - at) e)
+          take-put_mid at (at + n - at) old ys (at + n) (omega arith) h ∙ ap (λ (l : List ℕ). take at old ++ l) (f ∙ copied_part word n (length old - at) e)
           ∙ sym (take-append-add (take at old) word (length old - at)) ∙ ap (λ (k : ℕ). take k (take at old ++ word)) rest;
     }
 

@@ -15,6 +15,8 @@ pub struct Text<'a> {
     pub ghost inside: { written ≤ length room.now },
 }
 
+// As it is: that the buffer is the same one is a clause of each method and function that takes a text, and no ghost field, since it is of the text before
+// and after a call, not of one text.
 impl Text<'_> {
     // One byte.
     #[tactic(auto, using(crate::proofs::Appending::appending))]
@@ -30,7 +32,7 @@ impl Text<'_> {
 
     // The bytes of a word.
     #[tactic(auto, using(crate::proofs::Appending::wording))]
-    fn put_word(&mut self, word: &[u8])
+    fn put_bytes(&mut self, word: &[u8])
         ensures same { self.new.room.ghost_name ≡ self.old.room.ghost_name }
         ensures put { Put word.now self.old.written self.old.room.now self.new.room.now self.new.written }
     {
@@ -40,6 +42,7 @@ impl Text<'_> {
     }
 
     // A number in decimal.
+    // As it is: no `write!`, whose contract says which bytes stand only where all had room; here a number is cut where the room ends.
     #[tactic(auto, using(crate::proofs::Appending::digiting))]
     fn put_decimal(&mut self, x: u64)
         ensures same { self.new.room.ghost_name ≡ self.old.room.ghost_name }
@@ -62,6 +65,7 @@ impl Text<'_> {
     }
 
     // So many numbers of a list, from one place on.
+    // As it is: a place and a count, and no slice: the list may end before them, so the caller of a slice would cut it first, as the loop does here.
     #[tactic(auto, using(crate::proofs::Appending::fielding))]
     fn put_fields(&mut self, list: &[u8], from: usize, count: usize)
         requires from_bound { from ≤ 2000000 }
@@ -99,12 +103,13 @@ impl Text<'_> {
         ensures same { self.new.room.ghost_name ≡ self.old.room.ghost_name }
         ensures put { Put (line word.now xs.now) self.old.written self.old.room.now self.new.room.now self.new.written }
     {
-        self.put_word(word);
+        self.put_bytes(word);
         self.put_each(xs);
         self.end_line();
     }
 
     // A line of a word, a number and so many numbers of a list, from one place on.
+    // As it is: a slice of the list would ask that it is long enough, and what is printed of a view asks nothing of its length.
     #[tactic(auto, using(crate::proofs::Appending::lining))]
     pub fn put_list_line(&mut self, word: &[u8], first: u64, list: &[u8], from: usize, count: usize)
         requires from_bound { from ≤ 2000000 }
@@ -112,7 +117,7 @@ impl Text<'_> {
         ensures same { self.new.room.ghost_name ≡ self.old.room.ghost_name }
         ensures put { Put (line word.now (first ∷ take count (drop from (numbers list.now)))) self.old.written self.old.room.now self.new.room.now self.new.written }
     {
-        self.put_word(word);
+        self.put_bytes(word);
         self.put_field(first);
         self.put_fields(list, from, count);
         self.end_line();

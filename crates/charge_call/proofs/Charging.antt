@@ -34,9 +34,10 @@ use Rattle.plan.proofs.Valid.{valid, plain}
 use Rattle.plan_counts.specs.declared.Tally.{Tally}
 use Rattle.plan_counts.specs.Counts.{Tallied}
 use Rattle.seat_messages.specs.Calls.{unless_refused}
+use Rattle.charge_parts.specs.declared.Portion.{Portion}
 use Rattle.charge_laws.specs.Charges.{elements_by, elements, bill_for, bill_of, charge_of, parts_of}
 use Rattle.charge_laws.proofs.Elements.{elements-tab, elements-long, plain-elements, elements-sent}
-use Rattle.charge_laws.proofs.Parts.{bill_fits, parts_long}
+use Rattle.charge_laws.proofs.Parts.{bill_fits}
 use Rattle.charge_call.specs.ChargeCalls.{price_checks, charge_answer, charged_of, charge_after}
 
 -- ---- what a party sends
@@ -44,11 +45,11 @@ scaled : (n m : ℕ) (b : Bool) → n * cond b m 0 ≡ m * cond b n 0
 scaled n m true = mul_comm n m
 scaled n m false = omega (arith, mul-zero n, mul-zero m)
 
-pub dealt-some : (m i d : ℕ) → i ≤ d → m ≡ cond (leb i d) m 0
-dealt-some m i d l = rw (le-leb i d l)
+pub dealt_some : (m i d : ℕ) → i ≤ d → m ≡ cond (leb i d) m 0
+dealt_some m i d l = rw (le-leb i d l)
 
-pub dealt-none : (m i d : ℕ) → d < i → 0 ≡ cond (leb i d) m 0
-dealt-none m i d l = rw (lt-leb i d l)
+pub dealt_none : (m i d : ℕ) → d < i → 0 ≡ cond (leb i d) m 0
+dealt_none m i d l = rw (lt-leb i d l)
 
 -- the first i of n numbers stand
 pub record Listed (bs : List ℕ) (n : ℕ) (d : List ℕ) (i : ℕ) : Type 0 where
@@ -62,17 +63,17 @@ module _ (bs : List ℕ) (h : Header) (p : Planned bs h) where
     few : (d : ℕ) → d ≤ c.multiplies → h.n * (c.own + d) ≤ 30720
     few d l = omega (arith, mul-le-mul {n₁ = h.n} {m₁ = c.own + d} {n₂ = 15} {m₂ = 2048} p.n-high (omega (arith, e.few, e.own_few)))
 
-    pub dealings-fit : (d : ℕ) → d ≤ c.multiplies → Fits w64 (c.own + d)
-    dealings-fit d l = record { fits = omega (arith, e.few, e.own_few) }
+    pub dealings_fit : (d : ℕ) → d ≤ c.multiplies → Fits w64 (c.own + d)
+    dealings_fit d l = record { fits = omega (arith, e.few, e.own_few) }
 
-    pub dealt-fits : (d : ℕ) → d ≤ c.multiplies → Fits w64 (h.n * (c.own + d))
-    dealt-fits d l = record { fits = omega (arith, few d l) }
+    pub dealt_fits : (d : ℕ) → d ≤ c.multiplies → Fits w64 (h.n * (c.own + d))
+    dealt_fits d l = record { fits = omega (arith, few d l) }
 
-    pub element-fits : (d : ℕ) → d ≤ c.multiplies → Fits w64 (h.n * (c.own + d) + h.outs)
-    element-fits d l = record { fits = omega (arith, few d l, p.outs-high) }
+    pub element_fits : (d : ℕ) → d ≤ c.multiplies → Fits w64 (h.n * (c.own + d) + h.outs)
+    element_fits d l = record { fits = omega (arith, few d l, p.outs-high) }
 
-    pub element-is : (d : ℕ) → d ≡ cond (leb i (h.t + h.t + 1)) c.multiplies 0 → h.n * (c.own + d) + h.outs ≡ elements_by (plan_of bs) i
-    element-is d q =
+    pub element_is : (d : ℕ) → d ≡ cond (leb i (h.t + h.t + 1)) c.multiplies 0 → h.n * (c.own + d) + h.outs ≡ elements_by (plan_of bs) i
+    element_is d q =
         sym
         (plain-elements (plan_of bs) (plain bs p.passes) i
         ∙ rw (plan_n p, plan_outs p, plan_dealers p, ← e.own, ← e.multiplies, q)
@@ -82,8 +83,8 @@ module _ (bs : List ℕ) (h : Header) (p : Planned bs h) where
   pub element_next : (i x : ℕ) → x ≡ elements_by (plan_of bs) (i + 1) → x ≡ elements_by (plan_of bs) (suc i)
   element_next i x e = rw add-one at e
 
-  pub listed-none : (d : List ℕ) → length d ≡ h.n → Listed bs h.n d 0
-  listed-none d e = record { within = omega arith; long = e; front = fill_none (λ k. elements_by (plan_of bs) (suc k)) d }
+  pub listed_none : (d : List ℕ) → length d ≡ h.n → Listed bs h.n d 0
+  listed_none d e = record { within = omega arith; long = e; front = fill_none (λ k. elements_by (plan_of bs) (suc k)) d }
 
   module _ (d : List ℕ) (i : ℕ) (f : Listed bs h.n d i) where
     pub listed_next : (x : ℕ) → i < length d → x ≡ elements_by (plan_of bs) (i + 1) → Listed bs h.n (set d i x) (i + 1)
@@ -93,8 +94,8 @@ module _ (bs : List ℕ) (h : Header) (p : Planned bs h) where
       front = fill_next (λ k. elements_by (plan_of bs) (suc k)) i d x l (element_next i x e) f.front;
     }
 
-    pub listed-long : length d ≡ h.n
-    listed-long = f.long
+    pub listed_long : length d ≡ h.n
+    listed_long = f.long
 
     pub listed : h.n ≤ i → d ≡ elements (plan_of bs)
     listed l =
@@ -103,15 +104,15 @@ module _ (bs : List ℕ) (h : Header) (p : Planned bs h) where
 
   -- ---- the whole
   module _ (es : List ℕ) (ee : es ≡ elements (plan_of bs)) (sent : ℕ) (is : sent ≡ sent_count (plan_of bs)) where
-    pub sent-sum : sent ≡ total es
-    sent-sum = is ∙ sym (ap total ee ∙ elements-sent (plan_of bs) (valid bs p.passes))
+    pub sent_sum : sent ≡ total es
+    sent_sum = is ∙ sym (ap total ee ∙ elements-sent (plan_of bs) (valid bs p.passes))
 
-    pub parts-room : (parts : List ℕ) → length parts ≡ h.n → length parts ≡ length es
-    parts-room parts e = e ∙ sym (ap length ee ∙ elements-long (plan_of bs) ∙ plan_n p)
+    pub shares_room : (portions : List Portion) → length portions ≡ h.n → length portions ≡ length es
+    shares_room portions e = e ∙ sym (ap length ee ∙ elements-long (plan_of bs) ∙ plan_n p)
 
-  pub sent-some : (sent : ℕ) → sent ≡ sent_count (plan_of bs) → 1 ≤ sent
+  pub sent_some : (sent : ℕ) → sent ≡ sent_count (plan_of bs) → 1 ≤ sent
   unfolding sent_count
-  sent-some sent e =
+  sent_some sent e =
       let n : ℕ = party_count (plan_of bs) in
       let k : ℕ =
       kind_count (plan_of bs) 1 + kind_count (plan_of bs) 5 * per_multiply (plan_of bs) (plan_of bs).rule + kind_count (plan_of bs) 6 * n
@@ -120,26 +121,24 @@ module _ (bs : List ℕ) (h : Header) (p : Planned bs h) where
       rw e (omega (arith, mul-le-mul {n₁ = 1} {m₁ = 1} {n₂ = n} {m₂ = k} (omega (arith, plan_n p, p.n_low)) l))
 
   module _ (price bill sent : ℕ) (is : sent ≡ sent_count (plan_of bs)) (eb : bill ≡ bill_for sent price) where
-    pub bill-is : bill ≡ bill_of (plan_of bs) price
+    pub bill_is : bill ≡ bill_of (plan_of bs) price
     unfolding bill_of
-    bill-is = eb ∙ ap (λ (s : ℕ). bill_for s price) is
+    bill_is = eb ∙ ap (λ (s : ℕ). bill_for s price) is
 
     module _ (es parts : List ℕ) (ee : es ≡ elements (plan_of bs)) (ep : parts ≡ parts_of bill es) where
-      charge-is : parts ≡ charge_of (plan_of bs) price
+      charge_is : parts ≡ charge_of (plan_of bs) price
       unfolding charge_of
-      charge-is = ep ∙ ap₂ parts_of bill-is ee
-
-      pub bytes-room : (out : List ℕ) → length out ≡ width * h.n → length out ≡ width * length parts
-      bytes-room out e =
-          let sum : 1 ≤ total es = rw (← sent-sum es ee sent is) (sent-some sent is) in
-          e ∙ ap (λ (n : ℕ). width * n) (sym (ap length ep ∙ parts_long bill es sum ∙ ap length ee ∙ elements-long (plan_of bs) ∙ plan_n p))
+      charge_is = ep ∙ ap₂ parts_of bill_is ee
 
       pub bytes_are : (new : List ℕ) → new ≡ bytes_of parts → new ≡ bytes_of (charge_of (plan_of bs) price)
-      bytes_are new e = e ∙ ap bytes_of charge-is
+      bytes_are new e = e ∙ ap bytes_of charge_is
 
   -- ---- room for 15 parties
   pub room_part : (room : List ℕ) → length room ≡ 15 → length (take h.n room) ≡ h.n
   room_part room e = length-take-le h.n room (omega (arith, p.n-high))
+
+  pub room_shares : (room : List Portion) → length room ≡ 15 → length (take h.n room) ≡ h.n
+  room_shares room e = length-take-le h.n room (omega (arith, p.n-high))
 
 -- ---- the bill
 module _ (sent price : ℕ) (s : sent ≤ 231360) (q : price ≤ 1000000) where
@@ -160,16 +159,17 @@ module _ (sent price : ℕ) (s : sent ≤ 231360) (q : price ≤ 1000000) where
   unfolding bill_for
   cents_below = bill_fits sent price s q
 
-pub ruleset listing = (rules, dealt-some, dealt-none, dealings-fit, dealt-fits, element-fits, element-is, listed-none, listed_next, listed-long, listed, sent-sum, parts-room, sent-some, bill-is, bytes-room, bytes_are, room_part, cents_fit, cents_up_fit, cents_are, cents_below)
+-- As it is: answers name this set, since the check leaves their goals open by `using` alone.
+pub ruleset listing = (rules, dealt_some, dealt_none, dealings_fit, dealt_fits, element_fits, element_is, listed_none, listed_next, listed_long, listed, sent_sum, shares_room, sent_some, bill_is, bytes_are, room_part, room_shares, cents_fit, cents_up_fit, cents_are, cents_below)
 
 -- ---- the call
 kept : (c : Checked) (r : Refusal) (new old : List ℕ) → c ≡ Err r → old ≡ unless_refused c new old
 unfolding unless_refused
 kept c r new old e = rw e
 
-refused-is : (c : Checked) (r : Refusal) (bill : ℕ) → c ≡ Err r → Err r ≡ charged_of c bill
+refused_is : (c : Checked) (r : Refusal) (bill : ℕ) → c ≡ Err r → Err r ≡ charged_of c bill
 unfolding charged_of
-refused-is c r bill e = rw e
+refused_is c r bill e = rw e
 
 module _ (bs : List ℕ) (price : ℕ) (out : List ℕ) where
   answer_parts : charge_answer bs price (length out) ≡ and_then (plan_check bs) (first_of (price_checks bs price (length out)))
@@ -180,12 +180,12 @@ module _ (bs : List ℕ) (price : ℕ) (out : List ℕ) where
     turned : charge_answer bs price (length out) ≡ Err q
     turned = answer_parts ∙ and_then_refused (plan_check bs) _ q e
 
-    pub charge-no-plan : (b : Result ℕ Refusal) → b ≡ Err q → b ≡ charged_of (charge_answer bs price (length out)) (bill_of (plan_of bs) price)
-    charge-no-plan b eb = eb ∙ refused-is (charge_answer bs price (length out)) q (bill_of (plan_of bs) price) turned
+    pub charge_no_plan : (b : Result ℕ Refusal) → b ≡ Err q → b ≡ charged_of (charge_answer bs price (length out)) (bill_of (plan_of bs) price)
+    charge_no_plan b eb = eb ∙ refused_is (charge_answer bs price (length out)) q (bill_of (plan_of bs) price) turned
 
-    pub kept-no-plan : out ≡ charge_after bs price out
+    pub kept_no_plan : out ≡ charge_after bs price out
     unfolding charge_after
-    kept-no-plan = kept (charge_answer bs price (length out)) q _ out turned
+    kept_no_plan = kept (charge_answer bs price (length out)) q _ out turned
 
   module _ (h : Header) (planned : Planned bs h) where
     pub room_fits : Fits w64 (width * h.n)
@@ -199,17 +199,17 @@ module _ (bs : List ℕ) (price : ℕ) (out : List ℕ) where
       unfolding price_checks first_of and_then need
       dear = past_plan ∙ rw (lt-leb price 1000000 l)
 
-      pub charge-dear : Err refusal.Price ≡ charged_of (charge_answer bs price (length out)) (bill_of (plan_of bs) price)
-      charge-dear = refused-is (charge_answer bs price (length out)) refusal.Price (bill_of (plan_of bs) price) dear
+      pub charge_dear : Err refusal.Price ≡ charged_of (charge_answer bs price (length out)) (bill_of (plan_of bs) price)
+      charge_dear = refused_is (charge_answer bs price (length out)) refusal.Price (bill_of (plan_of bs) price) dear
 
-      pub kept-dear : out ≡ charge_after bs price out
+      pub kept_dear : out ≡ charge_after bs price out
       unfolding charge_after
-      kept-dear = kept (charge_answer bs price (length out)) refusal.Price _ out dear
+      kept_dear = kept (charge_answer bs price (length out)) refusal.Price _ out dear
 
     module _ (l : price ≤ 1000000) where
-      past-price : charge_answer bs price (length out) ≡ need refusal.BufferLength (eqb (length out) (width * h.n))
+      past_price : charge_answer bs price (length out) ≡ need refusal.BufferLength (eqb (length out) (width * h.n))
       unfolding price_checks first_of and_then need
-      past-price = past_plan ∙ rw (le-leb price 1000000 l, plan_n planned) (by (eqb (length out) (width * h.n)))
+      past_price = past_plan ∙ rw (le-leb price 1000000 l, plan_n planned) (by (eqb (length out) (width * h.n)))
         where
           by : (t : Bool) → and_then (cond t (Ok tt) (Err refusal.BufferLength)) (Ok tt) ≡ cond t (Ok tt) (Err refusal.BufferLength)
           by true = refl
@@ -218,26 +218,27 @@ module _ (bs : List ℕ) (price : ℕ) (out : List ℕ) where
       module _ (ne : length out ≡ width * h.n → ⊥) where
         short : charge_answer bs price (length out) ≡ Err refusal.BufferLength
         unfolding need
-        short = past-price ∙ rw (ne_eqb (length out) (width * h.n) ne)
+        short = past_price ∙ rw (ne_eqb (length out) (width * h.n) ne)
 
-        pub charge-short : Err refusal.BufferLength ≡ charged_of (charge_answer bs price (length out)) (bill_of (plan_of bs) price)
-        charge-short = refused-is (charge_answer bs price (length out)) refusal.BufferLength (bill_of (plan_of bs) price) short
+        pub charge_short : Err refusal.BufferLength ≡ charged_of (charge_answer bs price (length out)) (bill_of (plan_of bs) price)
+        charge_short = refused_is (charge_answer bs price (length out)) refusal.BufferLength (bill_of (plan_of bs) price) short
 
-        pub kept-short : out ≡ charge_after bs price out
+        pub kept_short : out ≡ charge_after bs price out
         unfolding charge_after
-        kept-short = kept (charge_answer bs price (length out)) refusal.BufferLength _ out short
+        kept_short = kept (charge_answer bs price (length out)) refusal.BufferLength _ out short
 
       module _ (eq : length out ≡ width * h.n) where
         passed : charge_answer bs price (length out) ≡ (Ok tt)
         unfolding need
-        passed = past-price ∙ rw (eq-eqb (length out) (width * h.n) eq)
+        passed = past_price ∙ rw (eq-eqb (length out) (width * h.n) eq)
 
-        pub charge-billed : (bill : ℕ) → bill ≡ bill_of (plan_of bs) price → Ok bill ≡ charged_of (charge_answer bs price (length out)) (bill_of (plan_of bs) price)
+        pub charge_billed : (bill : ℕ) → bill ≡ bill_of (plan_of bs) price → Ok bill ≡ charged_of (charge_answer bs price (length out)) (bill_of (plan_of bs) price)
         unfolding charged_of
-        charge-billed bill e = rw (passed, e)
+        charge_billed bill e = rw (passed, e)
 
-        pub charge-written : (new : List ℕ) → new ≡ bytes_of (charge_of (plan_of bs) price) → new ≡ charge_after bs price out
+        pub charge_written : (new : List ℕ) → new ≡ bytes_of (charge_of (plan_of bs) price) → new ≡ charge_after bs price out
         unfolding charge_after unless_refused
-        charge-written new e = rw passed e
+        charge_written new e = rw passed e
 
-pub ruleset charging = (rules, charge-no-plan, kept-no-plan, room_fits, charge-dear, kept-dear, charge-short, kept-short, charge-billed, charge-written)
+-- As it is: answers name this set, since the check leaves their goals open by `using` alone.
+pub ruleset charging = (rules, charge_no_plan, kept_no_plan, room_fits, charge_dear, kept_dear, charge_short, kept_short, charge_billed, charge_written)

@@ -7,6 +7,7 @@ ghost use Rattle.plan.specs.File.{plan_of};
 ghost use Rattle.charge_laws.specs.Charges.{elements_by, elements, bill_for, bill_of, charge_of};
 ghost use Rattle.charge_call.specs.ChargeCalls.{charge_answer, charged_of, charge_after};
 
+use charge_parts::Portion;
 use plan::{PlanFile, Refusal};
 
 // A dealing at each of so many multiply gates if party i is one of the dealers.
@@ -32,8 +33,8 @@ fn put_elements(plan: &PlanFile, es: &mut [u64])
     requires es_len { length es.old ≡ plan.now.header.n }
     ensures { es.new ≡ elements (plan_of plan.now.bytes.now) }
 {
-    for i in 0..es.len() {
-        es[i] = elements_by(plan, i + 1);
+    for (i, e) in es.iter_mut().enumerate() {
+        *e = elements_by(plan, i + 1);
     }
 }
 
@@ -46,25 +47,26 @@ fn bill_for(sent: u64, price: u32) -> u64
     (sent * price as u64 + 999) / 1000
 }
 
-// Writes the parts and answers the bill; the three lists are room to work in, a number for each party.
+// Writes the parts and answers the bill; the two lists are room to work in, an entry for each party.
+// As it is: plan, price and buffer are three parameters, here and in write_all and charge_on. A struct of plan and price would be made in charge_on, which first
+// knows that the price is in bounds, for two calls, and taken apart in the second, where the bill alone is of the price.
 #[tactic(auto, using(crate::proofs::Charging::listing))]
 fn write_charge(
     plan: &PlanFile,
     price: u32,
     es: &mut [u64],
-    parts: &mut [u64],
-    rests: &mut [u64],
+    portions: &mut [Portion],
     out: &mut [u8],
 ) -> u64
-    requires fact { record { price : price ≤ 1000000; es : length es.old ≡ plan.now.header.n; parts : length parts.old ≡ plan.now.header.n; rests : length rests.old ≡ plan.now.header.n; out : length out.old ≡ width * plan.now.header.n } }
+    requires fact { record { price : price ≤ 1000000; es : length es.old ≡ plan.now.header.n; portions : length portions.old ≡ plan.now.header.n; out : length out.old ≡ width * plan.now.header.n } }
     ensures bill { result ≡ bill_of (plan_of plan.now.bytes.now) price }
     ensures out { out.new ≡ bytes_of (charge_of (plan_of plan.now.bytes.now) price) }
 {
     put_elements(plan, es);
     let sent = plan_sizes::sent_count(plan) as u64;
     let bill = bill_for(sent, price);
-    charge_parts::share(bill, sent, es, parts, rests);
-    charge_parts::put_parts(parts, out);
+    charge_parts::share(bill, sent, es, portions);
+    charge_parts::put_parts(portions, out);
     bill
 }
 
@@ -76,16 +78,8 @@ fn write_all(plan: &PlanFile, price: u32, out: &mut [u8]) -> u64
 {
     let n = plan.header.n;
     let mut es = [0u64; 15];
-    let mut parts = [0u64; 15];
-    let mut rests = [0u64; 15];
-    write_charge(
-        plan,
-        price,
-        &mut es[0..n],
-        &mut parts[0..n],
-        &mut rests[0..n],
-        out,
-    )
+    let mut portions = [Portion { part: 0, rest: 0 }; 15];
+    write_charge(plan, price, &mut es[0..n], &mut portions[0..n], out)
 }
 
 // The charge for a run of a plan that passes: refusals 31 and 19.
@@ -104,7 +98,7 @@ fn charge_on(plan: &PlanFile, price: u32, out: &mut [u8]) -> Result<u64, Refusal
 }
 
 // The charge for a run of a plan at a price for 1,000 elements: writes the list of parts by party and answers the bill in cents; or answers
-// the first of refusals 1 to 8, 31 and 19 that falls on it, and writes nothing.
+// the first of refusals 1 to 8, 25, 26, 31 and 19 that falls on it, and writes nothing.
 #[tactic(auto, using(crate::proofs::Charging::charging))]
 pub fn charge(bytes: &[u8], price: u32, out: &mut [u8]) -> Result<u64, Refusal>
     ensures answer { result ≡ charged_of (charge_answer bytes.now price (length out.old)) (bill_of (plan_of bytes.now) price) }

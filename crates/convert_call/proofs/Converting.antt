@@ -131,6 +131,7 @@ module _ (bs : List ℕ) (h : Header) (p : Planned bs h) where
     pub points-done : at ≡ out_start 3 h.gates h.outs → h.n ≤ i → s ≡ written s₀ (out_start 3 h.gates h.outs) (points_bytes 3 (plan_of bs).points)
     points-done ea l = rw (← ea) (points_end 3 at (plan_of bs).points s₀ i s d (rw points_long l))
 
+-- As it is: answers name this set, since the check leaves their goals open by `using` alone.
 pub ruleset putting = (rules, size_is, gates_begin, gates_next, gates_done, gates_same, party_small, outs_begin, outs_next, outs_done, outs_same, point_put, points_begin, point_next, points-done, points_same)
 
 -- ---- the file
@@ -147,6 +148,7 @@ module _ (bs : List ℕ) (h : Header) (p : Planned bs h) (s s1 s2 s3 s4 : List �
       file_put 3 (plan_of bs) s s1 s2 s3 s4 (rw (plan_n p, plan_t p, plan_p p, plan_gates p, plan_outs p) a) b (rw (plan_gates p) c) (rw (plan_gates p, plan_outs p) d)
       ∙ written-whole s (file_as 3 (plan_of bs)) (sym long)
 
+-- As it is: answers name this set, since the check leaves their goals open by `using` alone.
 pub ruleset filing = (rules, third_fits, file-whole)
 
 -- ---- the call

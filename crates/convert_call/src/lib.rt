@@ -28,7 +28,8 @@ pub fn read_old(bytes: &[u8]) -> Result<PlanFile<'_>, Refusal>
     if is_third(bytes) {
         return Err(Refusal::Version);
     }
-    // As it is: a plan that has a name is known to pass, and the result of a last call is not.
+    // As it is: `?` and `Ok`. The call alone was tried: that the plan passes is a ghost field of it, and of a plan inside a `Result` no search found it,
+    // nor with the type's fact of the call's result.
     let plan = plan_reading::read(bytes)?;
     Ok(plan)
 }
@@ -40,6 +41,8 @@ pub fn converted_size(plan: &PlanFile) -> usize
     plan_file::file_size(3, plan.header.n, plan.header.gates, plan.header.outs)
 }
 
+// As it is: three loops, over gates, outs and points. One loop that takes a closure to write the row of an index would be no plainer: each closure would
+// state where its row goes and what stands there, which the loop's contract says in each function.
 fn put_gates(plan: &PlanFile, out: &mut [u8])
     ensures { out.new ≡ written out.old (place_in 3 0) (gates_bytes 3 (plan_of plan.now.bytes.now).gates) }
 {

@@ -5,11 +5,11 @@
 --     calling         the call
 -- Assumes nothing.
 use Rattle.std.proofs.Common.{Ok, Err}
-use Prim.Native.Nat.{ℕ, suc, ◌+◌, ◌*◌, ◌/◌, ◌^◌, ◌<◌, ◌≤◌}
+use Prim.Native.Nat.{ℕ, ◌+◌, ◌*◌, ◌/◌, ◌%◌, ◌<◌, ◌≤◌}
 use mathlib.Core.Path.{◌≡◌, refl, sym, ap, ap₂, subst, ◌∙◌}
 use mathlib.Core.Bool.{true}
-use mathlib.Core.List.{List, [], ◌∷◌, ◌++◌, map}
-use native.Mathlib.Nat.{mul_comm, mul_assoc}
+use mathlib.Core.List.{List, [], ◌∷◌, map}
+use native.Mathlib.Nat.{mul_comm, mul_assoc, mul-mod_right, mul-div_cancel_left}
 use native.Mathlib.Omega.{arith}
 use borrow.Author.Rules.{rules}
 use borrow.Author.Tests.{lt-ltb, le-leb}
@@ -17,24 +17,22 @@ use lib.ListN.{length, take, drop, get_or, length-append}
 use lib.Seq.{ext_get_or, get_or_at, length-take-le}
 use mir.Syntax.{w8}
 use mir.Val.{Fits}
-use Rattle.numbers.specs.Tables.{tab}
 use Rattle.numbers.specs.Bytes.{width, limit, numbers, bytes_of, all_below}
 use Rattle.numbers.proofs.Tables.{length-tab, get_or-tab, tab-map}
 use Rattle.numbers.proofs.Below.{all_below_at, all_below_more, append_below}
 use Rattle.numbers.proofs.Bytes.{fits_below, numbers-length, numbers-part, numbers_of_bytes, bytes_of-numbers, length-bytes_of}
-use Rattle.sharing_laws.specs.Sharing.{rows_of}
 use Rattle.sharing_openings.proofs.Rows.{length_rows, row_at}
 use Rattle.plan.specs.declared.Header.{Header}
 use Rattle.plan.specs.Refusals.{Checked}
 use Rattle.plan.specs.declared.Refusal.{Refusal}
 use Rattle.plan.specs.Refusals.{and_then, first_of}
-use Rattle.plan.specs.Plans.{Plan, party_count, coin_count, coin_owners}
+use Rattle.plan.specs.Plans.{coin_count, coin_owners}
 use Rattle.plan.specs.File.{plan_checks, plan_check, plan_of}
 use Rattle.plan.specs.Planned.{Planned}
 use Rattle.plan.proofs.Refusals.{and_then_passed, and_then_refused, first_of-append}
 use Rattle.plan.proofs.Planned.{plan_n, plan_p, plan_gates}
 use Rattle.plan.proofs.Valid.{valid, plain, plain_no_7}
-use Rattle.plan_coalition.specs.Coalitions.{members, set_ok}
+use Rattle.plan_coalition.specs.Coalitions.{members}
 use Rattle.seat_messages.specs.Calls.{unless_refused}
 use Rattle.run_protocol.specs.Rounds.{view, view_count}
 use Rattle.count_rows.specs.Tables.{table, Whole}
@@ -49,7 +47,7 @@ use Rattle.count_laws.proofs.Settings.{setting_long, setting_small, members_with
 use Rattle.count_laws.proofs.Owned.{few_others, few_coins}
 use Rattle.count_fill.specs.Filling.{row_bytes, rows_filled, Lent}
 use Rattle.count_call.specs.Counting.{capped, Countable}
-use Rattle.count_call.proofs.CheckLaws.{few-are, passed-countable, passed-size}
+use Rattle.count_call.proofs.CheckLaws.{passed-countable, passed-size}
 
 -- ---- the rooms
 module _ (bs : List ℕ) (h : Header) (pl : Planned bs h) (set : ℕ) (inputs given : List ℕ) (c : Countable (plan_of bs) set inputs given) where
@@ -83,6 +81,7 @@ module _ (bs : List ℕ) (h : Header) (pl : Planned bs h) (set : ℕ) (inputs gi
       few = w.1;
     }
 
+-- As it is: answers name this set, since the check leaves their goals open by `using` alone.
 pub ruleset rooming = (rules, owners-room, owners_within, owners-long, coins_room, all-lent)
 
 -- ---- the rows as they are filled
@@ -189,39 +188,50 @@ module _ (bs : List ℕ) (h : Header) (pl : Planned bs h) (set : ℕ) (inputs gi
     unfolding capped
     settings-are = er ∙ rw (le-leb (setting_count (plan_of bs) set) 65536 c.few) refl
 
-    pub rows-room : (out : List ℕ) → length out ≡ count_size (plan_of bs) set → length out ≡ width * (w + 1) * r
-    rows-room out l = l ∙ size-rows ∙ ap₂ (λ (a b : ℕ). width * (a + 1) * b) (sym ew) (sym settings-are)
+    rows_long : (out : List ℕ) → length out ≡ count_size (plan_of bs) set → length out ≡ width * (w + 1) * r
+    rows_long out l = l ∙ size-rows ∙ ap₂ (λ (a b : ℕ). width * (a + 1) * b) (sym ew) (sym settings-are)
 
-    pub rows_whole : (out : List ℕ) → out ≡ rows_filled (plan_of bs) set (numbers inputs) (numbers given) r → Whole (w + 1) r (numbers out)
-    rows_whole out e =
-        let same : out ≡ filled = e ∙ ap (rows_filled (plan_of bs) set xs cs) settings-are in
+    pub rows-room : (out : List ℕ) → length out ≡ count_size (plan_of bs) set → length out % (width * (w + 1)) ≡ 0
+    rows-room out l = ap (λ (n : ℕ). n % (width * (w + 1))) (rows_long out l) ∙ mul-mod_right (width * (w + 1)) r
+
+    rows_filled-are : (old out : List ℕ) → length old ≡ count_size (plan_of bs) set → out ≡ rows_filled (plan_of bs) set (numbers inputs) (numbers given) (length old / (width * (w + 1))) → out ≡ filled
+    rows_filled-are old out l e =
+        e ∙ ap (rows_filled (plan_of bs) set xs cs)
+        (ap (λ (n : ℕ). n / (width * (w + 1))) (rows_long old l) ∙ mul-div_cancel_left r {n = width * (w + 1)} (omega arith) ∙ settings-are)
+
+    pub rows_whole : (old out : List ℕ) → length old ≡ count_size (plan_of bs) set → out ≡ rows_filled (plan_of bs) set (numbers inputs) (numbers given) (length old / (width * (w + 1)))
+        → Whole (w + 1) r (numbers out)
+    rows_whole old out lo e =
+        let same : out ≡ filled = rows_filled-are old out lo e in
         let long : length out ≡ width * ((v + 1) * k) = ap length same ∙ filled-long ∙ mul_assoc width (v + 1) k in
         record { whole = subst (λ (n : ℕ). length (numbers out) ≡ n) (ap₂ (λ (a b : ℕ). (a + 1) * b) (sym ew) (sym settings-are)) (omega (arith, numbers-length out)) }
 
     pub narrow : w < limit
     narrow = omega arith
 
-    pub rows_few : (out : List ℕ) → out ≡ rows_filled (plan_of bs) set (numbers inputs) (numbers given) r → counts_of w (table (w + 1) r (numbers out)) < limit
-    rows_few out e =
-        let same : out ≡ filled = e ∙ ap (rows_filled (plan_of bs) set xs cs) settings-are in
+    pub rows_few : (old out : List ℕ) → length old ≡ count_size (plan_of bs) set → out ≡ rows_filled (plan_of bs) set (numbers inputs) (numbers given) (length old / (width * (w + 1)))
+        → counts_of w (table (w + 1) r (numbers out)) < limit
+    rows_few old out lo e =
+        let same : out ≡ filled = rows_filled-are old out lo e in
         let equal : counts_of w (table (w + 1) r (numbers out)) ≡ counts_of v (table (v + 1) k (numbers filled)) =
         ap₂ (λ (a b : ℕ). counts_of a (table (a + 1) b (numbers out))) ew settings-are ∙ ap (λ (d : List ℕ). counts_of v (table (v + 1) k (numbers d))) same in
         omega (arith, equal, counts-few)
 
     pub rows-done :
-        (old out new : List ℕ) → out ≡ rows_filled (plan_of bs) set (numbers inputs) (numbers given) r → length old ≡ count_size (plan_of bs) set → length out ≡ length old → length new ≡ length out
+        (old out new : List ℕ) → out ≡ rows_filled (plan_of bs) set (numbers inputs) (numbers given) (length old / (width * (w + 1))) → length old ≡ count_size (plan_of bs) set → length out ≡ length old → length new ≡ length out
         → ((i : ℕ) → Fits w8 (get_or new i 0))
         → numbers new ≡ merges.listed (w + 1) r (merged w (sorted (table (w + 1) r (numbers out))))
         → new ≡ bytes_of (view_list (plan_of bs) set (numbers inputs) (numbers given))
     unfolding count_size
     rows-done old out new e lo lout ln b x =
-        let same : out ≡ filled = e ∙ ap (rows_filled (plan_of bs) set xs cs) settings-are in
+        let same : out ≡ filled = rows_filled-are old out lo e in
         let is : numbers new ≡ merges.listed (v + 1) k (merged v (sorted (table (v + 1) k (numbers filled)))) =
         x ∙ ap₂ (λ (a s : ℕ). merges.listed (a + 1) s (merged a (sorted (table (a + 1) s (numbers out))))) ew settings-are
         ∙ ap (λ (d : List ℕ). merges.listed (v + 1) k (merged v (sorted (table (v + 1) k (numbers d))))) same in
         sym (bytes_of-numbers (row_width (plan_of bs) set * setting_count (plan_of bs) set) new (ln ∙ lout ∙ lo) (fits_below new b))
         ∙ ap bytes_of (sorted-list new is)
 
+-- As it is: answers name this set, since the check leaves their goals open by `using` alone.
 pub ruleset tallying = (rules, rows-room, rows_whole, narrow, rows_few)
 
 -- ---- the call

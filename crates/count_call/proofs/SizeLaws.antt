@@ -1,19 +1,16 @@
 -- The settings and the sizes of the list.
 --     Gathering, gathering     the loop over the parties: the members' coins
---     Powering, powering       the loop that multiplies, and stops above 65,536
 --     sizing                   the settings, and the numbers of a row
 -- Assumes nothing.
-use Prim.Native.Nat.{ℕ, zero, suc, ◌+◌, ◌-◌, ◌*◌, ◌^◌, ◌<◌, ◌≤◌}
+use Prim.Native.Nat.{min, ℕ, suc, ◌+◌, ◌-◌, ◌*◌, ◌^◌, ◌<◌, ◌≤◌}
 use mathlib.Core.Path.{◌≡◌, refl, sym, ap, ◌∙◌}
 use mathlib.Core.Bool.{Bool, true, false, cond}
-use mathlib.Core.List.{List, [], ◌∷◌, map}
+use mathlib.Core.List.{List, ◌∷◌, map}
 use native.Mathlib.Numerals.{add-one}
-use native.Mathlib.Nat.{mul-le-mul, pow-zero, pow-suc}
 use native.Mathlib.Omega.{arith}
 use borrow.Author.Rules.{rules}
-use borrow.Author.Tests.{le-leb, lt-leb}
+use borrow.Author.Tests.{leb-true, leb-false}
 use lib.Dec.{leb}
-use lib.Pow.{pow-add}
 use mir.Syntax.{w64}
 use mir.Val.{Fits}
 use Rattle.numbers.specs.Tables.{total}
@@ -76,70 +73,31 @@ module _ (bs : List ℕ) (set k i : ℕ) (s : Gathering bs set k i) where
   pub gather_most : k ≤ 229376
   gather_most = omega (arith, s.few, s.high)
 
+-- As it is: answers name this set, since the check leaves their goals open by `using` alone.
 pub ruleset gathering = (rules, gather_none, gather_next, gather_done, gather_most)
 
--- ---- p to the power e
-pub record Powering (p e r i : ℕ) : Type 0 where
-  pub within : i ≤ e
-  pub is : r ≡ p ^ i
-  pub few : r ≤ 65536
-
-pub power-none : (p e : ℕ) → Powering p e 1 0
-power-none p e = record { within = omega arith; is = sym (pow-zero p); few = omega arith }
-
-some-power : (p e : ℕ) → 2 ≤ p → 1 ≤ p ^ e
-some-power p zero l = omega (arith, pow-zero p)
-some-power p (suc e) l = rw pow-suc (mul-le-mul {n₁ = 1} {m₁ = 1} (some-power p e l) (omega arith))
-
-above_power : (p i e : ℕ) → 2 ≤ p → i ≤ e → p ^ i ≤ p ^ e
-above_power p i e l m =
-    let q : i + (e - i) ≡ e = omega arith in
-    let parts : p ^ e ≡ p ^ i * p ^ (e - i) = ap (λ (n : ℕ). p ^ n) (sym q) ∙ pow-add p i (e - i) in
-    omega (arith, mul-le-mul {n₁ = p ^ i} {m₁ = 1} {n₂ = p ^ i} {m₂ = p ^ (e - i)} (omega arith) (some-power p (e - i) l))
-
-module _ (p e r i : ℕ) (s : Powering p e r i) where
-  pub power_fits : p < 2147483648 → Fits w64 (r * p)
-  power_fits l = record { fits = omega (arith, mul-le-mul {n₁ = r} {m₁ = p} {n₂ = 65536} {m₂ = 2147483648} s.few (omega arith)) }
-
-  step_is : r * p ≡ p ^ (i + 1)
-  step_is = ap (λ (x : ℕ). x * p) s.is ∙ sym (ap (λ (n : ℕ). p ^ n) (add-one i) ∙ pow-suc p i)
-
-  pub power_over : i < e → 2 ≤ p → 65536 < r * p → 65537 ≡ capped (p ^ e)
-  unfolding capped
-  power_over l two m = rw (lt-leb (p ^ e) 65536 (omega (arith, step_is, above_power p (i + 1) e two (omega arith)))) refl
-
-  pub power_next : i < e → r * p ≤ 65536 → Powering p e (r * p) (i + 1)
-  power_next l m = record { within = omega arith; is = step_is; few = m }
-
-  pub power_done : e ≤ i → r ≡ capped (p ^ e)
-  unfolding capped
-  power_done l =
-      let q : i ≡ e = omega (arith, s.within) in
-      let is : r ≡ p ^ e = s.is ∙ ap (λ (n : ℕ). p ^ n) q in
-      is ∙ rw (le-leb (p ^ e) 65536 (omega (arith, s.few))) refl
-
-  pub power_few : r ≤ 65537
-  power_few = omega (arith, s.few)
-
-  pub power_narrow : Fits w64 r
-  power_narrow = record { fits = omega (arith, s.few) }
-
-pub ruleset powering = (rules, power-none, power_fits, power_over, power_next, power_done, power_few, power_narrow)
-
 -- ---- the settings
-module _ (bs : List ℕ) (h : Header) (pl : Planned bs h) where
-  pub prime_range : (2 ≤ h.field.p) × (h.field.p < 2147483648)
-  prime_range = (omega (arith, pl.p_low, pl.n_low), pl.p-high)
+capped_by : (x : ℕ) (b : Bool) → leb x 65536 ≡ b → min x 65537 ≡ cond b x 65537
+capped_by x true e = omega (arith, leb-true x 65536 e)
+capped_by x false e = omega (arith, leb-false x 65536 e)
 
+capped_is : (x r : ℕ) → r ≡ min x 65537 → r ≡ capped x
+unfolding capped
+capped_is x r e = e ∙ capped_by x (leb x 65536) refl
+
+module _ (bs : List ℕ) (h : Header) (pl : Planned bs h) where
   module _ (set all own : ℕ) (ea : all ≡ coin_count (plan_of bs)) (eo : own ≡ member_coins (plan_of bs) set) where
     pub own-within : own ≤ all
     own-within = omega (arith, members_others (plan_of bs) set)
 
-    pub settings-are : (r : ℕ) → r ≡ capped (h.field.p ^ (all - own)) → r ≡ capped (setting_count (plan_of bs) set)
+    pub settings-are : (s r : ℕ) → s ≡ min (h.field.p ^ (all - own)) (2 ^ 64 - 1) → r ≡ min s 65537 → r ≡ capped (setting_count (plan_of bs) set)
     unfolding setting_count
-    settings-are r e =
+    settings-are s r es er =
         let others : all - own ≡ other_coins (plan_of bs) set = omega (arith, members_others (plan_of bs) set) in
-        e ∙ ap (λ (n : ℕ). capped (h.field.p ^ n)) others ∙ ap (λ (p : ℕ). capped (p ^ other_coins (plan_of bs) set)) (sym (plan_p pl))
+        capped_is (h.field.p ^ (all - own)) r (omega arith) ∙ ap (λ (n : ℕ). capped (h.field.p ^ n)) others ∙ ap (λ (p : ℕ). capped (p ^ other_coins (plan_of bs) set)) (sym (plan_p pl))
+
+pub settings_fit : (s : ℕ) → Fits w64 (min s 65537)
+settings_fit s = record { fits = omega arith }
 
 pub row_is : (plan : Plan) (set v : ℕ) → v ≡ view_count plan (members set) → v + 1 ≡ row_width plan set
 unfolding row_width
@@ -151,4 +109,5 @@ row_few v l = omega arith
 pub row_fits : (v : ℕ) → v ≤ 524288 → Fits w64 (v + 1)
 row_fits v l = record { fits = omega arith }
 
-pub ruleset sizing = (rules, prime_range, own-within, settings-are, row_is, row_few, row_fits)
+-- As it is: answers name this set, since the check leaves their goals open by `using` alone.
+pub ruleset sizing = (rules, own-within, settings_fit, settings-are, row_is, row_few, row_fits)

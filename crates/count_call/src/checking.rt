@@ -1,5 +1,5 @@
 // Refusals 9 to 13, 30 and 19 of the call that counts views, in their order, and the sizes of its list.
-ghost use Rattle.std.specs.Prelude.{◌≡◌, cond, ◌^◌, ◌<◌, ◌≤◌};
+ghost use Rattle.std.specs.Prelude.{◌≡◌, cond, ◌≤◌};
 ghost use Rattle.plan.specs.Refusals.{first_of};
 ghost use Rattle.plan.specs.Plans.{own_coin_count};
 ghost use Rattle.plan.specs.File.{plan_of};
@@ -35,22 +35,6 @@ pub fn member_coins(plan: &PlanFile, set: u16) -> usize
     k
 }
 
-// p to the power e; 65,537 where that is above 65,536.
-#[tactic(auto, using(crate::proofs::SizeLaws::powering))]
-fn power(p: u64, e: usize) -> usize
-    requires { (2 ≤ p) × (p < 2147483648) }
-    ensures { record { eq : result ≡ capped (p ^ e); le : result ≤ 65537 } }
-{
-    let mut r: u64 = 1;
-    for _ in 0..e {
-        r *= p;
-        if 65536 < r {
-            return 65537;
-        }
-    }
-    r as usize
-}
-
 // The settings of the others' coins; 65,537 where there are more than 65,536.
 #[tactic(auto, using(crate::proofs::SizeLaws::sizing))]
 pub fn settings(plan: &PlanFile, set: u16) -> usize
@@ -58,7 +42,8 @@ pub fn settings(plan: &PlanFile, set: u16) -> usize
 {
     let all = plan_counts::coin_count(plan);
     let own = member_coins(plan, set);
-    power(plan.header.field.p, all - own)
+    let ways = plan.header.field.p.saturating_pow((all - own) as u32);
+    ways.min(65537) as usize
 }
 
 // The numbers of a row: a view's, and its count.
@@ -71,36 +56,42 @@ pub fn row_width(plan: &PlanFile, set: u16) -> usize
 
 // ---- checks
 
-// Refusals 10 to 13, of the members' coins alone.
-#[tactic(auto, using(crate::proofs::CheckLaws::listing))]
-fn check_lists(plan: &PlanFile, set: u16, inputs: &[u8], coins: &[u8]) -> Result<(), Refusal>
-    ensures { result ≡ first_of (member_checks (plan_of plan.now.bytes.now) set inputs.now coins.now) }
-{
-    seat_admission::check_inputs(inputs, plan_counts::input_count(plan), plan.header.field.p)?;
-    seat_admission::check_coins(coins, member_coins(plan, set), plan.header.field.p)
+// What the views are counted of: a plan, a set, the inputs, and the members' coins.
+#[derive(Clone, Copy)]
+pub struct Given<'a> {
+    pub plan: &'a PlanFile<'a>,
+    pub set: u16,
+    pub inputs: &'a [u8],
+    pub coins: &'a [u8],
 }
 
-// All of them; `room` is the length of the buffer to be written.
-#[tactic(auto, using(crate::proofs::CheckLaws::checking))]
-pub fn check(
-    plan: &PlanFile,
-    set: u16,
-    inputs: &[u8],
-    coins: &[u8],
-    room: usize,
-) -> Result<(), Refusal>
-    ensures { result ≡ first_of (counting_checks (plan_of plan.now.bytes.now) set inputs.now coins.now room) }
-{
-    if !plan_coalition::set_ok(plan.header, set) {
-        return Err(Refusal::Coalition);
+impl Given<'_> {
+    // Refusals 10 to 13, of the members' coins alone.
+    #[tactic(auto, using(crate::proofs::CheckLaws::listing))]
+    fn check_lists(&self) -> Result<(), Refusal>
+        ensures { result ≡ first_of (member_checks (plan_of self.now.plan.now.bytes.now) self.now.set self.now.inputs.now self.now.coins.now) }
+    {
+        let p = self.plan.header.field.p;
+        seat_admission::check_inputs(self.inputs, plan_counts::input_count(self.plan), p)?;
+        seat_admission::check_coins(self.coins, member_coins(self.plan, self.set), p)
     }
-    check_lists(plan, set, inputs, coins)?;
-    let k = settings(plan, set);
-    if 65536 < k {
-        return Err(Refusal::Settings);
+
+    // All of them; `room` is the length of the buffer to be written.
+    #[tactic(auto, using(crate::proofs::CheckLaws::checking))]
+    pub fn check(&self, room: usize) -> Result<(), Refusal>
+        ensures { result ≡ first_of (counting_checks (plan_of self.now.plan.now.bytes.now) self.now.set self.now.inputs.now self.now.coins.now room) }
+    {
+        if !plan_coalition::set_ok(self.plan.header.n, self.plan.header.t, self.set) {
+            return Err(Refusal::Coalition);
+        }
+        self.check_lists()?;
+        let k = settings(self.plan, self.set);
+        if 65536 < k {
+            return Err(Refusal::Settings);
+        }
+        if room != numbers::WIDTH * (row_width(self.plan, self.set) * k) {
+            return Err(Refusal::BufferLength);
+        }
+        Ok(())
     }
-    if room != numbers::WIDTH * (row_width(plan, set) * k) {
-        return Err(Refusal::BufferLength);
-    }
-    Ok(())
 }

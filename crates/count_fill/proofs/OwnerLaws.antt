@@ -18,12 +18,12 @@ use mir.Syntax.{w64}
 use mir.Val.{Fits}
 use Rattle.numbers.specs.Tables.{tab}
 use Rattle.numbers.proofs.Tables.{tab-next, length-tab, row_room}
-use Rattle.numbers.proofs.Rows.{flat-snoc, flat-length, flat_append}
+use Rattle.numbers.proofs.Rows.{flat-snoc, flat-length}
 use Rattle.plan.specs.declared.Gate.{Gate}
-use Rattle.plan.specs.declared.Gate.TheVariants.{Input, Add, Scale, Offset, Multiply, Random, Spend}
+use Rattle.plan.specs.declared.Gate.TheVariants.{Input, Multiply, Random}
 use Rattle.plan.specs.declared.Header.{Header}
-use Rattle.plan.specs.Plans.{kind_of, is_kind, multiplying, coin_owners_at, coin_owners, coin_count, dealings_at}
-use Rattle.plan.specs.File.{between, gate_at, gate_ok, plan_of}
+use Rattle.plan.specs.Plans.{kind_of, is_kind, multiplying, coin_owners_at, coin_owners, coin_count}
+use Rattle.plan.specs.File.{gate_at, gate_ok, plan_of}
 use Rattle.plan.specs.Planned.{Planned}
 use Rattle.plan.proofs.Planned.{between-true, plan_t, plan_n, plan_dealers, plan_gates, plan_gate}
 use Rattle.plan.proofs.Valid.{plain, gate-kept, gate_majority}
@@ -100,6 +100,7 @@ module _ (m t at : ℕ) (d₀ d : List ℕ) (next i : ℕ) (h : Dealers m t at d
   pub dealers_done : m ≤ i → Put (dealt t m) at d₀ d next
   dealers_done l = let q : i ≡ m = omega (arith, h.within) in subst (λ (n : ℕ). Put (dealt t n) at d₀ d next) q h.put
 
+-- As it is: answers name this set, since the check leaves their goals open by `using` alone.
 pub ruleset dealing = (rules, dealers-none, dealers_party, dealers_room, dealers_next, dealers_done)
 
 -- ---- a gate
@@ -146,6 +147,7 @@ module _ (bs : List ℕ) (h : Header) (pl : Planned bs h) (g : ℕ) (l : g < h.g
 pub few-parties : (bs : List ℕ) (h : Header) → Planned bs h → h.n ≤ 15
 few-parties bs h pl = pl.n-high
 
+-- As it is: answers name this set, since the check leaves their goals open by `using` alone.
 pub ruleset gating = (
   rules,
   few-parties,
@@ -217,4 +219,5 @@ module _ (bs : List ℕ) (h : Header) (d₀ d : List ℕ) (at g : ℕ) (o : Owne
       let end : at ≡ length (flat_map (coin_owners_at (plan_of bs)) (plan_of bs).gates) = omega (arith, o.put.place, ap (λ (gs : List Gate). length (flat_map (coin_owners_at (plan_of bs)) gs)) all) in
       ap (λ (n : ℕ). take n d) (sym end) ∙ o.put.front ∙ ap (flat_map (coin_owners_at (plan_of bs))) all
 
+-- As it is: answers name this set, since the check leaves their goals open by `using` alone.
 pub ruleset owning = (rules, owned-none, owned_room, owned_next, owned_done)

@@ -2,16 +2,15 @@
 --     viewing          one row: the view of the run, then 1
 --     filling          the loop over the settings
 -- Assumes nothing.
-use Prim.Native.Nat.{ℕ, suc, ◌+◌, ◌-◌, ◌*◌, ◌^◌, ◌<◌, ◌≤◌}
+use Prim.Native.Nat.{ℕ, ◌+◌, ◌-◌, ◌*◌, ◌/◌, ◌%◌, ◌^◌, ◌<◌, ◌≤◌}
 use mathlib.Core.Path.{◌≡◌, refl, sym, ap, ap₂, ◌∙◌}
 use mathlib.Core.Bool.{true}
 use mathlib.Core.List.{List, [], ◌∷◌, ◌++◌}
-use native.Mathlib.Numerals.{add-one}
-use native.Mathlib.Nat.{mul-suc}
+use native.Mathlib.Nat.{mul-div-le, mod-eq-sub-mul-div}
 use native.Mathlib.Omega.{arith}
 use borrow.Author.Rules.{rules}
 use borrow.Author.Tests.{ltb-true}
-use lib.Dec.{leb, ltb}
+use lib.Dec.{ltb}
 use lib.ListN.{length, take, drop, length-append, length-drop}
 use lib.Seq.{take_all, take_at, length-take-le}
 use mir.Syntax.{w64}
@@ -20,14 +19,13 @@ use Rattle.numbers.specs.Bytes.{width, limit, numbers, bytes_of, stored, all_bel
 use Rattle.numbers.proofs.Bytes.{bytes_of-append, length-bytes_of, length-stored, take-stored, numbers_of_bytes}
 use Rattle.numbers.proofs.Below.{all_below_at, all_below_more}
 use Rattle.numbers.proofs.Truth.{both_true}
-use Rattle.sharing_laws.specs.Sharing.{rows_of}
 use Rattle.sharing_openings.proofs.Rows.{Written, none_written, room, piece_long, written_next, written_done}
 use Rattle.plan.specs.declared.Header.{Header}
-use Rattle.plan.specs.Plans.{Plan, party_count, coin_owners, coin_count}
+use Rattle.plan.specs.Plans.{Plan, party_count, coin_count}
 use Rattle.plan.specs.File.{plan_of}
 use Rattle.plan.specs.Planned.{Planned}
 use Rattle.plan.proofs.Planned.{plan_p, plan_n}
-use Rattle.plan_coalition.specs.Coalitions.{members, set_fits, set_ok}
+use Rattle.plan_coalition.specs.Coalitions.{members, set_ok}
 use Rattle.run_protocol.specs.Rounds.{view, view_count}
 use Rattle.run_dealings.specs.Rows.{Given}
 use Rattle.count_laws.specs.Settings.{coins_from, setting_coins}
@@ -69,6 +67,7 @@ row_long v row ys new l ly en =
     ap length en ∙ length-stored (ys ++ drop (width * v) row) v 1
     ∙ omega (arith, length-append ys (drop (width * v) row), length-drop (width * v) row, row_part v row l)
 
+-- As it is: answers name this set, since the check leaves their goals open by `using` alone.
 pub ruleset viewing = (rules, set_within, view_fits, row_within, row_part, row_room, row_done, row_long)
 
 -- ---- all settings
@@ -114,12 +113,6 @@ module _ (bs : List ℕ) (h : Header) (pl : Planned bs h) where
       unfolding row_bytes
       row_is ys q = q ∙ ap (λ (cs : List ℕ). bytes_of (view (plan_of bs) (members set) (numbers inputs) cs [] ++ (1 ∷ []))) numbers-are
 
-    pub set-fits : set_ok (plan_of bs) set ≡ true
-    set-fits = le.fits
-
-    pub view-wide : (v ≡ view_count (plan_of bs) (members set)) × (v ≤ 524288)
-    view-wide = (le.wide, le.few)
-
 pub row_size : (plan : Plan) (set v : ℕ) (inputs given owners : List ℕ) → Lent plan set inputs given owners v → Fits w64 (width * (v + 1))
 row_size plan set v inputs given owners le = record { fits = omega (arith, le.few) }
 
@@ -132,10 +125,22 @@ pub record Filling (bs : List ℕ) (set : ℕ) (xs cs : List ℕ) (v settings si
   pub coined : length coins ≡ width * coin_count (plan_of bs)
   pub written : Written (row_bytes (plan_of bs) set xs cs) size settings d₀ d s
 
+-- a list of whole rows
+whole_rows : (d : List ℕ) (size : ℕ) → length d % size ≡ 0 → length d ≡ size * (length d / size)
+whole_rows d size e = omega (arith, mod-eq-sub-mul-div (length d) size, mul-div-le (length d) size)
+
 pub fill_none :
-    (bs : List ℕ) (set : ℕ) (xs cs : List ℕ) (v settings : ℕ) (coins d : List ℕ) → length coins ≡ width * coin_count (plan_of bs) → length d ≡ width * (v + 1) * settings
-    → Filling bs set xs cs v settings (width * (v + 1)) coins d d 0
-fill_none bs set xs cs v settings coins d lc l = record { sized = refl; coined = lc; written = none_written (row_bytes (plan_of bs) set xs cs) (width * (v + 1)) settings d l }
+    (bs : List ℕ) (set : ℕ) (xs cs : List ℕ) (v : ℕ) (coins d : List ℕ) → length coins ≡ width * coin_count (plan_of bs) → length d % (width * (v + 1)) ≡ 0
+    → Filling bs set xs cs v (length d / (width * (v + 1))) (width * (v + 1)) coins d d 0
+fill_none bs set xs cs v coins d lc l =
+    record {
+      sized = refl;
+      coined = lc;
+      written = none_written (row_bytes (plan_of bs) set xs cs) (width * (v + 1)) (length d / (width * (v + 1))) d (whole_rows d (width * (v + 1)) l);
+    }
+
+pub row_some : (v : ℕ) → width * (v + 1) ≡ 0 → ⊥
+row_some v e = omega arith
 
 module _ (bs : List ℕ) (set : ℕ) (xs cs : List ℕ) (v settings size : ℕ) (coins d₀ d : List ℕ) (s : ℕ) (f : Filling bs set xs cs v settings size coins d₀ d s) where
   pub row_start : s < settings → length d₀ < 2 ^ 64 → Fits w64 (size * s)
@@ -162,17 +167,17 @@ module _ (bs : List ℕ) (set : ℕ) (xs cs : List ℕ) (v settings size : ℕ) 
   pub rows_long : length d ≡ length d₀
   rows_long = f.written.long
 
+-- As it is: answers name this set, since the check leaves their goals open by `using` alone.
 pub ruleset filling = (
   rules,
   prime-some,
   coins_room,
   setting-given,
   row_is,
-  set-fits,
-  view-wide,
   row_size,
   row_next_size,
   fill_none,
+  row_some,
   row_start,
   row_end,
   row_here,
@@ -194,4 +199,5 @@ module _ (bs : List ℕ) (set v : ℕ) (inputs given owners : List ℕ) (le : Le
 pub room_fits : (owners room : List ℕ) → width * length owners ≤ length room → length room < 2 ^ 64 → Fits w64 (width * length owners)
 room_fits owners room l f = record { fits = omega arith }
 
+-- As it is: answers name this set, since the check leaves their goals open by `using` alone.
 pub ruleset rooming = (rules, room_long, room_coins, room_fits)

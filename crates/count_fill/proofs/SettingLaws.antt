@@ -2,7 +2,7 @@
 --     choosing               the next coin, and what is left of the setting's number
 --     Setting, setting       the loop over the coins
 -- Assumes nothing.
-use Prim.Native.Nat.{ℕ, suc, ◌+◌, ◌*◌, ◌/◌, ◌%◌, ◌^◌, ◌<◌, ◌≤◌}
+use Prim.Native.Nat.{ℕ, ◌+◌, ◌*◌, ◌/◌, ◌%◌, ◌^◌, ◌<◌, ◌≤◌}
 use mathlib.Core.Path.{◌≡◌, refl, sym, ap, ap₂, ◌∙◌}
 use mathlib.Core.Bool.{Bool, true, false, cond}
 use mathlib.Core.List.{List, [], ◌∷◌, ◌++◌, append_assoc, append-nil}
@@ -15,6 +15,8 @@ use mir.Syntax.{w64}
 use mir.Val.{Fits}
 use Rattle.numbers.specs.Bytes.{width, bytes_of, stored}
 use Rattle.numbers.proofs.Bytes.{bytes_of-nil, bytes_of-append, length-stored, take-stored}
+use Rattle.field.specs.Field.{Ready}
+use Rattle.field.proofs.Elements.{ready_positive}
 use Rattle.plan_coalition.specs.Coalitions.{in_set}
 use Rattle.count_laws.specs.Settings.{coins_from}
 
@@ -29,8 +31,8 @@ module _ (b : Bool) (x y : ℕ) where
   pub passed_over : b ≡ false → y ≡ cond b x y
   passed_over e = rw e
 
-pub divides : (p : ℕ) → 0 < p → p ≡ 0 → ⊥
-divides p l e = omega arith
+pub divides : (p : ℕ) → Ready p → p ≡ 0 → ⊥
+divides p l e = omega (arith, ready_positive p l)
 
 pub ruleset choosing = (rules, chosen, chosen_as, passed_over, divides)
 

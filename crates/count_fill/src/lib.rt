@@ -13,6 +13,7 @@ ghost use Rattle.run_dealings.specs.Rows.{Given};
 ghost use Rattle.count_laws.specs.Settings.{coins_from};
 ghost use Rattle.count_fill.specs.Filling.{Put, rows_filled, Lent};
 
+use field::Field;
 use plan::{Gate, PlanFile};
 
 // ---- whose the coins are
@@ -74,57 +75,18 @@ pub fn owners(plan: &PlanFile, out: &mut [u8])
 
 // ---- a setting
 
-// The next coin: a member's as given, another's the lowest digit of what is left of the setting's number.
+// The next coin, and what is left of the setting's number after it: a member's coin as given, another's the lowest digit.
+// As it is: a `bool`, since the caller asks whose the coin is for itself as well: the next place of a member's coin goes by it.
 #[tactic(auto, using(crate::proofs::SettingLaws::choosing))]
-fn coin(member: bool, given: &[u8], from: usize, p: u64, rest: u64) -> u64
-    requires { 0 < p }
-    ensures { result ≡ cond member (get_or (numbers given.now) from 0) (rest % p) }
+fn coin(member: bool, given: &[u8], from: usize, f: Field, rest: u64) -> (u64, u64)
+    ensures coin { result.0 ≡ cond member (get_or (numbers given.now) from 0) (rest % f.p) }
+    ensures left { result.1 ≡ cond member rest (rest / f.p) }
 {
     if member {
-        numbers::read(given, from)
+        (numbers::read(given, from), rest)
     } else {
-        rest % p
+        (rest % f.p, rest / f.p)
     }
-}
-
-// What is left of the setting's number after it.
-#[tactic(auto, using(crate::proofs::SettingLaws::choosing))]
-fn left(member: bool, p: u64, rest: u64) -> u64
-    requires { 0 < p }
-    ensures { result ≡ cond member rest (rest / p) }
-{
-    if member { rest } else { rest / p }
-}
-
-// All coins of setting number k, from the members' coins.
-#[tactic(auto, using(crate::proofs::SettingLaws::setting))]
-fn set_coins(p: u64, set: u16, owners: &[u8], given: &[u8], k: u64, out: &mut [u8])
-    requires p_nonzero { 0 < p }
-    requires out_len { length out.old ≡ width * length owners.now }
-    ensures { out.new ≡ bytes_of (coins_from p set owners.now (numbers given.now) k) }
-{
-    let mut from = 0;
-    let mut rest = k;
-    for c in 0..owners.len() {
-        let member = plan_coalition::is_member(set, owners[c] as usize);
-        numbers::write(out, c, coin(member, given, from, p, rest));
-        from += usize::from(member);
-        rest = left(member, p, rest);
-    }
-}
-
-// The set's view of the run with these coins, then 1.
-#[tactic(auto, using(crate::proofs::RowLaws::viewing))]
-fn fill_row(plan: &PlanFile, set: u16, inputs: &[u8], coins: &[u8], v: usize, row: &mut [u8])
-    requires given { Given (plan_of plan.now.bytes.now) inputs.now coins.now }
-    requires set_value { set_ok (plan_of plan.now.bytes.now) set ≡ true }
-    requires v_value { (v ≡ view_count (plan_of plan.now.bytes.now) (members set)) × (v ≤ 524288) }
-    requires row_len { length row.old ≡ width * (v + 1) }
-    ensures { row.new ≡ bytes_of (view (plan_of plan.now.bytes.now) (members set) (numbers inputs.now) (numbers coins.now) [] ++ (1 ∷ [])) }
-{
-    let e = numbers::WIDTH * v;
-    run_bench::write_run(plan, set, inputs, coins, &mut row[..e]);
-    numbers::write(row, v, 1);
 }
 
 // What all settings are run with: the plan and the set, the inputs, the members' coins, the owners of all coins, and the numbers of a view.
@@ -140,43 +102,59 @@ pub struct Settings<'a> {
 }
 
 impl Settings<'_> {
-    // The rows of the first `count` settings; `coins` takes each setting's coins.
+    // All coins of setting number k, from the members' coins.
+    #[tactic(auto, using(crate::proofs::SettingLaws::setting))]
+    fn set_coins(&self, k: u64, out: &mut [u8])
+        requires { length out.old ≡ width * length self.now.owners.now }
+        ensures { out.new ≡ bytes_of (coins_from self.now.plan.now.header.field.p self.now.set self.now.owners.now (numbers self.now.given.now) k) }
+    {
+        let f = self.plan.header.field;
+        let mut from = 0;
+        let mut rest = k;
+        for (c, owner) in self.owners.iter().enumerate() {
+            let member = plan_coalition::is_member(self.set, *owner as usize);
+            let (next, left) = coin(member, self.given, from, f, rest);
+            numbers::write(out, c, next);
+            from += usize::from(member);
+            rest = left;
+        }
+    }
+
+    // The set's view of the run with these coins, then 1.
+    #[tactic(auto, using(crate::proofs::RowLaws::viewing))]
+    fn fill_row(&self, coins: &[u8], row: &mut [u8])
+        requires given { Given (plan_of self.now.plan.now.bytes.now) self.now.inputs.now coins.now }
+        requires row_len { length row.old ≡ width * (self.now.view_len + 1) }
+        ensures { row.new ≡ bytes_of (view (plan_of self.now.plan.now.bytes.now) (members self.now.set) (numbers self.now.inputs.now) (numbers coins.now) [] ++ (1 ∷ [])) }
+    {
+        let e = numbers::WIDTH * self.view_len;
+        run_bench::write_run(self.plan, self.set, self.inputs, coins, &mut row[..e]);
+        numbers::write(row, self.view_len, 1);
+    }
+
+    // The rows of as many settings as have room, from setting 0 on; `coins` takes each setting's coins.
     #[tactic(auto, using(crate::proofs::RowLaws::filling))]
-    fn fill_by(&self, count: usize, coins: &mut [u8], out: &mut [u8])
+    fn fill_by(&self, coins: &mut [u8], out: &mut [u8])
         requires coins_len { length coins.old ≡ width * coin_count (plan_of self.now.plan.now.bytes.now) }
-        requires out_len { length out.old ≡ width * (self.now.view_len + 1) * count }
-        ensures { out.new ≡ rows_filled (plan_of self.now.plan.now.bytes.now) self.now.set (numbers self.now.inputs.now) (numbers self.now.given.now) count }
+        requires out_len { length out.old % (width * (self.now.view_len + 1)) ≡ 0 }
+        ensures { out.new ≡ rows_filled (plan_of self.now.plan.now.bytes.now) self.now.set (numbers self.now.inputs.now) (numbers self.now.given.now) (length out.old / (width * (self.now.view_len + 1))) }
     {
         let size = numbers::WIDTH * (self.view_len + 1);
-        for s in 0..count {
-            set_coins(
-                self.plan.header.field.p,
-                self.set,
-                self.owners,
-                self.given,
-                s as u64,
-                coins,
-            );
+        for s in 0..out.len() / size {
+            self.set_coins(s as u64, coins);
             let at = size * s;
-            fill_row(
-                self.plan,
-                self.set,
-                self.inputs,
-                coins,
-                self.view_len,
-                &mut out[at..at + size],
-            );
+            self.fill_row(coins, &mut out[at..at + size]);
         }
     }
 
     // The same, where the room of the coins may have bytes left over.
     #[tactic(auto, using(crate::proofs::RowLaws::rooming))]
-    pub fn fill(&self, count: usize, room: &mut [u8], out: &mut [u8])
+    pub fn fill(&self, room: &mut [u8], out: &mut [u8])
         requires owners_in_bounds { width * length self.now.owners.now ≤ length room.old }
-        requires out_len { length out.old ≡ width * (self.now.view_len + 1) * count }
-        ensures { out.new ≡ rows_filled (plan_of self.now.plan.now.bytes.now) self.now.set (numbers self.now.inputs.now) (numbers self.now.given.now) count }
+        requires out_len { length out.old % (width * (self.now.view_len + 1)) ≡ 0 }
+        ensures { out.new ≡ rows_filled (plan_of self.now.plan.now.bytes.now) self.now.set (numbers self.now.inputs.now) (numbers self.now.given.now) (length out.old / (width * (self.now.view_len + 1))) }
     {
         let used = numbers::WIDTH * self.owners.len();
-        self.fill_by(count, &mut room[..used], out);
+        self.fill_by(&mut room[..used], out);
     }
 }

@@ -7,16 +7,17 @@
 use Prim.Native.Nat.{ℕ, zero, suc, ◌+◌, ◌*◌, ◌^◌, ◌<◌, ◌≤◌}
 use mathlib.Core.Path.{◌≡◌, refl, sym, ap, ap₂, subst, ◌∙◌}
 use mathlib.Core.Bool.{Bool, true, false, cond, not}
-use mathlib.Core.List.{List, [], ◌∷◌, ◌++◌, map, flat_map}
+use mathlib.Core.List.{List, [], ◌∷◌, map, flat_map}
 use mathlib.Core.Logic.{⊎_elim}
-use native.Mathlib.Nat.{zero-mul, suc-mul, mul-zero, mul-suc, mul-add, mul_comm, mul-le-mul, eq-or-lt_of_le, pow-zero, pow-suc}
+use Rattle.std.proofs.Math.Nat.{pow-le-pow_left}
+use native.Mathlib.Nat.{zero-mul, mul-zero, mul-suc, mul-add, mul-le-mul, eq-or-lt_of_le}
 use native.Mathlib.Omega.{arith}
 use borrow.Author.Tests.{eq-eqb, ne_eqb}
 use lib.Dec.{eqb}
 use lib.Pow.{pow_mono}
 use lib.ListN.{length, get_or, replicate, length-append, length-replicate}
 use Rattle.numbers.specs.Tables.{tab, count_where, total}
-use Rattle.numbers.proofs.Tables.{tab-cons, tab-ext, length-tab}
+use Rattle.numbers.proofs.Tables.{tab-ext, length-tab}
 use Rattle.numbers.proofs.Counts.{count_where-append}
 use Rattle.sharing_laws.specs.Interp.{All}
 use Rattle.sharing_laws.proofs.Alls.{all_append}
@@ -24,14 +25,14 @@ use Rattle.plan.specs.declared.Gate.{Gate}
 use Rattle.plan.specs.declared.Gate.TheVariants.{Input, Add, Scale, Offset, Multiply, Random, Spend}
 use Rattle.plan.specs.declared.Rule.TheVariants.{Reduction}
 use Rattle.plan.specs.Plans.{Plan, party_count, dealer_count, kind_of, is_kind, multiplying, coin_owners_at, coin_owners, coin_count, own_coin_count, dealings_at}
-use Rattle.plan.specs.File.{between, gate_ok}
+use Rattle.plan.specs.File.{gate_ok}
 use Rattle.plan.proofs.Planned.{between-true}
 use Rattle.plan.proofs.Valid.{Valid, Plain}
 use Rattle.plan_coalition.specs.Coalitions.{in_set, members_from, members, set_ok}
 use Rattle.plan_coalition.proofs.Coalitions.{member_most}
 use Rattle.run_protocol.proofs.Owners.{blocks, length_blocks}
 use Rattle.run_protocol.proofs.Dealt.{input-owners, reduction-owners}
-use Rattle.count_rows.proofs.Choices.{at_least}
+use Rattle.std.proofs.lemmas.Bool.{cases_lt}
 use Rattle.count_laws.specs.Settings.{member_coins, other_coins}
 
 -- ---- together they are all
@@ -205,14 +206,10 @@ members_sum plan valid plain few set = sum_from set (party_count plan) (omega ar
 
 -- ---- how many coins a run has where there are few settings
 pub few_others : (p e : ℕ) → 2 ≤ p → p ^ e ≤ 65536 → e ≤ 16
-few_others p e two few = ⊎_elim (λ h. absurd (omega (arith, few, over, pow_mono {i = 17} {j = e} h))) (λ h. omega arith) (at_least 17 e)
+few_others p e two few = ⊎_elim (λ h. omega arith) (λ h. absurd (omega (arith, few, over, pow_mono {i = 17} {j = e} h))) (cases_lt e 17)
   where
-    above : (e : ℕ) → 2 ^ e ≤ p ^ e
-    above zero = omega (arith, pow-zero 2, pow-zero p)
-    above (suc e) = rw (pow-suc 2 e, pow-suc p e) (mul-le-mul (above e) two)
-
     over : 2 ^ e ≤ p ^ e
-    over = above e
+    over = pow-le-pow_left two e
 
 module _ (plan : Plan) (rule : plan.rule ≡ Reduction) (small : plan.t ≤ 14) (set : ℕ) (most : length (members set) ≤ plan.t) where
   abbrev others : List ℕ → ℕ

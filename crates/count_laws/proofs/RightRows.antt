@@ -5,12 +5,13 @@ use Prim.Native.Nat.{ℕ, zero, suc, ◌+◌, ◌<◌, ◌≤◌}
 use mathlib.Core.Path.{◌≡◌, refl, sym, ap, subst, ◌∙◌}
 use mathlib.Core.Bool.{Bool, true, false, cond}
 use mathlib.Core.List.{List, [], ◌∷◌, map}
+use borrow.Author.Tests.{clash}
 use native.Mathlib.Omega.{arith}
 use lib.ListN.{length, get_or}
 use Rattle.numbers.specs.Tables.{count_where}
 use Rattle.plan.specs.File.{same_bytes}
 use Rattle.count_rows.specs.Tables.{is_before}
-use Rattle.count_rows.proofs.Orders.{true-false, before_asym, up_trans}
+use Rattle.count_rows.proofs.Orders.{before_asym, up_trans}
 use Rattle.count_laws.specs.Rows.{Row, counted, rows_of, times_in, counts_of, Tallied}
 use Rattle.count_laws.proofs.Orders.{same_refl, same-eq, before_other, before_other', before_by}
 use Rattle.count_laws.proofs.Tallies.{row_of}
@@ -58,13 +59,13 @@ before_trans a b c x y = by (is_before a c) refl
   where
     by : (t : Bool) → is_before a c ≡ t → is_before a c ≡ true
     by true e = e
-    by false e = true-false (sym y ∙ up_trans c a b e (before_asym a b x))
+    by false e = absurd (clash (sym (up_trans c a b e (before_asym a b x)) ∙ y))
 
 behind_of : (v x : List ℕ) → same_bytes v x ≡ false → is_before v x ≡ false → is_before x v ≡ true
 behind_of v x s b = before_by x v (is_before x v) refl (flip (same_bytes x v) refl) b
   where
     flip : (t : Bool) → same_bytes x v ≡ t → same_bytes x v ≡ false
-    flip true e = true-false (sym (same_refl v) ∙ ap (same_bytes v) (sym (same-eq x v e)) ∙ s)
+    flip true e = absurd (clash (sym (ap (same_bytes v) (sym (same-eq x v e)) ∙ s) ∙ same_refl v))
     flip false e = e
 
 -- ---- ascending rows

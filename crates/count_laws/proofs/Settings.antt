@@ -13,7 +13,7 @@ use mathlib.Core.List.{List, [], ◌∷◌, map}
 use native.Mathlib.Nat.{mod-lt, div-add-mod', div-lt_iff_lt-mul, pow-zero, pow-suc, mod-eq_of_lt, div-eq_of_lt, add-mul-div_left, add-mul-mod_self_left, mul_comm, suc-mul, mul-le-mul_right}
 use native.Mathlib.Omega.{arith}
 use borrow.Author.Tests.{lt-ltb}
-use lib.ListN.{length, drop, get_or, length-drop}
+use lib.ListN.{length, drop, get_or}
 use Rattle.numbers.specs.Tables.{tab, count_where}
 use Rattle.numbers.specs.Bytes.{all_below}
 use Rattle.numbers.proofs.Below.{all_below_at, all_below-drop, append_below, map_below, flat_map_below}

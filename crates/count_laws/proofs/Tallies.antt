@@ -6,10 +6,11 @@ use Prim.Native.Nat.{ℕ, suc}
 use mathlib.Core.Path.{◌≡◌, refl, sym, ap, ◌∙◌}
 use mathlib.Core.Bool.{Bool, true, false, cond}
 use mathlib.Core.List.{List, [], ◌∷◌}
+use borrow.Author.Tests.{clash}
 use Rattle.plan.specs.File.{same_bytes}
 use Rattle.count_rows.specs.Tables.{is_before}
 use Rattle.count_rows.specs.Sorts.{inserted, sorted}
-use Rattle.count_rows.proofs.Orders.{true-false, before_asym}
+use Rattle.count_rows.proofs.Orders.{before_asym}
 use Rattle.count_laws.specs.Rows.{Row, counted, rows_of}
 use Rattle.count_laws.proofs.Orders.{same_refl, same-eq, before_other, before_other', before_by}
 
@@ -82,7 +83,7 @@ behind_by : (s x y : List ℕ) (c : ℕ) (ys : List (List ℕ)) (p b : Bool) →
 unfolding tally_from
 behind_by s x y c ys true true p q l f g = rw q f
 behind_by s x y c ys true false p q l f g = rw q (ap (λ (z : List Row). row_of x c ∷ z) (g p) ∙ sym (count_behind s x c (tally_from y 1 ys) l))
-behind_by s x y c ys false true p q l f g = true-false (sym l ∙ ap (λ (z : List ℕ). is_before z s) (same-eq x y q) ∙ p)
+behind_by s x y c ys false true p q l f g = absurd (clash (sym (ap (λ (z : List ℕ). is_before z s) (same-eq x y q) ∙ p) ∙ l))
 behind_by s x y c ys false false p q l f g =
     new_row s x c (y ∷ ys) l ∙ ap (λ (z : List Row). row_of x c ∷ z) (at_front s y ys p) ∙ sym (count_behind s x c (tally_from y 1 ys) l)
 

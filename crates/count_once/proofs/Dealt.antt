@@ -6,7 +6,7 @@
 use mathlib.Core.Path.{◌≡◌, refl, sym, ap, ap₂, subst, fun_ext, ◌∙◌}
 use mathlib.Core.Logic.{◌≢◌}
 use mathlib.Core.List.{List, [], ◌∷◌, ◌++◌, map, flat_map, head-eq_of_cons-eq, tail-eq_of_cons-eq, Memᴰ}
-use Prim.Native.Nat.{ℕ, zero, suc, ◌+◌, ◌%◌, ◌≤◌, ◌<◌}
+use Prim.Native.Nat.{ℕ, zero, suc, ◌%◌, ◌≤◌, ◌<◌}
 use native.Mathlib.Nat.{zero-mod}
 use native.Mathlib.Omega.{arith}
 use lib.ListN.{length, take, drop, get_or, length-map, length-append, length-drop, take-append-drop, drop_of_length-le}
@@ -25,7 +25,7 @@ use Rattle.plan.specs.declared.Gate.TheVariants.{Input, Add, Scale, Offset, Mult
 use Rattle.plan.specs.declared.Rule.{Rule}
 use Rattle.plan.specs.declared.Rule.TheVariants.{Reduction}
 use Rattle.plan.specs.declared.Dealing.{Dealing}
-use Rattle.plan.specs.Plans.{Plan, party_count, dealer_count, dealer_points, point_of, kind_of, first_dealings, multiply_dealings, dealings_at, coin_owners_at}
+use Rattle.plan.specs.Plans.{Plan, dealer_count, dealer_points, point_of, kind_of, first_dealings, multiply_dealings, dealings_at, coin_owners_at}
 use Rattle.run_protocol.specs.Ideal.{inputs_taken}
 use Rattle.run_protocol.specs.Shares.{Before, wire_at, product_of, multiply_dealt, dealt_at, sharings, pieces_at, multiply_share, gate_share, past, past_all}
 use Rattle.match_privacy.proofs.Blocks.{total, owners_of, length_owners, sharings_prefix}

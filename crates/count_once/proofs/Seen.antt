@@ -8,13 +8,12 @@ use Prim.Native.Nat.{ℕ, zero, suc, ◌+◌, ◌≤◌, ◌<◌}
 use native.Mathlib.Omega.{arith}
 use borrow.Author.Tests.{ltb-true, ltb-false}
 use lib.Dec.{ltb}
-use lib.ListN.{length, take, get_or, length-append, get_or-eq_default}
+use lib.ListN.{length, get_or, length-append, get_or-eq_default}
 use Rattle.numbers.specs.Tables.{tab}
 use Rattle.sharing_laws.specs.Interp.{All}
 use Rattle.plan.specs.declared.Gate.{Gate}
 use Rattle.plan.specs.declared.Gate.TheVariants.{Input, Add, Scale, Offset, Multiply, Random, Spend}
 use Rattle.plan.specs.declared.Rule.{Rule}
-use Rattle.plan.specs.declared.Rule.TheVariants.{Reduction}
 use Rattle.plan.specs.declared.Step.{Step}
 use Rattle.plan.specs.declared.Step.TheVariants.{DealInputs, DealProduct, SendOuts}
 use Rattle.plan.specs.Plans.{Plan, party_count, point_of, kind_of, is_kind, dealings_at, own_inputs, own_coins, coin_owners, coin_count, multiply_steps, steps_at, steps, step_at, last_call}

@@ -1,10 +1,11 @@
-pub mod Choices
 pub mod Lengths
 pub mod Orders
 pub mod Sorting
 pub mod Heaping
+pub mod Crossing
 pub mod Tabled
 pub mod Comparing
+pub mod Lents
 pub mod Calls
 pub mod Steps
 pub mod Merging

@@ -533,11 +533,11 @@ charge_passed bs price room e =
 
 bill-whole : (bs : List ℕ) (price : ℕ) (a : Checked) → plan_check bs ≡ Ok tt → price ≤ 1000000 → a ≡ Ok tt
     → billed_of (charged_of a (bill_of (plan_of bs) price)) ≡ 256 * bill_of (plan_of bs) price
-unfolding billed_of charged_of
+unfolding answer_of charged_of
 bill-whole bs price a p l e = let b : bill_of (plan_of bs) price < 4294967296 = bill-few bs p price l in rw e (omega (arith, b))
 
 bill-none : (b : ℕ) (a : Checked) (r : Refusal) → a ≡ Err r → billed_of (charged_of a b) ≡ code_of (Err r)
-unfolding billed_of charged_of
+unfolding answer_of charged_of
 bill-none b a r e = rw e refl
 
 pub demand1 : Demand1

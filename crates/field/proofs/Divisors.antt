@@ -146,4 +146,5 @@ module _ (p d step : ℕ) (t : Trying p d step) where
             let r : From p (d + step) × Stride p (d + step) (6 - step) × (2 ≤ step) = later t.stride l in
             record { from = r.0; stride = r.1; least = omega (arith, t.least); some = omega (arith, t.few); few = omega (arith, r.2); word = next_word }
 
+-- As it is: answers name this set, since the check leaves their goals open by `using` alone.
 pub ruleset trying = (rules, trying_start, square_fits, trying-past, trying-found, trying-falls, next_fits, step_under, trying-early, trying-later)

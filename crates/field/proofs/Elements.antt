@@ -36,6 +36,9 @@ made_refused p b h e t = rw (lt-ltb p field_limit h, ← e, t)
 pub ready_above : (p : ℕ) → Ready p → 1 < p
 ready_above p r = r.prime.above
 
+pub ready_small : (p : ℕ) → Ready p → p < field_limit
+ready_small p r = r.small
+
 pub ready_positive : (p : ℕ) → Ready p → 0 < p
 ready_positive p r = let h : 1 < p = r.prime.above in omega arith
 
@@ -55,13 +58,13 @@ pub ruleset made_new = (rules, new_same, ready_above, ready_positive)
 pub is_element : (p x : ℕ) → 0 < p → Is p (x % p) (x % p)
 is_element p x pos = record { eq = refl; lt = mod-lt x pos }
 
-pub is-add_down : (p a b : ℕ) → a + b < p → Is p (add p a b) (a + b)
+pub is_add_down : (p a b : ℕ) → a + b < p → Is p (add p a b) (a + b)
 unfolding add
-is-add_down p a b h = record { eq = sym (mod-eq_of_lt h); lt = h }
+is_add_down p a b h = record { eq = sym (mod-eq_of_lt h); lt = h }
 
-pub is-add_over : (p a b : ℕ) → a < p → b < p → p ≤ a + b → Is p (add p a b) (a + b - p)
+pub is_add_over : (p a b : ℕ) → a < p → b < p → p ≤ a + b → Is p (add p a b) (a + b - p)
 unfolding add
-is-add_over p a b h k o =
+is_add_over p a b h k o =
     let e : a + b ≡ a + b - p + p = omega arith in
     let l : a + b - p < p = omega arith in
     record { eq = sym (ap (λ (n : ℕ). n % p) e ∙ add-mod_right (a + b - p) p ∙ mod-eq_of_lt l); lt = l }
@@ -70,16 +73,17 @@ pub is_mul : (p a b : ℕ) → 1 < p → Is p (mul p a b) (a * b % p)
 unfolding mul
 is_mul p a b h = is_element p (a * b) (omega arith)
 
-pub is-sub_down : (p a b : ℕ) → b ≤ a → a < p → Is p (sub p a b) (a - b)
-is-sub_down p a b h k = record { eq = sym (sub_down p a b h k); lt = omega arith }
+pub is_sub_down : (p a b : ℕ) → b ≤ a → a < p → Is p (sub p a b) (a - b)
+is_sub_down p a b h k = record { eq = sym (sub_down p a b h k); lt = omega arith }
 
-pub is-sub_over : (p a b : ℕ) → a < b → b < p → Is p (sub p a b) (a + p - b)
-is-sub_over p a b h k = record { eq = sym (sub_over p a b h k); lt = omega arith }
+pub is_sub_over : (p a b : ℕ) → a < b → b < p → Is p (sub p a b) (a + p - b)
+is_sub_over p a b h k = record { eq = sym (sub_over p a b h k); lt = omega arith }
 
 pub product_fits : (p a b : ℕ) → p < field_limit → a < p → b < p → a * b < 2 ^ 64
 product_fits p a b small l r = omega (arith, word a b (omega arith) (omega arith))
 
-pub ruleset methods = (rules, product_fits, is_element, is-add_down, is-add_over, is_mul, is-sub_down, is-sub_over, made_ready, made_some, made_above, made_refused, ready_above, ready_positive)
+-- As it is: answers name this set, since the check leaves their goals open by `using` alone.
+pub ruleset methods = (rules, product_fits, is_element, is_add_down, is_add_over, is_mul, is_sub_down, is_sub_over, made_ready, made_some, made_above, made_refused, ready_above, ready_small, ready_positive)
 
 -- for a caller: a method's result, where its arguments are results
 pub is_itself : (p a : ℕ) → a < p → Is p a a

@@ -5,5 +5,5 @@ pub mod Inverse
 pub mod Laws
 pub mod Products
 pub mod Elements
-pub mod Sums
+pub mod SumLaws
 pub mod Worked

@@ -135,13 +135,13 @@ prime_complete p prime = and_join (ltb 1 p) (is_nothing (divisor_of p)) (lt→lt
         absurd (prime.undivided_by d l.from (omega (arith, l.square, mul-le-mul_right d l.from)) l.divides)
 
 -- ---- the answers of `is_prime`
-pub small-not_prime : (p : ℕ) → p < 2 → false ≡ is_prime p
+pub small_not_prime : (p : ℕ) → p < 2 → false ≡ is_prime p
 unfolding is_prime
-small-not_prime p lt = rw (le-ltb 1 p (omega arith))
+small_not_prime p lt = rw (le-ltb 1 p (omega arith))
 
-pub found-not_prime : (p d : ℕ) (o : Option ℕ) → o ≡ divisor_of p → o ≡ Some d → false ≡ is_prime p
+pub found_not_prime : (p d : ℕ) (o : Option ℕ) → o ≡ divisor_of p → o ≡ Some d → false ≡ is_prime p
 unfolding is_prime
-found-not_prime p d o e f = rw (← e, f) (pick (ltb 1 p))
+found_not_prime p d o e f = rw (← e, f) (pick (ltb 1 p))
   where
     pick : (b : Bool) → false ≡ (b && false)
     pick true = refl
@@ -151,4 +151,4 @@ pub nothing_prime : (p : ℕ) (o : Option ℕ) → 2 ≤ p → o ≡ divisor_of 
 unfolding is_prime
 nothing_prime p o lo e f = rw (lt-ltb 1 p lo, ← e, f)
 
-pub ruleset deciding = (rules, small-not_prime, found-not_prime, nothing_prime)
+pub ruleset deciding = (rules, small_not_prime, found_not_prime, nothing_prime)

@@ -1,5 +1,5 @@
 -- The field type: its constructor, and what its methods take and give.
-use Rattle.std.specs.Prelude.{Option, Some, None, ◌≡◌, Bool, ◌&&◌, cond, ℕ, ◌-◌, ◌*◌, ◌/◌, ◌≤◌, ◌<◌, leb, ltb}
+use Rattle.std.specs.Prelude.{Option, Some, None, ◌≡◌, Bool, ◌&&◌, cond, ℕ, ◌-◌, ◌*◌, ◌/◌, ◌<◌, leb, ltb}
 use Rattle.field.specs.Prime.{is_prime, Prime}
 
 -- a prime has at most 31 bits
@@ -41,8 +41,3 @@ sum_bound p k = cond (is_wide p) (4294967296 * p) (k * (p * p))
 -- 2^36 / p, for a wide prime 2^48 / p
 unfoldable pub reciprocal : ℕ → ℕ
 reciprocal p = cond (is_wide p) (281474976710656 / p) (68719476736 / p)
-
--- a sum x of at most 16 products of elements, and the reciprocal m of p
-pub record Reducible (p m x : ℕ) : Type 0 where
-  pub by : m ≡ reciprocal p
-  pub sum : x ≤ sum_bound p 16

@@ -2,7 +2,7 @@
 --     file-checks              after 23 and 24 only 3 to 6 can fall, and the contents decide them, and 25
 --     measuring, importing     what closes the needs of the functions
 -- Assumes nothing.
-use Rattle.std.proofs.Common.{Option, Some, None, Result, Ok, Err}
+use Rattle.std.proofs.Common.{Option, Some, None, Result, Ok, Err, ok_or}
 use Prim.Native.Nat.{ℕ, ◌+◌, ◌*◌, ◌<◌, ◌≤◌}
 use mathlib.Core.Path.{◌≡◌, refl, sym, ap, ap₂, subst, ◌∙◌}
 use mathlib.Core.Logic.{◌⊎◌, inl, inr}
@@ -115,6 +115,7 @@ module _ (n t p gates outs : ℕ) (text : List ℕ) (w : Importable text n t p g
     unfolding import_file import_bodies
     majority-is ys c kept is e = room-majority size room long few ys kept c (file_of_plan n t p (circuit_bodies p (circuit_of text))) is e
 
+-- As it is: answers name this set, since the check leaves their goals open by `using` alone.
 pub ruleset majorities = (rules, majority-fits, majority-passed, majority-parties, majority-gates, majority-outs, majority-room, majority-is, rooms)
 
 -- ---- 3 to 6 and 25
@@ -147,6 +148,15 @@ counted_outs n p gates outs text w = w.outs_are
 pub ruleset checking_plan = (rules, plan-importable, plan-refused, plan-further, counted_outs)
 
 -- ---- the first pass
+-- ---- what `ok_or` answers
+pub some_of : (m : Result Counts Refusal) (r : Option Counts) (x : Refusal) (c : Counts) → m ≡ ok_or r x → m ≡ Ok c → r ≡ Some c
+some_of m (Some d) x c k e = cc
+some_of m None x c k e = absurd (let z : ◌≡◌ {A = ℕ} 0 1 = cc in omega arith)
+
+none_of : (r : Option Counts) (x q : Refusal) → ok_or r x ≡ Err q → (r ≡ None) × (q ≡ x)
+none_of (Some d) x q e = absurd (let z : ◌≡◌ {A = ℕ} 0 1 = cc in omega arith)
+none_of None x q e = (refl, cc)
+
 module _ (n : ℕ) (text : List ℕ) (r : Option Counts) (h : Surveyed (survey_of n text) r) where
   text-wrong : r ≡ None → text_ok n text ≡ false
   unfolding survey_of
@@ -172,6 +182,10 @@ module _ (n : ℕ) (text : List ℕ) (r : Option Counts) (h : Surveyed (survey_o
     pub measure-wrong : r ≡ None → MeasuredAs text n t p (Err refusal.CircuitText)
     unfolding measure text_checks first_of and_then need measured_of Ready
     measure-wrong e = record { eq = rw (text-wrong e); ready = tt }
+
+    module _ (m : Result Counts Refusal) (em : m ≡ ok_or r refusal.CircuitText) where
+      pub measure-none : (q : Refusal) → m ≡ Err q → MeasuredAs text n t p (Err q)
+      measure-none q e = let k = none_of r refusal.CircuitText q (sym em ∙ e) in rw k.1 (measure-wrong k.0)
 
     module _ (c : Counts) (e : r ≡ Some c) where
       ok : text_ok n text ≡ true
@@ -214,7 +228,7 @@ module _ (n : ℕ) (text : List ℕ) (r : Option Counts) (h : Surveyed (survey_o
             ready = record { gates_few = few; outs_few = few_outs; outs_are = (text-counts c e).2; text = importable q };
           }
 
-pub ruleset measuring = (rules, measure-wrong, measure-large, measure-counted, measure-refused, measure-counts)
+pub ruleset measuring = (rules, measure-large, measure-counted, measure-refused, measure-counts)
 
 -- ---- the call
 measured_told : (c : Checked) (gates outs : ℕ) (m : Result Counts Refusal) → m ≡ measured_of c gates outs → refusal_of m ≡ c

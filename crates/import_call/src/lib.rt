@@ -14,45 +14,61 @@ ghost use Rattle.import_call.specs.Measures.{Counted, MeasuredAs};
 use import_check::Counts;
 use plan::Refusal;
 
-// Refusal 25 of the file that would be written, which is written in a room of its own where 2t is not below n.
-#[tactic(auto, using(crate::proofs::Calls::majorities))]
-fn check_majority(text: &[u8], n: u32, t: u32, p: u32, c: Counts) -> Result<(), Refusal>
-    requires importable { Importable text.now n t p c.gates }
-    requires outs_value { c.outs ≡ output_wires (circuit_of text.now) }
-    ensures { result ≡ majority_check (import_file n t p text.now) }
-{
-    if 2 * t < n {
-        return Ok(());
-    }
-    let size = plan_file::file_size(plan_file::version_for(p), n as usize, c.gates, c.outs);
-    let mut room = [0u8; 10524];
-    import_write::write_text(text, n, t, p, c.gates, &mut room[..size]);
-    plan_reading::check_majority(&room[..size])
+// A circuit to import: its text, how many parties there are, the threshold and the prime.
+#[derive(Clone, Copy)]
+struct Circuit<'a> {
+    text: &'a [u8],
+    n: u32,
+    t: u32,
+    p: u32,
 }
 
-// Refusals 3 to 6 and 25 of the plan.
-#[tactic(auto, using(crate::proofs::Calls::checking_plan))]
-fn check_plan(text: &[u8], n: u32, t: u32, p: u32, c: Counts) -> Result<(), Refusal>
-    requires { Counted text.now n p c.gates c.outs }
-    ensures { result ≡ and_then (first_of (content_checks n t p c.gates c.outs)) (majority_check (import_file n t p text.now)) }
-{
-    plan_file::check(n, t, p, c.gates, c.outs)?;
-    check_majority(text, n, t, p, c)
+impl Circuit<'_> {
+    // Refusal 25 of the file that would be written, which is written in a room of its own where 2t is not below n.
+    #[tactic(auto, using(crate::proofs::Calls::majorities))]
+    fn check_majority(&self, c: Counts) -> Result<(), Refusal>
+        requires importable { Importable self.now.text.now self.now.n self.now.t self.now.p c.gates }
+        requires outs_value { c.outs ≡ output_wires (circuit_of self.now.text.now) }
+        ensures { result ≡ majority_check (import_file self.now.n self.now.t self.now.p self.now.text.now) }
+    {
+        let Circuit { text, n, t, p } = *self;
+        if 2 * t < n {
+            return Ok(());
+        }
+        let size = plan_file::file_size(plan_file::version_for(p), n as usize, c.gates, c.outs);
+        let mut room = [0u8; 10524];
+        import_write::write_text(text, n, t, p, c.gates, &mut room[..size]);
+        plan_reading::check_majority(&room[..size])
+    }
+
+    // Refusals 3 to 6 and 25 of the plan.
+    #[tactic(auto, using(crate::proofs::Calls::checking_plan))]
+    fn check_plan(&self, c: Counts) -> Result<(), Refusal>
+        requires { Counted self.now.text.now self.now.n self.now.p c.gates c.outs }
+        ensures { result ≡ and_then (first_of (content_checks self.now.n self.now.t self.now.p c.gates c.outs)) (majority_check (import_file self.now.n self.now.t self.now.p self.now.text.now)) }
+    {
+        plan_file::check(self.n, self.t, self.p, c.gates, c.outs)?;
+        self.check_majority(c)
+    }
+
+    // Refusals 23, 24 and those of the plan: the plan's gates and outs.
+    fn measure(&self) -> Result<Counts, Refusal>
+        ensures { MeasuredAs self.now.text.now self.now.n self.now.t self.now.p result }
+    {
+        let c = import_check::survey_text(self.text, self.n as usize).ok_or(Refusal::CircuitText)?;
+        if 1024 < c.gates || 64 < c.outs {
+            return Err(Refusal::TooLarge);
+        }
+        self.check_plan(c)?;
+        Ok(c)
+    }
 }
 
 // Checks a text and what is given beside it, refusals 23, 24 and those of its plan: the plan's gates and outs.
-// As it is: the C interface gives n, t and p one by one, and they stand so in the clauses too: a struct of them would be made and taken apart.
 pub fn measure_text(text: &[u8], n: u32, t: u32, p: u32) -> Result<Counts, Refusal>
     ensures { MeasuredAs text.now n t p result }
 {
-    let Some(c) = import_check::survey_text(text, n as usize) else {
-        return Err(Refusal::CircuitText);
-    };
-    if 1024 < c.gates || 64 < c.outs {
-        return Err(Refusal::TooLarge);
-    }
-    check_plan(text, n, t, p, c)?;
-    Ok(c)
+    Circuit { text, n, t, p }.measure()
 }
 
 // Imports a circuit: `plan` takes the file of its plan. Answers the first of refusals 23, 24, those of the plan and 19 that falls on it, and

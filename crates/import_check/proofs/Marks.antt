@@ -84,6 +84,7 @@ pub marks-filled : (inputs : ℕ) (d₀ d : List ℕ) (i : ℕ) → length d ≤
 unfolding marks_of
 marks-filled inputs d₀ d i l h = filled (λ w. cond (ltb w inputs) 1 0) d₀ d i l h
 
+-- As it is: answers name this set, since the check leaves their goals open by `using` alone.
 pub ruleset marking = (rules, not-true, not-false, set_past, set_at, can-past, can_at, inv_not, inv_on, fill_none, fill_next, marks-filled)
 
 -- the wire that a fitting gate sets is there
@@ -136,4 +137,5 @@ module _ (s : List ℕ) (at gates : ℕ) (marks₀ : List ℕ) (e size k : ℕ) 
     unfolding sized_from
     size-more q = rw (← h.rest, none, ← ef, lt-leb (length s) from q)
 
+-- As it is: answers name this set, since the check leaves their goals open by `using` alone.
 pub ruleset sizing = (rules, not-true, not-false, fit_inside, size_begin, size_none, size-not, size-on, size_is, size-more)

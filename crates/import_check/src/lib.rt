@@ -15,6 +15,8 @@ pub struct Counts {
 }
 
 // ---- marks: 1 for each wire that is set
+// As it is: a mark is a byte, as the definitions have it; of a list of `bool` each contract would state what bytes stand for it. is_set and can_set
+// differ in the mark: one function of wire and mark would be no plainer, since each of its five calls would write 1 or 0 for what the names say.
 
 fn is_set(marks: &[u8], w: usize) -> bool
     ensures { result ≡ is_set marks.now w }
@@ -76,8 +78,8 @@ fn sized(s: &[u8], at: usize, gates: usize, marks: &mut [u8]) -> Option<usize>
 
 // The same with the inputs marked before them, in a room for the marks of more wires.
 #[tactic(auto, using(crate::proofs::Counting::placing))]
-fn sized_in(s: &[u8], h: Head, room: &mut [u8]) -> Option<usize>
-    requires { record { gates : h.gates < 65536; wires : h.wires < 65536; room : length room.old ≡ 65536 } }
+fn sized_in(s: &[u8], h: Head, room: &mut [u8; 65536]) -> Option<usize>
+    requires { record { gates : h.gates < 65536; wires : h.wires < 65536 } }
     ensures { result ≡ sized_from h.gates s.now h.at (marks_of h.inputs h.wires) 0 }
 {
     let marks = &mut room[..h.wires];

@@ -118,15 +118,12 @@ module _ (plan : Plan) (some : 2 ≤ plan.p) where
   unfolding values_from
   step x xs env vs v ys t e = rw (t, e, append_assoc env vs (v ∷ []))
 
-  at_front : (env vs : List ℕ) (w : ℕ) → w < length env → get_or (env ++ vs) w 0 ≡ get_or env w 0
-  at_front env vs w l = get_or-append env vs 0 w l
-
   at_new : (env vs : List ℕ) (i g : ℕ) → g ≡ length env + i → get_or (env ++ vs) g 0 ≡ get_or vs i 0
   at_new env vs i g e = rw e (get_or-append-add env vs i 0)
 
   module _ (env : List ℕ) (a b x y : ℕ) (la : a < length env) (lb : b < length env) (ea : get_or env a 0 ≡ x) (eb : get_or env b 0 ≡ y) where
     two : (vs : List ℕ) → (get_or (env ++ vs) a 0 ≡ x) × (get_or (env ++ vs) b 0 ≡ y)
-    two vs = (at_front env vs a la ∙ ea, at_front env vs b lb ∙ eb)
+    two vs = (get_or-append env vs 0 a la ∙ ea, get_or-append env vs 0 b lb ∙ eb)
 
     xor-values : (xs : List Gate) (ys : List ℕ)
         → values_from plan (Multiply a b ∷ Scale (length env) (p - 2) ∷ Add a b ∷ Add (length env + 2) (length env + 1) ∷ xs) (env ++ []) ys
@@ -150,7 +147,7 @@ module _ (plan : Plan) (some : 2 ≤ plan.p) where
       → values_from plan (Scale a (p - 1) ∷ Offset (length env) 1 ∷ xs) (env ++ []) ys ≡ values_from plan xs (env ++ (mul p x (p - 1) ∷ add p (mul p x (p - 1)) 1 ∷ [])) ys
   unfolding inputs_taken input_owners_at gate_value
   inv-values env a x la ea xs ys =
-      step (Scale a (p - 1)) (Offset (length env) 1 ∷ xs) env [] (mul p x (p - 1)) ys refl (ap (λ (k : ℕ). mul p k (p - 1)) (at_front env [] a la ∙ ea))
+      step (Scale a (p - 1)) (Offset (length env) 1 ∷ xs) env [] (mul p x (p - 1)) ys refl (ap (λ (k : ℕ). mul p k (p - 1)) (get_or-append env [] 0 a la ∙ ea))
       ∙ step (Offset (length env) 1) xs env (mul p x (p - 1) ∷ []) (add p (mul p x (p - 1)) 1) ys refl (ap (λ (k : ℕ). add p k 1) (at_new env (mul p x (p - 1) ∷ []) 0 (length env) (omega arith)))
 
   -- ---- a circuit's gate

@@ -1,4 +1,6 @@
 // Lines, fields and numbers of a text, read from a place on.
+// As it is: text and place are two parameters, and a reader answers the place past what it read, as the definitions do. A reader that moves a place in a
+// struct would be no plainer: its contract would say where it stood, where it stands, and that the text is the same.
 #![tactic(auto, using(crate::proofs::Reading::reading))]
 
 ghost use Rattle.std.specs.Prelude.{◌≡◌, ◌+◌, ◌<◌, ◌≤◌, length};
@@ -21,6 +23,8 @@ fn is_gap(b: u8) -> bool
 }
 
 // The first place from `at` on with neither a blank nor a line feed.
+// As it is: the loop of `text_decimals::blanks` with another test. One loop that takes the test would be no plainer: both functions would stay for their
+// contracts, and each would state its test again for the closure.
 pub fn line_start(s: &[u8], at: usize) -> usize
     ensures { result ≡ line_start s.now at }
 {

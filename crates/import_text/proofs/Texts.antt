@@ -9,8 +9,9 @@ use mathlib.Core.Logic.{◌⊎◌, inl, inr}
 use mathlib.Core.Bool.{Bool, true, false, cond, ◌&&◌, ◌||◌}
 use mathlib.Core.List.{List, [], ◌∷◌, map}
 use native.Mathlib.Omega.{arith}
-use borrow.Author.Tests.{eq-eqb, ne_eqb, eqb-true, eqb-false, le-leb, lt-leb, leb-true}
-use lib.Dec.{eqb, leb}
+use borrow.Author.Tests.{ne_eqb, eqb-true, le-leb, lt-leb, leb-true}
+use Rattle.std.proofs.Math.Bool.{and-false, or-false}
+use lib.Dec.{eqb, leb, eqb-suc-suc}
 use lib.ListN.{length, get_or, take, drop, length-map}
 use Rattle.numbers.proofs.Truth.{both_true}
 use Rattle.text_decimals.specs.Reading.{blanks_end}
@@ -26,21 +27,6 @@ use Rattle.import_text.specs.Scanning.{ended, first_ended, two_named, one_named,
 use Rattle.import_text.proofs.Words.{word_over, word-other, word_more, word-is, word-lines}
 
 -- ---- truth values
-and-false : (t : Bool) → (t && false) ≡ false
-and-false true = refl
-and-false false = refl
-
-or-false : (t : Bool) → (t || false) ≡ t
-or-false true = refl
-or-false false = refl
-
-eqb-suc : (a b : ℕ) → eqb (suc a) (suc b) ≡ eqb a b
-eqb-suc a b = by (eqb a b) refl
-  where
-    by : (t : Bool) → eqb a b ≡ t → eqb (suc a) (suc b) ≡ t
-    by true e = eq-eqb (suc a) (suc b) (ap suc (eqb-true a b e))
-    by false e = ne_eqb (suc a) (suc b) (λ q. eqb-false a b e (omega (arith, q)))
-
 letter : (x : ℕ) → leb 33 x ≡ true → is_gap x ≡ false
 unfolding is_gap
 letter x l = rw (ne_eqb x 32 (λ e. omega (arith, leb-true 33 x l, e)), ne_eqb x 10 (λ e. omega (arith, leb-true 33 x l, e)))
@@ -75,12 +61,12 @@ numbers-line s (suc k) at (f ∷ fs) ls h = by (is_number f) refl (numbers-line 
       end = r.end;
       is = unfold numbers_at in unfold with_number in unfold following in rw (number-some s at ls f fs h e, r.is);
       next = r.next;
-      count = eqb-suc (length fs) k ∙ r.count;
+      count = eqb-suc-suc (length fs) k ∙ r.count;
       numbers = unfold every in rw e r.numbers;
     })
     by true e (inr r) = inr (record {
       is = unfold numbers_at in unfold with_number in unfold following in rw (number-some s at ls f fs h e, r.is);
-      not = unfold every in rw (e, eqb-suc (length fs) k) r.not;
+      not = unfold every in rw (e, eqb-suc-suc (length fs) k) r.not;
     })
 
 -- ---- a line of values
@@ -116,11 +102,11 @@ values-line s at (f ∷ fs) ls h = by (is_number f) refl
           is = unfold values_at in unfold with_number in unfold summed in rw (number-some s at ls f fs h e, r.is) (let z : 0 + sum_of (map decimal_of fs) ≡ sum_of (map decimal_of fs) = omega arith in rw z);
           each = r.is;
           next = r.next;
-          ok = unfold values_line in unfold every in rw (e, r.numbers, eqb-suc (length fs) (decimal_of f)) r.count;
+          ok = unfold values_line in unfold every in rw (e, r.numbers, eqb-suc-suc (length fs) (decimal_of f)) r.count;
         })
         there (inr r) = inr (record {
           is = unfold values_at in unfold with_number in unfold summed in rw (number-some s at ls f fs h e, r.is);
-          not = unfold values_line in unfold every in rw (e, eqb-suc (length fs) (decimal_of f)) r.not;
+          not = unfold values_line in unfold every in rw (e, eqb-suc-suc (length fs) (decimal_of f)) r.not;
         })
 
 -- ---- a gate's line
@@ -415,11 +401,11 @@ gates_lines s (suc k) at (l ∷ ls) h = by (gate-line s (line_start s at) l ls (
         rest : GatesThere s k r.end ls ⊎ NoGates s k r.end ls → GatesThere s (suc k) at (l ∷ ls) ⊎ NoGates s (suc k) at (l ∷ ls)
         rest (inl q) = inl (record {
           is = unfold gates_at in unfold with_gate in unfold gate_then in rw (r.is, q.is);
-          ok = unfold every in rw (eqb-suc (length ls) k, r.ok) q.ok;
+          ok = unfold every in rw (eqb-suc-suc (length ls) k, r.ok) q.ok;
         })
         rest (inr q) = inr (record {
           is = unfold gates_at in unfold with_gate in unfold gate_then in rw (r.is, q.is);
-          not = unfold every in rw (eqb-suc (length ls) k, r.ok) q.not;
+          not = unfold every in rw (eqb-suc-suc (length ls) k, r.ok) q.not;
         })
 
 -- ---- the whole text
@@ -455,7 +441,7 @@ format-is : (l0 l1 l2 : List (List ℕ)) (rest : List (List (List ℕ)))
 unfolding format_ok
 format-is l0 l1 l2 rest =
     let three : 3 + number_in l0 0 ≡ suc (suc (suc (number_in l0 0))) = omega arith in
-    rw (le-leb 3 (length (l0 ∷ l1 ∷ l2 ∷ rest)) (omega arith), three, eqb-suc (suc (suc (length rest))) (suc (suc (number_in l0 0))), eqb-suc (suc (length rest)) (suc (number_in l0 0)), eqb-suc (length rest) (number_in l0 0))
+    rw (le-leb 3 (length (l0 ∷ l1 ∷ l2 ∷ rest)) (omega arith), three, eqb-suc-suc (suc (suc (length rest))) (suc (suc (number_in l0 0))), eqb-suc-suc (suc (length rest)) (suc (number_in l0 0)), eqb-suc-suc (length rest) (number_in l0 0))
 
 format_first : (l0 : List (List ℕ)) (ls : List (List (List ℕ))) → contents_line l0 ≡ false → format_ok (l0 ∷ ls) ≡ false
 format_first l0 [] e = unfold format_ok in refl

@@ -1,4 +1,6 @@
 // A circuit in Bristol Fashion: its text, line by line.
+// As it is: text and place are two parameters, and a reader answers the place past what it read, as the definitions do. A reader that moves a place in a
+// struct would be no plainer: its contract would say where it stood, where it stands, and that the text is the same.
 #![tactic(auto, using(crate::proofs::Scanned::scanning))]
 
 ghost use Rattle.std.specs.Prelude.{◌≡◌, ◌<◌};
@@ -55,6 +57,8 @@ fn two_wires(s: &[u8], at: usize) -> Option<(LogicGate, usize)>
     two_named(s, i, a as usize, b as usize, c as usize)
 }
 
+// As it is: two_wires reads three numbers, one_wire and gate_at two. One reader of N numbers would be no plainer: a loop that fills an array, with an
+// invariant on what it has read, in place of a line by `?` for each number.
 fn one_wire(s: &[u8], at: usize) -> Option<(LogicGate, usize)>
     ensures { result ≡ one_wire s.now at }
 {

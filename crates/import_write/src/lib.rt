@@ -8,7 +8,7 @@ ghost use Rattle.plan.specs.declared.Gate.TheVariants.{Input};
 ghost use Rattle.plan_file.specs.Bodies.{written, gates_bytes, out_bytes, place_in, out_start, file_size, version_for, file_of_plan};
 ghost use Rattle.import_text.specs.Circuits.{circuit_of};
 ghost use Rattle.import_circuit.specs.Wires.{output_wires};
-ghost use Rattle.import_circuit.specs.Making.{input_gates, xor_gates, made_by, gates_from, held_after, outs_of, circuit_bodies};
+ghost use Rattle.import_circuit.specs.Making.{input_gates, made_by, gates_from, held_after, outs_of, circuit_bodies};
 ghost use Rattle.import_write.specs.Second.{numbers_in, gates_in, all_gates, Putting, Filing, Importable};
 
 use import_text::{Head, LogicGate};
@@ -19,7 +19,7 @@ use plan::{Gate, Output};
 fn held_at(held: &[usize], w: usize) -> usize
     ensures { result ≡ get_or held.now w 0 }
 {
-    if w < held.len() { held[w] } else { 0 }
+    held.get(w).copied().unwrap_or(0)
 }
 
 fn hold(held: &mut [usize], w: usize, v: usize)
@@ -41,55 +41,48 @@ fn hold_own(held: &mut [usize])
 
 // ---- a gate of the circuit, in a version's layout
 
-fn put_pair(out: &mut [u8], version: usize, g: usize, x: Gate, y: Gate)
-    requires { g ≤ 6 * 65536 }
-    ensures { out.new ≡ written out.old (place_in version g) (gates_bytes version (x ∷ y ∷ [])) }
+// Gates in a row, from gate g on.
+fn put_row(out: &mut [u8], version: usize, g: usize, gates: &[Gate])
+    requires { record { g : g ≤ 5 * 65536; few : length gates.now ≤ 4 } }
+    ensures { out.new ≡ written out.old (place_in version g) (gates_bytes version gates.now) }
 {
-    plan_file::put_gate(out, version, g, x);
-    plan_file::put_gate(out, version, g + 1, y);
-}
-
-// a + b - 2ab
-fn put_xor(out: &mut [u8], version: usize, g: usize, p: u64, a: usize, b: usize)
-    requires { record { g : g ≤ 5 * 65536; p : 2 ≤ p } }
-    ensures { out.new ≡ written out.old (place_in version g) (gates_bytes version (xor_gates p g a b)) }
-{
-    put_pair(out, version, g, Gate::Multiply(a, b), Gate::Scale(g, p - 2));
-    put_pair(
-        out,
-        version,
-        g + 2,
-        Gate::Add(a, b),
-        Gate::Add(g + 2, g + 1),
-    );
+    for (i, x) in gates.iter().enumerate() {
+        plan_file::put_gate(out, version, g + i, *x);
+    }
 }
 
 // The gates that a gate of the circuit makes, from gate g on.
+// As it is: p is a number that is at least 2, and no `Field`: the text's check leaves none, and one made here would search for a divisor once more.
 fn put_made(out: &mut [u8], version: usize, g: usize, p: u64, held: &[usize], x: LogicGate)
     requires { record { g : g ≤ 5 * 65536; p : 2 ≤ p } }
     ensures { out.new ≡ written out.old (place_in version g) (gates_bytes version (made_by p g held.now x)) }
 {
     match x {
-        LogicGate::Xor(a, b, _) => put_xor(out, version, g, p, held_at(held, a), held_at(held, b)),
-        LogicGate::And(a, b, _) => plan_file::put_gate(
-            out,
-            version,
-            g,
-            Gate::Multiply(held_at(held, a), held_at(held, b)),
-        ),
-        LogicGate::Inv(a, _) => put_pair(
-            out,
-            version,
-            g,
-            Gate::Scale(held_at(held, a), p - 1),
-            Gate::Offset(g, 1),
-        ),
+        // a + b - 2ab
+        LogicGate::Xor(a, b, _) => {
+            let (a, b) = (held_at(held, a), held_at(held, b));
+            let product = Gate::Multiply(a, b);
+            let less_two = Gate::Scale(g, p - 2);
+            let sum = Gate::Add(a, b);
+            let both = Gate::Add(g + 2, g + 1);
+            put_row(out, version, g, &[product, less_two, sum, both]);
+        }
+        LogicGate::And(a, b, _) => {
+            let product = Gate::Multiply(held_at(held, a), held_at(held, b));
+            put_row(out, version, g, &[product]);
+        }
+        LogicGate::Inv(a, _) => {
+            let less = Gate::Scale(held_at(held, a), p - 1);
+            put_row(out, version, g, &[less, Gate::Offset(g, 1)]);
+        }
     }
 }
 
 // ---- the gates
 
 // The gates of as many gates' lines, from gate `start` on.
+// As it is: the text, the table of what holds each wire, the buffer and its version go from function to function one by one. A struct of them would hold
+// two `&mut`, so that each clause would name table and buffer at the start and at the end of the call.
 #[tactic(auto, using(crate::proofs::Bytes::gating))]
 fn put_gates(
     s: &[u8],
@@ -152,15 +145,18 @@ fn put_inputs(s: &[u8], at: usize, values: usize, version: usize, out: &mut [u8]
 
 // ---- the outs
 
-// As many outs after the gates, the first of which is of wire w: they go to party 1.
+// The outs after the gates, of these wires: they go to party 1.
 #[tactic(auto, using(crate::proofs::Bytes::outing))]
-fn put_outs(out: &mut [u8], version: usize, gates: usize, held: &[usize], w: usize, count: usize)
-    requires { record { gates : gates ≤ 1024; wire : w < 65536; count : count ≤ 64 } }
-    ensures { out.new ≡ written out.old (out_start version gates 0) (flat_map out_bytes (outs_of held.now w count)) }
+fn put_outs(out: &mut [u8], version: usize, gates: usize, wires: &[usize])
+    requires { record { gates : gates ≤ 1024; count : length wires.now ≤ 64 } }
+    ensures { out.new ≡ written out.old (out_start version gates 0) (flat_map out_bytes (outs_of wires.now 0 (length wires.now))) }
 {
-    for o in 0..count {
-        let wire = held_at(held, w + o);
-        plan_file::put_out(out, version, gates, o, Output { party: 1, wire });
+    for (o, wire) in wires.iter().enumerate() {
+        let x = Output {
+            party: 1,
+            wire: *wire,
+        };
+        plan_file::put_out(out, version, gates, o, x);
     }
 }
 
@@ -196,13 +192,14 @@ fn put_file(
     let version = plan_file::version_for(p);
     plan_file::put_contents(out, version, n, t, p, gates, h.outputs);
     put_all(s, h, version, p as u64, held, out);
-    put_outs(out, version, gates, held, h.wires - h.outputs, h.outputs);
+    put_outs(out, version, gates, &held[h.wires - h.outputs..]);
     let points = plan_file::out_start(version, gates, h.outputs);
     plan_file::put_first_points(out, version, points, n as usize);
 }
 
 // Writes the plan of a text that was checked: a plan of so many gates.
-// As it is: n, t and p come one by one from the C interface, and what holds each wire stands in fixed memory, for there is no heap.
+// As it is: n and t are parameters of this function and of put_file alone, which hands them on to the plan's contents: a struct of n, t and p would be taken
+// apart at once. The table of what holds each wire stands in fixed memory, for there is no heap.
 #[tactic(auto, using(crate::proofs::Whole::importing))]
 pub fn write_text(s: &[u8], n: u32, t: u32, p: u32, gates: usize, out: &mut [u8])
     requires { record { text : Importable s.now n t p gates; room : length out.old ≡ file_size (version_for p) n gates (output_wires (circuit_of s.now)) } }

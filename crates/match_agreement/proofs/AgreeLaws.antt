@@ -8,7 +8,7 @@
 use Rattle.std.proofs.Common.{Option, Some, None, Ok, Err}
 use mathlib.Core.Path.{◌≡◌, refl, sym, ap, ap₂, ◌∙◌}
 use mathlib.Core.Bool.{Bool, true, false, not, ◌||◌}
-use mathlib.Core.List.{List, ◌∷◌, ◌++◌, flat_map}
+use mathlib.Core.List.{List, [], ◌∷◌, ◌++◌, flat_map}
 use Prim.Native.Nat.{ℕ, suc, ◌+◌, ◌*◌, ◌<◌, ◌≤◌}
 use native.Mathlib.Nat.{add-zero}
 use native.Mathlib.Omega.{arith}
@@ -36,7 +36,8 @@ use Rattle.plan.specs.File.{gate_at, out_at, plan_of}
 use Rattle.plan.specs.Planned.{Planned}
 use Rattle.plan_coalition.specs.Coalitions.{set_fits, set_ok, in_set}
 use Rattle.plan.proofs.Planned.{plan_p, plan_n, plan_t, plan_gates, plan_gate, plan_outs, plan_out}
-use Rattle.plan.proofs.Refusals.{and_then_passed, and_then_refused, first_of-append, passed_both, passed-need, passed_found}
+use Rattle.plan.proofs.Refusals.{and_then_passed, and_then_refused, and_then_end, first_of-append, need-true, need-false, passed_both, passed-need, passed_found}
+use Rattle.seat_admission.specs.Parts.{list_checks}
 use Rattle.run_protocol.specs.Ideal.{inputs_taken, values}
 use Rattle.run_protocol.proofs.Values.{values_length}
 use Rattle.match_agreement.specs.MatchCalls.{inputs_agree, outs_agree, pair_checks}
@@ -77,29 +78,35 @@ module _ (bs : List ℕ) (h : Header) (set : ℕ) (xs ys : List ℕ) (k : Planne
           unfolding input_checks first_of and_then need unless_found
           pair-inputs he = rw (set_is, hs, ← ec, ← ea, ha, ← eb, hb, plan_p k, ← ef, hf, ← ee, he)
 
+-- As it is: answers name this set, since the check leaves their goals open by `using` alone.
 pub ruleset inputting = (rules, not-true, not-false, pair_set, pair-first, pair-second, pair-first-over, pair-second-over, pair-inputs)
 
 -- ---- the coins and the buffer
-module _ (bs : List ℕ) (h : Header) (coins : List ℕ) (room : ℕ) (k : Planned bs h) (d : ℕ) (ed : d ≡ coin_count (plan_of bs)) where
-  module _ (a : Bool) (ea : a ≡ holds_count d coins) where
-    pub pair-coins : a ≡ false → Err refusal.CoinCount ≡ first_of (coin_checks (plan_of bs) coins room)
-    unfolding coin_checks first_of and_then need
-    pair-coins ha = rw (← ed, ← ea, ha)
+module _ (bs : List ℕ) (h : Header) (coins : List ℕ) (room : ℕ) (k : Planned bs h) (d : ℕ) (ed : d ≡ coin_count (plan_of bs)) (c : Checked)
+    (ec : c ≡ first_of (list_checks refusal.CoinCount refusal.CoinValue h.field.p d coins)) where
+  coins_listed : ℕ → ℕ → Checked
+  coins_listed p n = first_of (list_checks refusal.CoinCount refusal.CoinValue p n coins)
 
-    module _ (ha : a ≡ true) (f : Option ℕ) (ef : f ≡ first_over h.field.p (numbers coins)) where
-      pub pair-coins-over : (i : ℕ) → f ≡ Some i → Err (refusal.CoinValue i) ≡ first_of (coin_checks (plan_of bs) coins room)
-      unfolding coin_checks first_of and_then need unless_found
-      pair-coins-over i hf = rw (← ed, ← ea, ha, plan_p k, ← ef, hf)
+  coin-parts : first_of (coin_checks (plan_of bs) coins room) ≡ and_then c (need refusal.BufferLength (eqb room (width * d)))
+  unfolding coin_checks list_checks coins_listed first_of and_then
+  coin-parts =
+      first_of-append (list_checks refusal.CoinCount refusal.CoinValue (plan_of bs).p (coin_count (plan_of bs)) coins) (need refusal.BufferLength (eqb room (width * coin_count (plan_of bs))) ∷ [])
+      ∙ ap (and_then (coins_listed (plan_of bs).p (coin_count (plan_of bs)))) (and_then_end (need refusal.BufferLength (eqb room (width * coin_count (plan_of bs)))))
+      ∙ ap (λ (p : ℕ). and_then (coins_listed p (coin_count (plan_of bs))) (need refusal.BufferLength (eqb room (width * coin_count (plan_of bs))))) (plan_p k)
+      ∙ ap (λ (n : ℕ). and_then (coins_listed h.field.p n) (need refusal.BufferLength (eqb room (width * n)))) (sym ed)
+      ∙ ap (λ (x : Checked). and_then x (need refusal.BufferLength (eqb room (width * d)))) (sym ec)
 
-      pub pair-room : f ≡ None → (room ≡ width * d → ⊥) → Err refusal.BufferLength ≡ first_of (coin_checks (plan_of bs) coins room)
-      unfolding coin_checks first_of and_then need unless_found
-      pair-room hf hr = rw (← ed, ← ea, ha, plan_p k, ← ef, hf, ne_eqb room (width * d) hr)
+  pub pair_coins : (r : Refusal) → c ≡ Err r → Err r ≡ first_of (coin_checks (plan_of bs) coins room)
+  pair_coins r e = sym (coin-parts ∙ and_then_refused c _ r e)
 
-      pub pair-buffer : f ≡ None → room ≡ width * d → Ok tt ≡ first_of (coin_checks (plan_of bs) coins room)
-      unfolding coin_checks first_of and_then need unless_found
-      pair-buffer hf hr = rw (← ed, ← ea, ha, plan_p k, ← ef, hf, eq-eqb room (width * d) hr)
+  module _ (e : c ≡ Ok tt) where
+    pub pair_room : (room ≡ width * d → ⊥) → Err refusal.BufferLength ≡ first_of (coin_checks (plan_of bs) coins room)
+    pair_room n = sym (coin-parts ∙ and_then_passed c _ e ∙ need-false refusal.BufferLength (eqb room (width * d)) (ne_eqb room (width * d) n))
 
-pub ruleset coining = (rules, not-true, not-false, pair-coins, pair-coins-over, pair-room, pair-buffer)
+    pub pair_buffer : room ≡ width * d → Ok tt ≡ first_of (coin_checks (plan_of bs) coins room)
+    pair_buffer q = sym (coin-parts ∙ and_then_passed c _ e ∙ need-true refusal.BufferLength (eqb room (width * d)) (eq-eqb room (width * d) q))
+
+pub ruleset coining = (rules, not-true, not-false, pair_coins, pair_room, pair_buffer)
 
 -- ---- one gate's input
 not_or : (a b : Bool) → a ≡ true → (not a || b) ≡ b
@@ -239,6 +246,7 @@ module _ (bs : List ℕ) (set : ℕ) (xs ys : List ℕ) where
         nothing (input_agrees (plan_of bs) set xs ys) (input_count (plan_of bs)) next w.seek
         (omega (arith, w.taken, ap (λ (gs : List Gate). length (flat_map (input_owners_at (plan_of bs)) gs)) all))
 
+-- As it is: answers name this set, since the check leaves their goals open by `using` alone.
 pub ruleset comparing = (rules, not-true, not-false, compare-none, compare-off, compare_on, compare-done)
 
 -- ---- the search for an out that differs

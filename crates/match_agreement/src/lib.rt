@@ -48,7 +48,7 @@ impl InputPair<'_> {
     fn check_inputs(&self) -> Result<(), Refusal>
         ensures { result ≡ first_of (input_checks (plan_of self.now.plan.now.bytes.now) self.now.set self.now.first.now self.now.second.now) }
     {
-        if !plan_coalition::set_ok(self.plan.header, self.set) {
+        if !plan_coalition::set_ok(self.plan.header.n, self.plan.header.t, self.set) {
             return Err(Refusal::Coalition);
         }
         let count = plan_counts::input_count(self.plan);
@@ -74,12 +74,7 @@ impl InputPair<'_> {
         ensures { result ≡ first_of (coin_checks (plan_of self.now.plan.now.bytes.now) coins.now room) }
     {
         let count = plan_counts::coin_count(self.plan);
-        if !numbers::count_is(coins, count) {
-            return Err(Refusal::CoinCount);
-        }
-        if let Some(i) = numbers::first_over(coins, self.plan.header.field.p) {
-            return Err(Refusal::CoinValue(i));
-        }
+        seat_admission::check_coins(coins, count, self.plan.header.field.p)?;
         if room != numbers::WIDTH * count {
             return Err(Refusal::BufferLength);
         }

@@ -13,6 +13,7 @@ use native.Mathlib.Omega.{arith}
 use borrow.Author.Tests.{eq-eqb, ne_eqb}
 use lib.ListN.{length, get_or, take, drop, replicate, length-append, length-replicate, length-drop, length-map}
 use lib.Seq.{length-take-le}
+use Rattle.std.proofs.lemmas.Bool.Decides.{same_from_decides}
 use Rattle.numbers.specs.Bytes.{all_below}
 use Rattle.numbers.proofs.Below.{all_below_at, at-all_below, map_below}
 use Rattle.field.specs.Mod.{add, mul, sub}
@@ -59,14 +60,10 @@ in_member set (suc k) d j on lo hi =
     later true l h = rw (ne_eqb d j (λ e. omega arith)) h
     later false l h = h
 
-both_ways : (a b : Bool) → (a ≡ true → b ≡ true) → (b ≡ true → a ≡ true) → a ≡ b
-both_ways true b f g = sym (f refl)
-both_ways false true f g = g refl
-both_ways false false f g = refl
-
 pub member_is : (set d : ℕ) → 1 ≤ d → d ≤ 16 → is_member d (members set) ≡ in_set set d
 unfolding members
-member_is set d lo hi = both_ways (is_member d (members_from set 1 16)) (in_set set d) (member_in set 16 d 1) (λ on. in_member set 16 d 1 on lo (omega arith))
+member_is set d lo hi =
+    same_from_decides (is_member d (members_from set 1 16)) (in_set set d) (member_in set 16 d 1, λ on. in_member set 16 d 1 on lo (omega arith)) (λ e. e, λ e. e)
 
 -- ---- the points of the members
 module _ (bs : List ℕ) (h : Header) (k : Planned bs h) (set : ℕ) (points : List ℕ) (e : points ≡ (plan_of bs).points) where

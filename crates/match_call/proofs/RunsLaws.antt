@@ -219,13 +219,10 @@ module _ (bs : List ℕ) (h : Header) (set : ℕ) (xs ys coins : List ℕ) where
     pub match-same : length out ≡ length out₀
     match-same = m.out_long
 
+-- As it is: answers name this set, since the check leaves their goals open by `using` alone.
 pub ruleset matching_runs = (rules, match_none, match-fits, match-turn, match-next, match-done, match-same)
 
 -- ---- delta's coefficients
-pub members_count : (points : List ℕ) (set k : ℕ) (room : List ℕ) → take k room ≡ member_points points set → k ≡ length (members set) → k ≡ length (take k room)
-unfolding member_points
-members_count points set k room e l = l ∙ sym (ap length e ∙ length-map (members set) _)
-
 drop-tail : (f r : List ℕ) → 0 < length f → drop 1 (f ++ r) ≡ tail f ++ r
 drop-tail [] r l = absurd (omega arith)
 drop-tail (x ∷ f) r l = refl
@@ -248,16 +245,16 @@ module _ (bs : List ℕ) (h : Header) (p : Planned bs h) (d : List ℕ) (size : 
   pub delta_count : h.t + 1 ≡ length (take (h.t + 1) d)
   delta_count = sym (length-take-le (h.t + 1) d (omega (arith, p.threshold, p.n-high)))
 
-  module _ (set : ℕ) (ok : set_ok (plan_of bs) set ≡ true) (points : List ℕ) (is : points ≡ (plan_of bs).points) (k : ℕ) (room : List ℕ) (e : take k room ≡ member_points points set) where
-    pub members-room : length (take k room) + 1 ≤ length (take (h.t + 1) d)
+  module _ (set : ℕ) (ok : set_ok (plan_of bs) set ≡ true) (points : List ℕ) (is : points ≡ (plan_of bs).points) (ms : List ℕ) (e : ms ≡ member_points points set) where
+    pub members-room : length ms + 1 ≤ length (take (h.t + 1) d)
     unfolding member_points
     members-room = rw (e, length-map, ← delta_count) (omega (arith, set_few (plan_of bs) set ok, plan_t p))
 
     pub delta-tail :
-        (ys : List ℕ) → ys ≡ padded (length (take (h.t + 1) d)) (delta h.field.p (take k room)) → take (h.t + 1 - 1) (drop 1 (ys ++ drop (h.t + 1) d)) ≡ delta_tail (plan_of bs) set
+        (ys : List ℕ) → ys ≡ padded (length (take (h.t + 1) d)) (delta h.field.p ms) → take (h.t + 1 - 1) (drop 1 (ys ++ drop (h.t + 1) d)) ≡ delta_tail (plan_of bs) set
     delta-tail ys ey =
         let f : List ℕ = padded (h.t + 1) (delta h.field.p (member_points points set)) in
-        let same : ys ≡ f = ey ∙ ap₂ (λ (n : ℕ) (ms : List ℕ). padded n (delta h.field.p ms)) (sym delta_count) e in
+        let same : ys ≡ f = ey ∙ ap₂ (λ (n : ℕ) (xs : List ℕ). padded n (delta h.field.p xs)) (sym delta_count) e in
         let long : 0 < length f = padded_long (h.t + 1) (delta h.field.p (member_points points set)) (omega (arith, length-delta h.field.p (member_points points set))) in
         let all : delta_tail (plan_of bs) set ≡ tail f = tail_of bs h p set points is in
         let n : h.t + 1 - 1 ≡ h.t = omega arith in
@@ -266,11 +263,11 @@ module _ (bs : List ℕ) (h : Header) (p : Planned bs h) (d : List ℕ) (size : 
         ∙ take_at (tail f) (drop (h.t + 1) d) h.t (sym (ap length all) ∙ length-tail (plan_of bs) (valid bs p.passes) set ok ∙ plan_t p)
         ∙ sym all
 
-pub points_small : (bs : List ℕ) (h : Header) (set k : ℕ) (points room : List ℕ) → Planned bs h → points ≡ (plan_of bs).points → take k room ≡ member_points points set
-    → all_below h.field.p (take k room) ≡ true
-points_small bs h set k points room p is e = rw e (members-below bs h p set points is)
+pub points_small : (bs : List ℕ) (h : Header) (set : ℕ) (points ms : List ℕ) → Planned bs h → points ≡ (plan_of bs).points → ms ≡ member_points points set
+    → all_below h.field.p ms ≡ true
+points_small bs h set points ms p is e = rw e (members-below bs h p set points is)
 
-pub ruleset finding_delta = (rules, planned-ready, points-counted, members_count, delta_count, members-room, points_small, delta-tail)
+pub ruleset finding_delta = (rules, planned-ready, points-counted, delta_count, members-room, points_small, delta-tail)
 
 -- ---- the whole
 pub equip : (bs : List ℕ) (h : Header) (set : ℕ) (xs ys coins : List ℕ) (room : ℕ) (es : List ℕ) → Planned bs h → Matchable bs h set xs ys coins room → es ≡ delta_tail (plan_of bs) set → Equipped bs h set es

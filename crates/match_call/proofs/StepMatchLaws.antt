@@ -317,6 +317,7 @@ module _ (bs : List ℕ) (h : Header) (set : ℕ) (es : List ℕ) (w : Equipped 
   turn-matched next out' r same moves =
       gate-matched bs h set es w g gate turn.gate eg at coins out turn.lent (drop next (numbers xs)) (drop next (numbers ys)) before after out' r same moves turn.first turn.second
 
+-- As it is: answers name this set, since the check leaves their goals open by `using` alone.
 pub ruleset matching_coins = (rules, es-long, es-below, equipped-sized, turn-kept, turn-major, turn_low, turn-lent, turn-matched)
 
 -- ---- both runs
@@ -352,4 +353,5 @@ step-matched plan ms n gate g xs ys cs at before after out before' after' out' r
   coins = new.coins;
 }
 
+-- As it is: answers name this set, since the check leaves their goals open by `using` alone.
 pub ruleset matching_step = (rules, turn-both, step-matched)

@@ -11,9 +11,11 @@ ghost use Rattle.match_call.specs.MatchSteps.{delta_tail, Equipped, Turn, NewCoi
 use match_agreement::InputPair;
 use match_moves::Mover;
 use plan::PlanFile;
+use run_dealings::Way;
 use run_tables::RunPlan;
 
 // What a matching is worked from: the plan with what its dealings need, the set, both lists, the first run's coins, and delta's coefficients.
+// As it is: no `InputPair`, which would bring the plan a second time, with a ghost field more to say that the two plans are one.
 #[derive(Clone, Copy)]
 struct Matcher<'a> {
     run: RunPlan<'a>,
@@ -25,20 +27,22 @@ struct Matcher<'a> {
     ghost equipped: { Equipped run.plan.now.bytes.now run.plan.now.header set delta.now },
 }
 
+// A gate, with the places of its first input in both lists and of its first coin.
+#[derive(Clone, Copy)]
+struct Place {
+    gate: usize,
+    input: usize,
+    coin: usize,
+}
+
+// As it is: both tables and `out` go together from `work` to `move_coins`. Of a struct of their `&mut` each clause would have to say too that the
+// buffers are the same ones.
 impl Matcher<'_> {
-    // The new coins of gate g, which takes its inputs from place `next` of both lists on; the place after them.
+    // A gate's new coins; the place after them.
     #[tactic(auto, using(crate::proofs::StepMatchLaws::matching_coins))]
-    fn move_coins(
-        &self,
-        g: usize,
-        next: usize,
-        before: &[u64],
-        after: &[u64],
-        at: usize,
-        out: &mut [u8],
-    ) -> usize
-        requires { Turn self.now.run.plan.now.bytes.now self.now.run.plan.now.header g self.now.first.now self.now.second.now before.now after.now at self.now.coins.now out.old }
-        ensures { NewCoins (plan_of self.now.run.plan.now.bytes.now) (members self.now.set) self.now.run.plan.now.header.n (gate_at self.now.run.plan.now.bytes.now g) g (drop next (numbers self.now.first.now)) (drop next (numbers self.now.second.now)) (drop at (numbers self.now.coins.now)) at before.now after.now out.old out.new result }
+    fn move_coins(&self, at: Place, before: &[u64], after: &[u64], out: &mut [u8]) -> usize
+        requires { Turn self.now.run.plan.now.bytes.now self.now.run.plan.now.header at.gate self.now.first.now self.now.second.now before.now after.now at.coin self.now.coins.now out.old }
+        ensures { NewCoins (plan_of self.now.run.plan.now.bytes.now) (members self.now.set) self.now.run.plan.now.header.n (gate_at self.now.run.plan.now.bytes.now at.gate) at.gate (drop at.input (numbers self.now.first.now)) (drop at.input (numbers self.now.second.now)) (drop at.coin (numbers self.now.coins.now)) at.coin before.now after.now out.old out.new result }
     {
         let mover = Mover {
             header: self.run.plan.header,
@@ -47,46 +51,33 @@ impl Matcher<'_> {
             first: self.first,
             second: self.second,
             coins: self.coins,
+            before,
+            after,
         };
-        mover.gate(g, self.run.plan.gate(g), next, before, after, at, out)
+        mover.gate(at.gate, self.run.plan.gate(at.gate), at.input, at.coin, out)
     }
 
-    // Gate g's row in both tables: the first run's with the coins, the second run's with the new ones. No piece is seen, so none is dealt.
+    // A gate's row in both tables: the first run's with the coins, the second run's with the new ones.
     #[tactic(auto, using(crate::proofs::StepMatchLaws::matching_step))]
-    fn step_both(
-        &self,
-        g: usize,
-        next: usize,
-        new: &[u8],
-        at: usize,
-        before: &mut [u64],
-        after: &mut [u64],
-    )
-        requires { Both self.now.run.plan.now.bytes.now self.now.run.plan.now.header g self.now.first.now self.now.second.now before.old after.old at self.now.coins.now new.now }
-        ensures stepped { Stepped (plan_of self.now.run.plan.now.bytes.now) self.now.run.plan.now.header.n (gate_at self.now.run.plan.now.bytes.now g) g (drop next (numbers self.now.first.now)) (drop at (numbers self.now.coins.now)) before.old before.new }
-        ensures stepped_2 { Stepped (plan_of self.now.run.plan.now.bytes.now) self.now.run.plan.now.header.n (gate_at self.now.run.plan.now.bytes.now g) g (drop next (numbers self.now.second.now)) (drop at (numbers new.now)) after.old after.new }
+    fn step_both(&self, at: Place, new: &[u8], before: &mut [u64], after: &mut [u64])
+        requires { Both self.now.run.plan.now.bytes.now self.now.run.plan.now.header at.gate self.now.first.now self.now.second.now before.old after.old at.coin self.now.coins.now new.now }
+        ensures stepped { Stepped (plan_of self.now.run.plan.now.bytes.now) self.now.run.plan.now.header.n (gate_at self.now.run.plan.now.bytes.now at.gate) at.gate (drop at.input (numbers self.now.first.now)) (drop at.coin (numbers self.now.coins.now)) before.old before.new }
+        ensures stepped_2 { Stepped (plan_of self.now.run.plan.now.bytes.now) self.now.run.plan.now.header.n (gate_at self.now.run.plan.now.bytes.now at.gate) at.gate (drop at.input (numbers self.now.second.now)) (drop at.coin (numbers new.now)) after.old after.new }
     {
         self.run
-            .step(false, g, self.first, next, self.coins, at, before);
-        self.run.step(false, g, self.second, next, new, at, after);
+            .step(at.gate, self.first, at.input, self.coins, at.coin, before);
+        self.run
+            .step(at.gate, self.second, at.input, new, at.coin, after);
     }
 
-    // Gate g of both runs: its new coins, and its row in both tables. Answers the place after the coins.
+    // A gate of both runs: its new coins, and its row in both tables. Answers the place after the coins.
     #[tactic(auto, using(crate::proofs::StepMatchLaws::matching_step))]
-    fn step(
-        &self,
-        g: usize,
-        next: usize,
-        at: usize,
-        before: &mut [u64],
-        after: &mut [u64],
-        out: &mut [u8],
-    ) -> usize
-        requires { Turn self.now.run.plan.now.bytes.now self.now.run.plan.now.header g self.now.first.now self.now.second.now before.old after.old at self.now.coins.now out.old }
-        ensures { Matched (plan_of self.now.run.plan.now.bytes.now) (members self.now.set) self.now.run.plan.now.header.n (gate_at self.now.run.plan.now.bytes.now g) g (drop next (numbers self.now.first.now)) (drop next (numbers self.now.second.now)) (drop at (numbers self.now.coins.now)) at before.old after.old out.old before.new after.new out.new result }
+    fn step(&self, at: Place, before: &mut [u64], after: &mut [u64], out: &mut [u8]) -> usize
+        requires { Turn self.now.run.plan.now.bytes.now self.now.run.plan.now.header at.gate self.now.first.now self.now.second.now before.old after.old at.coin self.now.coins.now out.old }
+        ensures { Matched (plan_of self.now.run.plan.now.bytes.now) (members self.now.set) self.now.run.plan.now.header.n (gate_at self.now.run.plan.now.bytes.now at.gate) at.gate (drop at.input (numbers self.now.first.now)) (drop at.input (numbers self.now.second.now)) (drop at.coin (numbers self.now.coins.now)) at.coin before.old after.old out.old before.new after.new out.new result }
     {
-        let end = self.move_coins(g, next, before, after, at, out);
-        self.step_both(g, next, out, at, before, after);
+        let end = self.move_coins(at, before, after, out);
+        self.step_both(at, out, before, after);
         end
     }
 
@@ -100,7 +91,12 @@ impl Matcher<'_> {
         let mut at = 0;
         let mut next = 0;
         for g in 0..self.run.plan.header.gates {
-            at = self.step(g, next, at, before, after, out);
+            let place = Place {
+                gate: g,
+                input: next,
+                coin: at,
+            };
+            at = self.step(place, before, after, out);
             next += run_ideal::inputs_taken(self.run.plan, g);
         }
     }
@@ -117,8 +113,8 @@ fn delta(plan: &PlanFile, set: u16) -> [u64; 15]
     let points = seat_messages::points_of(plan);
     let mut room = [0u64; 16];
     let mut delta = [0u64; 15];
-    let k = match_moves::members(set, &points[..n], &mut room);
-    sharing_delta::vanishing(plan.header.field, &room[..k], &mut delta[..e]);
+    let members = match_moves::members(set, &points[..n], &mut room);
+    sharing_delta::vanishing(plan.header.field, members, &mut delta[..e]);
     delta
 }
 
@@ -137,7 +133,13 @@ pub fn matched(lists: &InputPair, coins: &[u8], out: &mut [u8])
     let delta = delta(lists.plan, lists.set);
     let points = seat_messages::points_of(lists.plan);
     let matcher = Matcher {
-        run: RunPlan::new(lists.plan, &points[..h.n], &mut rows, &mut weights),
+        run: RunPlan::new(
+            lists.plan,
+            Way::Sum,
+            &points[..h.n],
+            &mut rows,
+            &mut weights,
+        ),
         set: lists.set,
         first: lists.first,
         second: lists.second,

@@ -120,4 +120,5 @@ module _ (h : Header) (gate : Gate) (es : List ℕ) (coalition next at : ℕ) (x
   unfolding moved_blocks
   moved_none i m low = rw (none_dealt h gate i m low) (record { front = rw (mul-zero, add-zero, append-nil); place = omega (arith, mul-zero h.t) })
 
+-- As it is: answers name this set, since the check leaves their goals open by `using` alone.
 pub ruleset moving_gate = (rules, multiply_majority, left-stands, right-stands, input-lent, multiply-lent, input_small, moved-input, moved-multiply, moved_none)

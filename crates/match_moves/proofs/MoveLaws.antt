@@ -247,4 +247,5 @@ module _ (p coalition : ℕ) (es ss zs coins : List ℕ) (at m : ℕ) (old : Lis
           place = there;
         }
 
+-- As it is: answers name this set, since the check leaves their goals open by `using` alone.
 pub ruleset moving_blocks = (rules, entry_below, block_none, block-lent, block-fits, block-next, block-done)

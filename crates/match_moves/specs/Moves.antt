@@ -29,8 +29,8 @@ moved_blocks p t set es (d ∷ ds) ss zs cs =
     moved p (change_of p (in_set set d) (get_or ss 0 0) (get_or zs 0 0)) es (take t cs)
     ++ moved_blocks p t set es ds (drop 1 ss) (drop 1 zs) (drop t cs)
 
--- what coins are moved by: t coefficients, the inputs of both runs and the coins of the first, elements all
-pub record Movable (p t : ℕ) (es xs ys coins : List ℕ) : Type 0 where
+-- what coins are moved by: t coefficients and the inputs of both runs, elements all
+pub record Movable (p t : ℕ) (es xs ys : List ℕ) : Type 0 where
   pub long : length es ≡ t
   pub coefficients : all_below p es ≡ true
   pub first : all_below p (numbers xs) ≡ true

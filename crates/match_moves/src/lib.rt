@@ -24,24 +24,25 @@ fn point(points: &[u64], i: usize) -> u64
     if i <= points.len() { points[i - 1] } else { 0 }
 }
 
-// The points of a set's members, ascending, in front of the room; how many they are.
+// The points of a set's members, ascending, which stand in front of the room.
+// As it is: the room is lent, since there is no heap.
 #[tactic(auto, using(crate::proofs::MoveLaws::gathering))]
-pub fn members(set: u16, points: &[u64], room: &mut [u64]) -> usize
+pub fn members<'a>(set: u16, points: &[u64], room: &'a mut [u64]) -> &'a [u64]
     requires { length room.old ≡ 16 }
-    ensures { record { eq : take result room.new ≡ member_points points.now set; count : result ≡ length (members set); le : result ≤ 16 } }
+    ensures { record { eq : result.now ≡ member_points points.now set; count : length result.now ≡ length (members set); le : length result.now ≤ 16 } }
 {
     let mut k = 0;
     for i in 1..17 {
         room[k] = point(points, i);
         k += usize::from(plan_coalition::is_member(set, i));
     }
-    k
+    &room[..k]
 }
 
 // ---- the coins
 
 // How a matching moves the coins of a run: from a first list of inputs to a second one, by delta's coefficients of X to X^t, but for the coins of
-// a set's members.
+// a set's members. `before` and `after` are both runs' tables of shares.
 #[derive(Clone, Copy)]
 pub struct Mover<'a> {
     pub header: Header,
@@ -50,12 +51,14 @@ pub struct Mover<'a> {
     pub first: &'a [u8],
     pub second: &'a [u8],
     pub coins: &'a [u8],
+    pub before: &'a [u64],
+    pub after: &'a [u64],
     pub ghost sized: { Sized header },
-    pub ghost movable: { Movable header.field.p header.t delta.now first.now second.now coins.now },
+    pub ghost movable: { Movable header.field.p header.t delta.now first.now second.now },
 }
 
 impl Mover<'_> {
-    // By how much a dealer's coins move: the change of what it deals; a member's stay.
+    // By how much a dealer's coins move: the change of what it deals. A member's coins stay.
     #[tactic(auto, using(crate::proofs::MoveLaws::changing))]
     fn change(&self, dealer: usize, before: u64, after: u64) -> u64
         requires { Below2 self.now.header.field.p after before }
@@ -69,6 +72,7 @@ impl Mover<'_> {
     }
 
     // Writes a dealing's coins, moved by d times delta's coefficients, with one remainder for each.
+    // As it is: `at` is a place of both lists, of the coins that are read and of those that are written, so no struct of one of them can hold it.
     #[tactic(auto, using(crate::proofs::MoveLaws::moving))]
     fn shift(&self, d: u64, at: usize, out: &mut [u8])
         requires d_lt_p { d < self.now.header.field.p }
@@ -84,7 +88,7 @@ impl Mover<'_> {
         }
     }
 
-    // Those of a dealer that deals one number in the first run and another in the second.
+    // Writes the moved coins of a dealer that deals one number in the first run and another in the second.
     #[tactic(auto, using(crate::proofs::MoveLaws::moving_dealing))]
     fn dealing(&self, dealer: usize, before: u64, after: u64, at: usize, out: &mut [u8])
         requires before_lt_p { (before < self.now.header.field.p) × (after < self.now.header.field.p) }
@@ -94,7 +98,9 @@ impl Mover<'_> {
         self.shift(self.change(dealer, before, after), at, out);
     }
 
-    // Those of the dealings by parties 1, 2, .. of these numbers in both runs; the place after them.
+    // Writes the moved coins of the dealings by parties 1, 2, .. of these numbers in both runs; answers the place after them.
+    // As it is: one index into both lists. `before.iter().zip(after).enumerate()` was tried: that loop has no index for the invariant to name, and
+    // with the count of the turns taken in its place the check didn't find that a turn's numbers are the lists' entries there.
     #[tactic(auto, using(crate::proofs::MoveLaws::moving_blocks))]
     fn dealings(&self, before: &[u64], after: &[u64], at: usize, out: &mut [u8]) -> usize
         requires lengths { (length before.now ≤ 15) × (length after.now ≡ length before.now) }
@@ -123,47 +129,31 @@ impl Mover<'_> {
         run_dealings::products(h.field, h.n, h.t + h.t + 1, a, b, table)
     }
 
-    // Those of a multiply gate's dealings, by both runs' tables.
+    // Writes the moved coins of a multiply gate's dealings; answers the place after them.
     #[tactic(auto, using(crate::proofs::GateMoveLaws::moving_products))]
-    fn multiply(
-        &self,
-        a: usize,
-        b: usize,
-        before: &[u64],
-        after: &[u64],
-        at: usize,
-        out: &mut [u8],
-    ) -> usize
+    fn multiply(&self, a: usize, b: usize, at: usize, out: &mut [u8]) -> usize
         requires t_bound { 2 * self.now.header.t < self.now.header.n }
-        requires rowed { (Rowed self.now.header.field.p self.now.header.n a before.now) × (Rowed self.now.header.field.p self.now.header.n b before.now) }
-        requires rowed_2 { (Rowed self.now.header.field.p self.now.header.n a after.now) × (Rowed self.now.header.field.p self.now.header.n b after.now) }
+        requires rowed { (Rowed self.now.header.field.p self.now.header.n a self.now.before.now) × (Rowed self.now.header.field.p self.now.header.n b self.now.before.now) }
+        requires rowed_2 { (Rowed self.now.header.field.p self.now.header.n a self.now.after.now) × (Rowed self.now.header.field.p self.now.header.n b self.now.after.now) }
         requires lent { Lent self.now.header.field.p at (length self.now.delta.now * (self.now.header.t + self.now.header.t + 1)) self.now.coins.now out.old }
-        ensures { Advanced at (length self.now.delta.now * (self.now.header.t + self.now.header.t + 1)) (moved_blocks self.now.header.field.p (length self.now.delta.now) self.now.set self.now.delta.now (tab suc (self.now.header.t + self.now.header.t + 1)) (products_of self.now.header.field.p self.now.header.n (self.now.header.t + self.now.header.t + 1) a b before.now) (products_of self.now.header.field.p self.now.header.n (self.now.header.t + self.now.header.t + 1) a b after.now) (drop at (numbers self.now.coins.now))) out.old out.new result }
+        ensures { Advanced at (length self.now.delta.now * (self.now.header.t + self.now.header.t + 1)) (moved_blocks self.now.header.field.p (length self.now.delta.now) self.now.set self.now.delta.now (tab suc (self.now.header.t + self.now.header.t + 1)) (products_of self.now.header.field.p self.now.header.n (self.now.header.t + self.now.header.t + 1) a b self.now.before.now) (products_of self.now.header.field.p self.now.header.n (self.now.header.t + self.now.header.t + 1) a b self.now.after.now) (drop at (numbers self.now.coins.now))) out.old out.new result }
     {
         let m = self.header.t + self.header.t + 1;
-        let first = self.products(a, b, before);
-        let second = self.products(a, b, after);
+        let first = self.products(a, b, self.before);
+        let second = self.products(a, b, self.after);
         self.dealings(&first[..m], &second[..m], at, out)
     }
 
-    // Those of a gate, which takes its inputs from place `next` of both lists on. No plan file has a gate of the last two kinds.
+    // Writes the moved coins of a gate, which takes its inputs from place `next` of both lists on; answers the place after them. No plan file has a
+    // gate of the last two kinds.
     #[tactic(auto, using(crate::proofs::GateMoveLaws::moving_gate))]
-    pub fn gate(
-        &self,
-        g: usize,
-        gate: Gate,
-        next: usize,
-        before: &[u64],
-        after: &[u64],
-        at: usize,
-        out: &mut [u8],
-    ) -> usize
+    pub fn gate(&self, g: usize, gate: Gate, next: usize, at: usize, out: &mut [u8]) -> usize
         requires gate_value { (gate_ok self.now.header.n self.now.header.field.p g gate ≡ true) × (kind_of gate ≤ 5) }
         requires gate_value_2 { majority_ok self.now.header.n self.now.header.t gate ≡ true }
-        requires standing { Standing self.now.header.field.p self.now.header.n g before.now }
-        requires standing_2 { Standing self.now.header.field.p self.now.header.n g after.now }
+        requires standing { Standing self.now.header.field.p self.now.header.n g self.now.before.now }
+        requires standing_2 { Standing self.now.header.field.p self.now.header.n g self.now.after.now }
         requires lent { Lent self.now.header.field.p at (self.now.header.t * length (dealers_in self.now.header gate)) self.now.coins.now out.old }
-        ensures { Advanced at (self.now.header.t * length (dealers_in self.now.header gate)) (moved_blocks self.now.header.field.p self.now.header.t self.now.set self.now.delta.now (dealers_in self.now.header gate) (dealt_in self.now.header gate before.now (drop next (numbers self.now.first.now))) (dealt_in self.now.header gate after.now (drop next (numbers self.now.second.now))) (drop at (numbers self.now.coins.now))) out.old out.new result }
+        ensures { Advanced at (self.now.header.t * length (dealers_in self.now.header gate)) (moved_blocks self.now.header.field.p self.now.header.t self.now.set self.now.delta.now (dealers_in self.now.header gate) (dealt_in self.now.header gate self.now.before.now (drop next (numbers self.now.first.now))) (dealt_in self.now.header gate self.now.after.now (drop next (numbers self.now.second.now))) (drop at (numbers self.now.coins.now))) out.old out.new result }
     {
         match gate {
             Gate::Input(party) => {
@@ -172,7 +162,7 @@ impl Mover<'_> {
                 self.dealing(party, x, y, at, out);
                 at + self.delta.len()
             }
-            Gate::Multiply(a, b) => self.multiply(a, b, before, after, at, out),
+            Gate::Multiply(a, b) => self.multiply(a, b, at, out),
             _ => at,
         }
     }

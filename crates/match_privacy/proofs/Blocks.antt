@@ -41,11 +41,6 @@ length_owners [] = refl
 length_owners (d ∷ ds) =
     length-append (replicate d.coins d.dealer) (owners_of ds) ∙ ap₂ ◌+◌ (length-replicate d.coins d.dealer) (length_owners ds)
 
-pub total-append : (ds es : List Dealing) → total (ds ++ es) ≡ total ds + total es
-unfolding total
-total-append [] es = omega arith
-total-append (d ∷ ds) es = omega (arith, total-append ds es)
-
 -- each takes k coins or more
 abbrev pub Ample : ℕ → List Dealing → Type 0
 Ample k [] = Unit

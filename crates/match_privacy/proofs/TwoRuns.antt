@@ -43,7 +43,7 @@ use Rattle.run_protocol.proofs.Gates.{before-suc, spent-as}
 use Rattle.run_protocol.proofs.Sound.{Wide, RightTriples, triples-past, dealers_distinct, dealers-length, openers, after_shared}
 use Rattle.match_privacy.proofs.Blocks.{total, Ample, matched_block, blocks-cons, length_block}
 use Rattle.match_privacy.proofs.Cuts.{total_pairs}
-use Rattle.match_privacy.proofs.Matches.{dealings_cut, ample_first, ample_less, taken, taken_is, Step, gate_step}
+use Rattle.match_privacy.proofs.Matches.{dealings_cut, ample_first, ample_less, taken, taken_is}
 use Rattle.match_privacy.proofs.Bijections.{coins_of, coins-cons, past_matched}
 use Rattle.match_privacy.proofs.Deals.{spare, spare-member, deal-differ, Agree, agree-tab, firsts, firsts-tab, pieces-same, dot_differ, sum-differ, InputsAgree, inputs_here, inputs_rest}
 use Rattle.match_privacy.proofs.CutPrivate.{CutSame, cut_same}
@@ -175,9 +175,6 @@ module _ (plan : Plan) (valid : Valid plan) (ms : List ℕ) (few : length ms ≤
   module _ (g : Gate) (gs : List Gate) (s s' : Before) (vals vals' us us' : List ℕ) (r : Runs (g ∷ gs) s s' vals vals' us us') where
     pub here-enough : taken plan g ≤ length s.coins
     here-enough = omega (arith, coins-cons plan g gs, r.enough)
-
-    pub here-step : Step plan ms g s s'
-    here-step = gate_step plan valid ms few g s s' r.wide.0 here-enough r.canon
 
   -- ---- dealings of t coins by the parties from 1 on
   abbrev D : ℕ → List Dealing

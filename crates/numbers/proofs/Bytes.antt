@@ -18,6 +18,8 @@ use native.Mathlib.Omega.{arith}
 use borrow.Author.Tests.{leb-true, leb-false, ltb-true, ltb-false, eqb-true, eqb-false, eq-eqb, le-leb, lt-leb}
 use lib.Dec.{leb, ltb, eqb}
 use lib.ListN.{length, get_or, take, drop, set, length-append, length-take, length-drop, length-set, take-append-drop, get_or-append, get_or-eq_default}
+use Rattle.std.specs.Int.{to_le_bytes}
+use mir.Syntax.{w64}
 use lib.Seq.{ext_get_or, get_or-take, get_or-drop, get_or-set_same, get_or-set_other, set_out, take_all, take-nil, drop-nil, take-append-add, drop-append-add, get_or-append-add, take_at, drop_at, drop-cons, length-take-le, sets, length-sets, sets-eq}
 use mir.Syntax.{w8}
 use mir.Val.{Fits}
@@ -85,6 +87,16 @@ pub length-bytes_from : (w v : ℕ) → length (bytes_from w v) ≡ w
 unfolding bytes_from
 length-bytes_from zero v = refl
 length-bytes_from (suc w) v = ap suc (length-bytes_from w (v / 256))
+
+-- a number's low bytes
+pub low_bytes : (w x : ℕ) → w ≤ 4 → take w (to_le_bytes w64 x) ≡ bytes_from w x
+unfolding bytes_from
+low_bytes zero x l = refl
+low_bytes (suc zero) x l = refl
+low_bytes (suc (suc zero)) x l = refl
+low_bytes (suc (suc (suc zero))) x l = let e : x / 65536 ≡ x / 256 / 256 = omega arith in rw e
+low_bytes (suc (suc (suc (suc zero)))) x l = let e : x / 65536 ≡ x / 256 / 256 = omega arith in let f : x / 16777216 ≡ x / 256 / 256 / 256 = omega arith in rw (e, f)
+low_bytes (suc (suc (suc (suc (suc w))))) x l = absurd (omega arith)
 
 number_shift : (w x : ℕ) (l : List ℕ) (at : ℕ) → number_at w (x ∷ l) (suc at) ≡ number_at w l at
 number_shift w x l at = number_same w (x ∷ l) l (suc at) at (λ k m. let e : suc at + k ≡ suc (at + k) = omega arith in ap (λ (j : ℕ). get_or (x ∷ l) j 0) e)

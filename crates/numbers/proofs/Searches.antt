@@ -1,9 +1,10 @@
 -- Searches: the first index at which a test fails.
 --     Seeking, seeking                 a loop over the indices: its invariant, and what closes its needs
 --     nothing_passes, passes-nothing   nothing is found exactly where every index passes
+--     find_is                          what `find` finds over the indices
 --     first_failing_lem, failing_first     i is found exactly where it is the first that fails
 -- Assumes nothing.
-use Rattle.std.proofs.Common.{Option, Some, None}
+use Rattle.std.proofs.Common.{Option, Some, None, MatchOption}
 use mathlib.Core.Path.{◌≡◌, refl, sym, ap, subst, ◌∙◌}
 use mathlib.Core.Logic.{⊎_elim}
 use mathlib.Core.Bool.{Bool, true, false, cond, not}
@@ -130,6 +131,14 @@ module _ (ok : ℕ → Bool) where
   pub failing_first : (n i : ℕ) → First ok n i → first_failing ok n ≡ Some i
   unfolding first_failing
   failing_first n i w = from_first n 0 i (record { after = omega arith; within = omega (arith, w.within); fails = w.fails; before = λ k l m. w.before k m })
+
+-- what `find` says of the first of n indices at which the test fails
+pub find_is :
+    (ok : ℕ → Bool) (n : ℕ) (r : Option ℕ)
+    → MatchOption r ((k : ℕ) → 0 ≤ k → k < n → ok k ≡ true) (λ i. (0 ≤ i) × (i < n) × (ok i ≡ false) × ((k : ℕ) → 0 ≤ k → k < i → ok k ≡ true))
+    → r ≡ first_failing ok n
+find_is ok n None h = sym (passes-nothing ok n (λ k l. h k (omega arith) l))
+find_is ok n (Some i) h = sym (failing_first ok n i (record { within = h.1; fails = h.2; before = λ k l. h.3 k (omega arith) l }))
 
 from_ext : (f g : ℕ → Bool) (n a : ℕ) → ((k : ℕ) → a ≤ k → k < a + n → f k ≡ g k) → first_from f n a ≡ first_from g n a
 unfolding first_from

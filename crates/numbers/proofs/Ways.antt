@@ -4,17 +4,23 @@
 use Rattle.std.proofs.Common.{Option, Some, None}
 use mathlib.Core.Path.{◌≡◌, refl, sym, ap, ◌∙◌}
 use mathlib.Core.Bool.{Bool, true, false, cond, ◌&&◌}
-use mathlib.Core.List.{List}
+use mathlib.Core.List.{List, ◌++◌}
 use Prim.Native.Nat.{ℕ, suc, ◌+◌, ◌*◌, ◌/◌, ◌%◌, ◌<◌, ◌≤◌}
 use native.Mathlib.Omega.{arith}
 use borrow.Author.Rules.{rules}
-use borrow.Author.Tests.{eqb-true, eqb-false, eq-eqb, ne_eqb, lt-ltb, le-ltb}
-use lib.Dec.{eqb, ltb}
-use lib.ListN.{length, get_or, drop, set, get_or-eq_default}
-use Rattle.numbers.specs.Bytes.{width, number_at, bytes_from, word_at, numbers, holds_count, stored, first_over, all_below}
-use Rattle.numbers.proofs.Bytes.{numbers-length, get_or-numbers, get_or-numbers-past, word-past, stored_in, stored_past}
-use Rattle.numbers.proofs.Searches.{Seeking, begin, found, passed, nothing}
-use Rattle.numbers.proofs.Below.{all_below_at_first, all_below_next, all_below_over, all_below_end, nothing-first_over}
+use borrow.Author.Tests.{eqb-true, eqb-false, eq-eqb, ne_eqb, le-leb}
+use lib.Dec.{eqb, leb, ltb}
+use borrow.Rule.Slice.PartMut.{put_mid}
+use Rattle.std.proofs.lemmas.Slice.{put_mid-paste}
+use Rattle.std.specs.Int.{to_le_bytes}
+use mir.Syntax.{w8, w64}
+use mir.Val.{Fits}
+use lib.Seq.{sets, sets-eq, take_all}
+use lib.ListN.{length, get_or, take, drop, get_or-eq_default}
+use Rattle.numbers.specs.Tables.{first_failing}
+use Rattle.numbers.specs.Bytes.{width, limit, number_at, bytes_from, word_at, numbers, holds_count, stored, first_over, all_below}
+use Rattle.numbers.proofs.Bytes.{numbers-length, get_or-numbers, get_or-numbers-past, word-past, stored_in, stored_past, length-bytes_from, low_bytes, fits_below, numbers_below}
+use Rattle.numbers.proofs.Below.{at-all_below, all_below-drop, all_below_more, all_below_at_first, all_below_end, nothing-first_over}
 
 -- ---- reads
 pub byte-none : (s : List ℕ) (at : ℕ) → length s ≤ at → 0 ≡ get_or s at 0
@@ -43,15 +49,15 @@ pub number-none : (s : List ℕ) (i : ℕ) → length s / width ≤ i → 0 ≡ 
 number-none s i l = sym (get_or-numbers-past s i l)
 
 -- ---- a write
-pub write-some :
-    (s : List ℕ) (i v a b c d : ℕ) → i < length s / width → a ≡ v % 256 → b ≡ v / 256 % 256 → c ≡ v / 256 / 256 % 256 → d ≡ v / 256 / 256 / 256 % 256
-    → set (set (set (set s (width * i) a) (width * i + 1) b) (width * i + 2) c) (width * i + 3) d ≡ stored s i v
+pub write_some : (s ys : List ℕ) (i v k : ℕ) → i < length s / width → k ≡ width → ys ≡ take 4 (to_le_bytes w64 v) → put_mid (width * i) k s ys ≡ stored s i v
 unfolding bytes_from
-write-some s i v a b c d l ea eb ec ed =
-    let x : width * i + 1 ≡ suc (width * i) = omega arith in
-    let y : width * i + 2 ≡ suc (suc (width * i)) = omega arith in
-    let z : width * i + 3 ≡ suc (suc (suc (width * i))) = omega arith in
-    rw (x, y, z, ea, eb, ec, ed) (stored_in s i v (omega arith))
+write_some s ys i v k l ek ey =
+    let bytes : List ℕ = bytes_from width v in
+    let long : length bytes ≡ width = length-bytes_from width v in
+    let one : put_mid (width * i) k s ys ≡ take (width * i) s ++ take width bytes ++ drop (width * i + width) s
+    = put_mid-paste (width * i) k s ys bytes width (ey ∙ low_bytes width v (omega arith)) (sym ek) (sym long) in
+    let some : sets s (width * i) bytes ≡ take (width * i) s ++ bytes ++ drop (width * i + length bytes) s = sets-eq bytes s (width * i) (omega arith) in
+    one ∙ rw (take_all width bytes (omega arith), ← long) (sym some) ∙ stored_in s i v (omega arith)
 
 pub write-none : (s : List ℕ) (i v : ℕ) → length s / width ≤ i → s ≡ stored s i v
 write-none s i v l = stored_past s i v (omega arith)
@@ -74,37 +80,16 @@ count-whole s k h = same_test (length s / width) k (length s) (width * k) (λ e.
 abbrev pub is_below : List ℕ → ℕ → ℕ → Bool
 is_below s p i = ltb (get_or (numbers s) i 0) p
 
-module _ (s : List ℕ) (p i x : ℕ) (h : Seeking (is_below s p) (length s / width) i) (l : i < length s / width) (e : x ≡ get_or (numbers s) i 0) where
-  pub over_found : p ≤ x → Some i ≡ first_over p (numbers s)
-  unfolding first_over
-  over_found o = rw numbers-length (found (is_below s p) (length s / width) i h l (rw (← e) (le-ltb x p o)))
-
-  pub over_passed : x < p → Seeking (is_below s p) (length s / width) (i + 1)
-  over_passed o = passed (is_below s p) (length s / width) i h l (rw (← e) (lt-ltb x p o))
-
-pub over_nothing : (s : List ℕ) (p i : ℕ) → Seeking (is_below s p) (length s / width) i → length s / width ≤ i → None ≡ first_over p (numbers s)
+pub over_is : (s : List ℕ) (p : ℕ) (r : Option ℕ) → r ≡ first_failing (is_below s p) (length s / width) → r ≡ first_over p (numbers s)
 unfolding first_over
-over_nothing s p i h l = rw numbers-length (nothing (is_below s p) (length s / width) i h l)
+over_is s p r e = rw numbers-length e
 
 -- ---- whether all from a place on are below p
--- the invariant of the loop at i: what is left to test is what there is to test
-pub record Testing (s : List ℕ) (from p i : ℕ) : Type 0 where
-  pub rest : all_below p (drop i (numbers s)) ≡ all_below p (drop from (numbers s))
+-- every number is below the limit
+pub all_fit : (s : List ℕ) (from p : ℕ) → ((i : ℕ) → Fits w8 (get_or s i 0)) → limit ≤ p → leb limit p ≡ all_below p (drop from (numbers s))
+all_fit s from p f l =
+    le-leb limit p l ∙ sym (all_below-drop p from (numbers s) (all_below_more limit p (numbers s) l (at-all_below limit (numbers s) (numbers_below s (fits_below s f)))))
 
-pub test_begin : (s : List ℕ) (from p : ℕ) → Testing s from p from
-test_begin s from p = record { rest = refl }
-
-module _ (s : List ℕ) (from p i : ℕ) (h : Testing s from p i) where
-  pub test_over : (x : ℕ) → i < length s / width → x ≡ get_or (numbers s) i 0 → p ≤ x → false ≡ all_below p (drop from (numbers s))
-  test_over x l e o = all_below_over p (numbers s) i (rw numbers-length l) (omega arith) ∙ h.rest
-
-  pub test_passed : (x : ℕ) → i < length s / width → x ≡ get_or (numbers s) i 0 → x < p → Testing s from p (i + 1)
-  test_passed x l e o = record { rest = all_below_next p (numbers s) i (rw numbers-length l) (omega arith) ∙ h.rest }
-
-  pub test_end : length s / width ≤ i → true ≡ all_below p (drop from (numbers s))
-  test_end l = all_below_end p (numbers s) i (rw numbers-length l) ∙ h.rest
-
--- ---- the same, each compared
 both_assoc : (all t y : Bool) → ((all && t) && y) ≡ (all && cond t y false)
 both_assoc true true y = refl
 both_assoc true false y = refl
@@ -146,4 +131,4 @@ module _ (s : List ℕ) (from p : ℕ) (all : Bool) (i : ℕ) (h : Comparing s f
 pub over_none : (s : List ℕ) (p : ℕ) (t : Bool) → t ≡ all_below p (drop 0 (numbers s)) → t ≡ true → None ≡ first_over p (numbers s)
 over_none s p t e h = sym (nothing-first_over p (numbers s) (sym e ∙ h))
 
-pub ruleset coding = (rules, byte-none, word_some, word_none, number-some, number-none, write-some, write-none, count_left, count-whole, over_found, over_passed, begin, over_nothing, test_begin, test_over, test_passed, test_end, also_yes, also_no, compare_begin, compare_next, compare_end, over_none)
+pub ruleset coding = (rules, byte-none, word_some, word_none, number-some, number-none, write_some, write-none, count_left, count-whole, all_fit, also_yes, also_no, compare_begin, compare_next, compare_end, over_none)

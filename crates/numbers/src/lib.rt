@@ -16,6 +16,7 @@ pub fn byte(s: &[u8], at: usize) -> u64
 }
 
 // The two-byte number at an offset.
+// As it is: `u16::from_le_bytes` takes two bytes that are there, and of these either may be past the end.
 pub fn word(s: &[u8], at: usize) -> u64
     ensures { record { eq : result ≡ word_at s.now at; lt : result < 65536 } }
 {
@@ -32,10 +33,10 @@ fn short(s: &[u8], i: usize) -> u32
     ensures { record { eq : result ≡ get_or (numbers s.now) i 0; lt : result < limit } }
 {
     let at = WIDTH * i;
-    s[at] as u32 + 256 * s[at + 1] as u32 + 65536 * s[at + 2] as u32 + 16777216 * s[at + 3] as u32
+    u32::from_le_bytes([s[at], s[at + 1], s[at + 2], s[at + 3]])
 }
 
-// The same in eight.
+// The same, as a number of eight bytes.
 pub fn number(s: &[u8], i: usize) -> u64
     requires { i < length s.now / width }
     ensures { record { eq : result ≡ get_or (numbers s.now) i 0; lt : result < limit } }
@@ -58,10 +59,7 @@ pub fn write(s: &mut [u8], i: usize, v: u64)
         return;
     }
     let at = WIDTH * i;
-    s[at] = (v % 256) as u8;
-    s[at + 1] = (v / 256 % 256) as u8;
-    s[at + 2] = (v / 256 / 256 % 256) as u8;
-    s[at + 3] = (v / 256 / 256 / 256 % 256) as u8;
+    s[at..at + WIDTH].copy_from_slice(&v.to_le_bytes()[..WIDTH]);
 }
 
 // Whether these bytes are a list of k numbers.
@@ -85,12 +83,7 @@ pub fn first_over(s: &[u8], p: u64) -> Option<usize>
 fn seek_over(s: &[u8], p: u64) -> Option<usize>
     ensures { result ≡ first_over p (numbers s.now) }
 {
-    for i in 0..s.len() / WIDTH {
-        if p <= read(s, i) {
-            return Some(i);
-        }
-    }
-    None
+    (0..s.len() / WIDTH).find(|i| p <= read(s, *i))
 }
 
 // Whether every number of a list from one place on is below p, of four bytes: all are compared, several at once, with no early end.
@@ -108,13 +101,5 @@ fn all_under(s: &[u8], from: usize, p: u32) -> bool
 pub fn all_below(s: &[u8], from: usize, p: u64) -> bool
     ensures { result ≡ all_below p (drop from (numbers s.now)) }
 {
-    if p < 4294967296 {
-        return all_under(s, from, p as u32);
-    }
-    for i in from..s.len() / WIDTH {
-        if p <= read(s, i) {
-            return false;
-        }
-    }
-    true
+    4294967296 <= p || all_under(s, from, p as u32)
 }

@@ -1,9 +1,10 @@
 pub mod Refusals
-pub mod Gates
-pub mod Ways
+pub mod Layouts
 pub mod Planned
 pub mod Valid
 pub mod Worked
 pub mod Wires
 pub mod Parties
 pub mod Counts
+pub mod Ranges
+pub mod Handed

@@ -1,5 +1,5 @@
 -- A plan that passes, with its contents: what the functions over a plan ask of their caller.
-use Rattle.std.specs.Prelude.{Ok, ℕ, ◌+◌, ◌≤◌, ◌<◌, ◌≡◌, List, length}
+use Rattle.std.specs.Prelude.{Ok, ℕ, ◌≤◌, ◌<◌, ◌≡◌, List, length}
 use Rattle.plan.specs.declared.Header.{Header}
 use Rattle.plan.specs.declared.Layout.{Layout}
 use Rattle.plan.specs.File.{layout_of, gate_place, plan_check, n_at, t_at, p_at, gate_count_at, out_count_at}
@@ -26,9 +26,10 @@ pub record Planned (bs : List ℕ) (h : Header) : Type 0 where
   pub outs_low : 1 ≤ h.outs
   pub outs-high : h.outs ≤ 64
 
--- the file has all bytes of gate g, and this layout
-pub record Within (bs : List ℕ) (l : Layout) (g : ℕ) : Type 0 where
+-- the file has all bytes of its first so many gates, and this layout
+pub record Gated (bs : List ℕ) (l : Layout) (count : ℕ) : Type 0 where
   pub is : l ≡ layout_of bs
   pub high : l.head ≤ 32
-  pub few : g < 4294967296
-  pub long : gate_place bs (g + 1) ≤ length bs
+  pub narrow : l.field ≤ 4
+  pub few : count ≤ 4294967296
+  pub long : gate_place bs count ≤ length bs

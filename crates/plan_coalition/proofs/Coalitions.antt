@@ -10,14 +10,15 @@ use mathlib.Core.Bool.{Bool, true, false, not, cond}
 use mathlib.Core.List.Memᴰ
 use mathlib.Core.List.{List, [], ◌∷◌, Memᴰ}
 use Prim.Native.Nat.{ℕ, zero, suc, ◌+◌, ◌-◌, ◌/◌, ◌%◌, ◌^◌, ◌<◌, ◌≤◌}
-use native.Mathlib.Nat.{mod-eq_of_lt, div-eq_of_lt, div-lt_iff_lt-mul, div-one, lt_of_lt_of_le, one-mul, eq-or-lt_of_le}
-use native.Mathlib.Numerals.{add-one}
+use native.Mathlib.Nat.{mod-eq_of_lt, div-eq_of_lt, div-lt_iff_lt-mul, div-one, div-div-eq-div-mul, pow-suc, lt_of_lt_of_le, one-mul, eq-or-lt_of_le}
 use native.Mathlib.Omega.{arith}
 use borrow.Author.Rules.{rules}
-use borrow.Author.Tests.{ltb-true, lt-ltb, le-ltb, lt-leb, ne_eqb, leb-true, leb-false}
+use borrow.Author.Tests.{ltb-true, lt-ltb, le-ltb, lt-leb, eqb-true, eqb-false, ne_eqb, leb-true, leb-false}
 use mir.Syntax.{w16}
 use mir.Val.{Fits, bool_byte}
 use lib.Bits.{bit_and, and_mask}
+use lib.Count.{ones, ones_step}
+use Rattle.std.proofs.lemmas.Nat.{ones-le}
 use lib.Pow.{pow_pos, pow_mono}
 use lib.Dec.{eqb, leb, ltb}
 use lib.ListN.{length}
@@ -48,45 +49,42 @@ pub bit_at : (set i : ℕ) → eqb (bit_and (set / 2 ^ (i - 1)) 1) 1 ≡ in_set 
 unfolding in_set
 bit_at set i = rw (and_mask (set / 2 ^ (i - 1)) 1)
 
--- ---- the loop over the parties: k of those below i are members
-pub record Membering (set k i : ℕ) : Type 0 where
-  pub low : 1 ≤ i
-  pub high : i ≤ 17
-  pub le : k < i
-  pub is : k + length (members_from set i (17 - i)) ≡ length (members set)
-
-pub membering_begin : (set : ℕ) → Membering set 0 1
-unfolding members
-membering_begin set = record { low = omega arith; high = omega arith; le = omega arith; is = omega arith }
-
+-- ---- the members are counted by their bits
 one_more : (t : Bool) (i : ℕ) (xs : List ℕ) → length (cond t (i ∷ xs) xs) ≡ bool_byte t + length xs
 one_more true i xs = omega arith
 one_more false i xs = omega arith
 
-at_most_one : (t : Bool) → bool_byte t ≤ 1
-at_most_one true = omega arith
-at_most_one false = omega arith
+bit_of : (x : ℕ) → bool_byte (eqb (x % 2) 1) ≡ x % 2
+bit_of x = pick (eqb (x % 2) 1) refl
+  where
+    pick : (t : Bool) → eqb (x % 2) 1 ≡ t → bool_byte t ≡ x % 2
+    pick true e = omega (arith, eqb-true (x % 2) 1 e)
+    pick false e = omega (arith, eqb-false (x % 2) 1 e)
 
-module _ (set k i : ℕ) (h : Membering set k i) where
-  pub membering_next : i ≤ 16 → (t : Bool) (o : ℕ) → t ≡ in_set set i → o ≡ bool_byte t → Membering set (k + o) (i + 1)
-  unfolding members_from
-  membering_next l t o et eo =
-      let small : bool_byte t ≤ 1 = at_most_one t in
-      let e : 17 - i ≡ suc (17 - (i + 1)) = omega arith in
-      let s : k + length (members_from set i (suc (17 - (i + 1)))) ≡ length (members set) = rw e at h.is in
-      let m : length (members_from set i (suc (17 - (i + 1)))) ≡ o + length (members_from set (suc i) (17 - (i + 1)))
-      = rw (← et, eo) (one_more t i (members_from set (suc i) (17 - (i + 1)))) in
-      record { low = omega arith; high = omega arith; le = omega (arith, h.le); is = ap (λ (j : ℕ). (k + o) + length (members_from set j (17 - (i + 1)))) (add-one i) ∙ omega arith }
+in_bit : (set j : ℕ) → in_set set (suc j) ≡ eqb (set / 2 ^ j % 2) 1
+unfolding in_set
+in_bit set j = let e : suc j - 1 ≡ j = omega arith in rw e
 
-  pub membering_done : 16 < i → k ≡ length (members set)
-  unfolding members_from
-  membering_done l =
-      let e : 17 - i ≡ 0 = omega (arith, h.high) in
-      let s : k + 0 ≡ length (members set) = rw e at h.is in
-      omega arith
+halved : (set j : ℕ) → set / 2 ^ j / 2 ≡ set / 2 ^ suc j
+halved set j = div-div-eq-div-mul set (2 ^ j) 2 ∙ rw (pow-suc 2 j)
 
-  pub membering-le : k ≤ 16
-  membering-le = omega (arith, h.le, h.high)
+-- of the k parties from j + 1 on, where no party above them is named
+members_from-ones : (set k j : ℕ) → set / 2 ^ j < 2 ^ k → length (members_from set (suc j) k) ≡ ones (set / 2 ^ j)
+unfolding members_from ones
+members_from-ones set zero j l = let z : set / 2 ^ j ≡ 0 = omega arith in rw z
+members_from-ones set (suc k) j l =
+    let e : set / 2 ^ j / 2 ≡ set / 2 ^ suc j = halved set j in
+    let m : set / 2 ^ suc j < 2 ^ k = omega (arith, e, pow-suc 2 k) in
+    one_more (in_set set (suc j)) (suc j) (members_from set (suc (suc j)) k)
+    ∙ rw (members_from-ones set k (suc j) m, in_bit set j, bit_of (set / 2 ^ j), ← e) (sym (ones_step (set / 2 ^ j)))
+
+module _ (set k : ℕ) (f : Fits w16 set) (e : k ≡ ones set) where
+  pub members_ones : k ≡ length (members set)
+  unfolding members
+  members_ones = e ∙ sym (members_from-ones set 16 0 (rw (div-one set) f.fits) ∙ ap ones (div-one set))
+
+  pub members-le : k ≤ 16
+  members-le = omega (arith, e, ones-le 16 set f.fits)
 
 -- ---- a set that a plan admits
 pub above_bit : (set n : ℕ) → n < 16 → not (eqb (set / 2 ^ n) 0) ≡ leb (2 ^ n) set
@@ -117,7 +115,7 @@ pub set_ok_lem : (bs : List ℕ) (h : Header) (set : ℕ) → Planned bs h → s
 unfolding set_ok
 set_ok_lem bs h set p = rw (plan_n p, plan_t p)
 
-pub ruleset bits = (rules, bit_past, bit_first, bit_at, membering_begin, membering_next, membering_done, membering-le, above_bit, above-none, set_above, set_within)
+pub ruleset bits = (rules, bit_past, bit_first, bit_at, members_ones, members-le, above_bit, above-none, set_above, set_within)
 
 -- ---- the members
 -- numbers from a on, each above the one before it

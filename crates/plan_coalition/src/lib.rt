@@ -4,8 +4,6 @@
 ghost use Rattle.std.specs.Prelude.{◌≡◌, ◌≤◌, ◌^◌, leb, length};
 ghost use Rattle.plan_coalition.specs.Coalitions.{in_set, members, set_fits};
 
-use plan::Header;
-
 // Whether party i is in a set; party 0 is read as party 1.
 pub fn is_member(set: u16, i: usize) -> bool
     ensures { result ≡ in_set set i }
@@ -16,11 +14,7 @@ pub fn is_member(set: u16, i: usize) -> bool
 pub fn member_count(set: u16) -> usize
     ensures { record { eq : result ≡ length (members set); le : result ≤ 16 } }
 {
-    let mut k = 0;
-    for i in 1..=16 {
-        k += usize::from(is_member(set, i));
-    }
-    k
+    set.count_ones() as usize
 }
 
 // Whether a set names a party above n, which shows as a bit above n - 1.
@@ -31,8 +25,8 @@ fn names_above(n: usize, set: u16) -> bool
 }
 
 // Whether a set names no party above n and has at most t members.
-pub fn set_ok(h: Header, set: u16) -> bool
-    ensures { result ≡ set_fits h.n h.t set }
+pub fn set_ok(n: usize, t: usize, set: u16) -> bool
+    ensures { result ≡ set_fits n t set }
 {
-    !names_above(h.n, set) && member_count(set) <= h.t
+    !names_above(n, set) && member_count(set) <= t
 }

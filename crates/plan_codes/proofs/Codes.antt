@@ -1,7 +1,6 @@
 -- Refusals as numbers.
 --     code-answered                  the code of an answer that another call gave
 --     value_refused, value_passed    an answer with a value
---     plan-refused                   the answer at a plan that is refused
 --     answered                       the answer of a call that gives a value or its checks' refusal
 --     refused_then, passed_then      checks after those of a plan
 -- Assumes nothing.
@@ -27,14 +26,6 @@ value_refused c q v e = rw e
 pub value_passed : (c : Checked) (v : ℕ) → c ≡ (Ok tt) → value_of c v ≡ 256 * v
 unfolding value_of
 value_passed c v e = rw e
-
--- a refused plan, whatever else is checked
-module _ (bs : List ℕ) (q : Refusal) (first : plan_check bs ≡ Err q) (k : ℕ) (is : k ≡ code_of (Err q)) where
-  pub plan-refused : (checks : List Checked) (v : ℕ) → k ≡ value_of (first_of (plan_checks bs ++ checks)) v
-  unfolding plan_check
-  plan-refused checks v =
-      let whole : first_of (plan_checks bs ++ checks) ≡ Err q = first_of-append (plan_checks bs) checks ∙ and_then_refused _ _ q first in
-      is ∙ ap code_of (sym whole) ∙ sym (value_refused _ q v whole)
 
 -- the answer of a call that gives a value where its checks hold, and else their refusal
 pub answered : (c : Checked) (v : ℕ) (r : Result ℕ Refusal) (k : ℕ) → Answered r c v → k ≡ answer_of r → k ≡ value_of c v

@@ -27,13 +27,13 @@ use Rattle.plan.specs.declared.Rule.TheVariants.{Reduction}
 use Rattle.plan.specs.declared.Output.{Output}
 use Rattle.plan.specs.declared.Dealing.{Dealing}
 use Rattle.plan.specs.declared.Header.{Header}
-use Rattle.plan.specs.declared.Layout.{Layout}
 use Rattle.plan.specs.Plans.{Plan, party_count, dealer_count, kind_of, is_kind, kind_count, operands_of, is_input_of, first_dealings, multiply_dealings, dealings_at, coin_owners_at, coin_owners, last_call, out_wires_of, out_wires, input_count, own_input_count, coin_count, own_coin_count, own_out_count}
-use Rattle.plan.specs.File.{between, layout_of, gate_place, gate_of, gate_from, gate_at, gate_ok, out_at, plan_of}
-use Rattle.plan.specs.Planned.{Planned, Within}
+use Rattle.plan.specs.File.{between, gate_place, gate_of, gate_from, gate_at, gate_ok, out_at, plan_of}
+use Rattle.plan.specs.Planned.{Planned}
 use Rattle.plan_counts.specs.declared.Tally.{Tally}
 use Rattle.plan_counts.specs.Counts.{Tallied, IsGate, is_out_of}
-use Rattle.plan.proofs.Planned.{plan_n, plan_t, plan_gates, plan_gate, plan_outs, plan_out, plan_dealers, between-true, gate_within}
+use Rattle.plan.proofs.Planned.{plan_n, plan_t, plan_gates, plan_gate, plan_outs, plan_out, plan_dealers, between-true}
+use Rattle.plan.proofs.Ranges.{contains_is}
 use Rattle.plan.proofs.Valid.{plain, gate-kept}
 use Rattle.plan.proofs.Counts.{count-replicate, plain-own-inputs, plain_inputs, plain-coins, plain-steps}
 
@@ -80,12 +80,16 @@ pub kind_byte : (bs : List ℕ) (h : Header) (g k : ℕ) → Planned bs h → g 
 unfolding gate_at gate_from
 kind_byte bs h g k p l e = e ∙ kind_of_lem h.n h.field.p g (get_or bs (gate_place bs g) 0) _ _ _ (gate-kept bs h p g (gate_at bs g) l refl)
 
+pub kind_read : (bs ds : List ℕ) (h : Header) (g k : ℕ) → ds ≡ bs → k ≡ get_or ds (gate_place ds g) 0 → Planned bs h → g < h.gates → k ≡ kind_of (gate_at bs g)
+kind_read bs ds h g k e q p l = kind_byte bs h g k p l (q ∙ ap (λ (s : List ℕ). get_or s (gate_place s g) 0) e)
+
 -- an input has kind 1
 pub own-not : (i k : ℕ) (x : Gate) → k ≡ kind_of x → (k ≡ 1 → ⊥) → false ≡ is_input_of i x
 unfolding is_input_of is_kind
 own-not i k x e ne = rw (ne_eqb (kind_of x) 1 (λ q. ne (e ∙ q)))
 
-pub ruleset kinds = (rules, kind_as, input_of_as, rounds_as, kind_byte, own-not, own_as)
+-- As it is: answers name this set, since the check leaves their goals open by `using` alone.
+pub ruleset kinds = (rules, kind_as, input_of_as, rounds_as, kind_read, own-not, own_as)
 
 -- ---- a party's coins at a gate
 -- the owners of a dealing's coins
@@ -183,23 +187,8 @@ module _ (bs : List ℕ) (h : Header) (p : Planned bs h) (i k : ℕ) (x : Gate) 
 pub coins_of_lem : (plan : Plan) (i r : ℕ) (x y : Gate) → y ≡ x → r ≡ count_where (eqb i) (coin_owners_at plan y) → r ≡ count_where (eqb i) (coin_owners_at plan x)
 coins_of_lem plan i r x y e f = f ∙ ap (λ (z : Gate). count_where (eqb i) (coin_owners_at plan z)) e
 
-pub local_under : (k : ℕ) → k < 2 → false ≡ between 2 4 k
-unfolding between
-local_under k l = rw (lt-leb 2 k l)
-
-pub local_from : (k : ℕ) → 2 ≤ k → leb k 4 ≡ between 2 4 k
-unfolding between
-local_from k l = rw (le-leb 2 k l)
-
-pub first_under : (k i : ℕ) → i < 1 → false ≡ between 1 k i
-unfolding between
-first_under k i l = rw (lt-leb 1 i l)
-
-pub first_from_lem : (k i : ℕ) → 1 ≤ i → leb i k ≡ between 1 k i
-unfolding between
-first_from_lem k i l = rw (le-leb 1 i l)
-
-pub ruleset coining = (rules, first_under, first_from_lem, coins_input, coins_multiply, coins_random, coins_none, coins_of_five, coins_of_local, coins_of_lem, local_under, local_from)
+-- As it is: answers name this set, since the check leaves their goals open by `using` alone.
+pub ruleset coining = (rules, contains_is, coins_input, coins_multiply, coins_random, coins_none, coins_of_five, coins_of_local, coins_of_lem)
 
 -- ---- a loop over the gates that counts: k of the first g pass
 module _ (f : Gate → Bool) (bs : List ℕ) (h : Header) (k g : ℕ) (p : Planned bs h) (c : Counted f (plan_of bs).gates k g) where
@@ -211,9 +200,6 @@ module _ (f : Gate → Bool) (bs : List ℕ) (h : Header) (k g : ℕ) (p : Plann
 
   gates_done : h.gates ≤ g → k ≡ count_where f (plan_of bs).gates
   gates_done l = counted f (plan_of bs).gates k g c (rw (plan_gates p) l)
-
-pub below_within : {bs : List ℕ} {h : Header} (p : Planned bs h) (l : Layout) (g top : ℕ) → g < top → top ≤ h.gates → l ≡ layout_of bs → l.head ≤ 32 → Within bs l g
-below_within p l g top a b e f = gate_within p l g (omega arith) e f
 
 -- a loop over the gates below `top` that adds up party i's coins: k at the first g
 pub record Coining (bs : List ℕ) (i top k g : ℕ) : Type 0 where
@@ -313,7 +299,8 @@ module _ (bs : List ℕ) (i : ℕ) where
       coins_few = tally-fits;
     }
 
-pub ruleset counting = (rules, gate_within, below_within, tally-none, tally-next, tally-fits, tallied, coin-none, coin-more, coin-few, coin-done)
+-- As it is: answers name this set, since the check leaves their goals open by `using` alone.
+pub ruleset counting = (rules, tally-none, tally-next, tally-fits, tallied, coin-none, coin-more, coin-few, coin-done)
 
 -- ---- coins at a gate
 module _ (plan : Plan) (i : ℕ) where
@@ -397,4 +384,5 @@ module _ (bs : List ℕ) (h : Header) (i k o : ℕ) (p : Planned bs h) (c : Coun
   pub outs_done : h.outs ≤ o → k ≡ own_out_count (plan_of bs) i
   outs_done l = counted (is_out_of i) (plan_of bs).outs k o c (rw (plan_outs p) l) ∙ sym (own_outs i (plan_of bs))
 
+-- As it is: answers name this set, since the check leaves their goals open by `using` alone.
 pub ruleset counting_outs = (rules, is_out_of_lem, count_none, outs_next, outs_few, outs_done)

@@ -173,10 +173,13 @@ sent-some n i d l = rw (le-leb i d l)
 pub sent-none : (n i d : ℕ) → d < i → 0 ≡ cond (leb i d) n 0
 sent-none n i d l = rw (lt-leb i d l)
 
+-- As it is: answers name this set, since the check leaves their goals open by `using` alone.
 pub ruleset sizing = (rules, by-dealers-fits, dealt-fits, coins-le, coins-fit, last-is, own_is, inputs_are, coins_are)
 
+-- As it is: answers name this set, since the check leaves their goals open by `using` alone.
 pub ruleset bringing = (rules, one-to-each, by-n-64, by-n-64-fits, brings-inputs, brings-product, brings_one, brings-spent, brings-outs)
 
+-- As it is: answers name this set, since the check leaves their goals open by `using` alone.
 pub ruleset sending = (rules, one-to-each, by-n-1024, by-n-1024-fits, sends-inputs, sends-product, sends_one, sends-spent, sends-outs, sent-some, sent-none)
 
 pub ruleset mailing = (rules, mail-zero, mail-later, written-sent, written-results)

@@ -9,6 +9,7 @@ use Prim.Native.Nat.{ℕ, zero, suc, ◌+◌, ◌-◌, ◌<◌, ◌≤◌}
 use native.Mathlib.Numerals.{add-one}
 use native.Mathlib.Omega.{arith}
 use borrow.Author.Rules.{rules}
+use borrow.Author.Tests.{le-leb, lt-leb}
 use lib.Dec.{leb}
 use lib.ListN.{get_or, drop, drop_of_length-le}
 use lib.Seq.{drop-cons}
@@ -21,10 +22,9 @@ use Rattle.plan.specs.declared.Header.{Header}
 use Rattle.plan.specs.Plans.{Plan, kind_of, multiply_steps, steps_at, steps_from, steps, step_at}
 use Rattle.plan.specs.File.{gate_at, plan_of}
 use Rattle.plan.specs.Planned.{Planned}
-use Rattle.plan.proofs.Planned.{plan_gates, plan_gate, gate_within}
+use Rattle.plan.proofs.Planned.{plan_gates, plan_gate}
 use Rattle.plan.proofs.Valid.{plain}
 use Rattle.plan_counts.specs.Counts.{IsGate, Stepped}
-use Rattle.plan_counts.proofs.Counts.{rounds_as}
 
 -- ---- a gate's step
 pub step_as : (g : ℕ) (x q : Gate) (s : Step) → x ≡ q → s ≡ get_or (steps_at Reduction g q) 0 SendOuts → s ≡ get_or (steps_at Reduction g x) 0 SendOuts
@@ -92,20 +92,29 @@ module _ (bs : List ℕ) (h : Header) (p : Planned bs h) where
       stepped-here s q =
           subst (Stepped (plan_of bs)) (sym q) (stepped_at (plan_of bs) g gate is-gate (rw (plan_gate p g l, ← eg) at ((plain bs p.passes).kinds g)))
 
-      pub step-passed : t ≡ true → (left ≡ 0 → ⊥) → (n : ℕ) → n ≡ left - 1 → Stepping bs h.gates k n (g + 1)
-      step-passed e z n q =
+      passed : t ≡ true → (left ≡ 0 → ⊥) → (n : ℕ) → n ≡ left - 1 → Stepping bs h.gates k n (g + 1)
+      passed e z n q =
           let s : left ≡ suc n = omega arith in
           record { within = omega arith; is = rw add-one (rw (one_step g gate (sym et ∙ e), s) at at) }
 
-      pub step-skipped : t ≡ false → (n : ℕ) → n ≡ left → Stepping bs h.gates k n (g + 1)
-      step-skipped e n q = record { within = omega arith; is = rw (add-one, q) (rw (no_step g gate (sym et ∙ e)) at at) }
+      skipped : t ≡ false → (n : ℕ) → n ≡ left → Stepping bs h.gates k n (g + 1)
+      skipped e n q = record { within = omega arith; is = rw (add-one, q) (rw (no_step g gate (sym et ∙ e)) at at) }
 
-    module _ (l : g < h.gates) (gate : Gate) (eg : gate ≡ gate_at bs g) (s : Step) (q : s ≡ get_or (steps_at Reduction g gate) 0 SendOuts) where
-      pub step-found : (t : Bool) → t ≡ leb 5 (kind_of (gate_at bs g)) → t ≡ true → left ≡ 0 → s ≡ step_at (plan_of bs) (suc k)
-      step-found t et e z = found l gate t eg (et ∙ ap (λ (x : Gate). leb 5 (kind_of x)) (sym eg)) s e z q
+    module _ (l : g < h.gates) (kind : ℕ) (ek : kind ≡ kind_of (gate_at bs g)) where
+      takes : 5 ≤ kind → leb 5 (kind_of (gate_at bs g)) ≡ true
+      takes m = le-leb 5 (kind_of (gate_at bs g)) (omega arith)
 
-      pub step_of : Stepped (plan_of bs) s
-      step_of = stepped-here l gate (leb 5 (kind_of gate)) eg refl s q
+      pub step_passed : 5 ≤ kind → (left ≡ 0 → ⊥) → (n : ℕ) → n ≡ left - 1 → Stepping bs h.gates k n (g + 1)
+      step_passed m = passed l (gate_at bs g) (leb 5 (kind_of (gate_at bs g))) refl refl (takes m)
+
+      pub step_skipped : kind < 5 → (n : ℕ) → n ≡ left → Stepping bs h.gates k n (g + 1)
+      step_skipped m = skipped l (gate_at bs g) (leb 5 (kind_of (gate_at bs g))) refl refl (lt-leb 5 (kind_of (gate_at bs g)) (omega arith))
+
+      pub step_found : (gate : Gate) (s : Step) → gate ≡ gate_at bs g → s ≡ get_or (steps_at Reduction g gate) 0 SendOuts → 5 ≤ kind → left ≡ 0 → s ≡ step_at (plan_of bs) (suc k)
+      step_found gate s eg q m z = found l gate (leb 5 (kind_of (gate_at bs g))) eg (ap (λ (x : Gate). leb 5 (kind_of x)) (sym eg)) s (takes m) z q
+
+    pub step_of : g < h.gates → (gate : Gate) → gate ≡ gate_at bs g → (s : Step) → s ≡ get_or (steps_at Reduction g gate) 0 SendOuts → Stepped (plan_of bs) s
+    step_of l gate eg s q = stepped-here l gate (leb 5 (kind_of gate)) eg refl s q
 
     pub step-none : h.gates ≤ g → SendOuts ≡ step_at (plan_of bs) (suc k)
     unfolding steps_from
@@ -136,4 +145,5 @@ module _ (plan : Plan) where
   unfolding Stepped
   stepped-product s g a b i e = subst (Stepped plan) e i
 
-pub ruleset stepping = (rules, rounds_as, gate_within, step_as, steps_begin, step-found, step_of, step-passed, step-skipped, step-none, outs_stepped, inputs_stepped, step_first, step_later)
+-- As it is: answers name this set, since the check leaves their goals open by `using` alone.
+pub ruleset stepping = (rules, step_as, steps_begin, step_found, step_of, step_passed, step_skipped, step-none, outs_stepped, inputs_stepped, step_first, step_later)

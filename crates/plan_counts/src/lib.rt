@@ -1,17 +1,16 @@
 // Counts of a plan's gates, coins and steps, and the step that a call sends.
 #![tactic(auto)]
 
-ghost use Rattle.std.specs.Prelude.{◌≡◌, cond, suc, ◌<◌, ◌≤◌, eqb, leb, length, take, get_or};
+ghost use Rattle.std.specs.Prelude.{◌≡◌, cond, suc, ◌+◌, ◌<◌, ◌≤◌, eqb, leb, length, take, get_or};
 ghost use mathlib.Core.List.{flat_map};
 ghost use Rattle.numbers.specs.Tables.{count_where};
 ghost use Rattle.plan.specs.declared.Step.TheVariants.{SendOuts};
 ghost use Rattle.plan.specs.declared.Rule.TheVariants.{Reduction};
 ghost use Rattle.plan.specs.File.{between, gate_at, plan_of};
-ghost use Rattle.plan.specs.Planned.{Within};
 ghost use Rattle.plan.specs.Plans.{kind_of, is_input_of, coin_owners_at, steps_at, step_at, last_call, input_count, own_input_count, coin_count, own_coin_count};
 ghost use Rattle.plan_counts.specs.Counts.{Tallied, Stepped};
 
-use plan::{Gate, Layout, PlanFile, Step};
+use plan::{Gate, Gates, PlanFile, Step};
 
 // Counts of a plan's gates, for one party.
 #[derive(Clone, Copy)]
@@ -26,7 +25,7 @@ pub struct Tally {
 }
 
 // The kinds of gates in the plan file: gates from ADD to OFFSET are worked on shares alone, those from MULTIPLY on take rounds.
-const INPUT: usize = 1;
+pub const INPUT: usize = 1;
 
 const ADD: usize = 2;
 
@@ -77,7 +76,7 @@ impl<'a> Seat<'a> {
 }
 
 // A gate's kind in the plan file.
-// As it is: the file's byte is the kind, and a tally compares it as it stands; an enum would be made of it only to be compared.
+// As it is: the rules order kinds by the file's number, and `takes_rounds` asks for that order; an enum would be made into the number there.
 #[tactic(auto, unfolding(plan::specs::Plans::kind_of))]
 pub fn kind(gate: Gate) -> usize
     ensures { result ≡ kind_of gate }
@@ -110,19 +109,20 @@ pub fn is_input_of(i: usize, gate: Gate) -> bool
     }
 }
 
-// Whether i is one of 1 to k.
-#[tactic(auto, using(crate::proofs::Counts::coining))]
-fn is_first(k: usize, i: usize) -> bool
-    ensures { result ≡ between 1 k i }
-{
-    1 <= i && i <= k
-}
-
 // t coins where something holds, else none.
 fn coins_if(t: usize, b: bool) -> usize
     ensures { record { eq : result ≡ cond b t 0; le : result ≤ t } }
 {
     if b { t } else { 0 }
+}
+
+// Party i's coins at a multiply gate: t if it is one of the 2t + 1 dealers.
+#[tactic(auto, using(plan::proofs::Ranges::contains_is))]
+fn dealer_coins(t: usize, i: usize) -> usize
+    requires { t ≤ 14 }
+    ensures { record { eq : result ≡ cond (between 1 (t + t + 1) i) t 0; le : result ≤ t } }
+{
+    coins_if(t, (1..=t + t + 1).contains(&i))
 }
 
 // Party i's coins at a gate: t at its own inputs, t at each multiply gate if it is one of the 2t + 1 dealers.
@@ -133,50 +133,132 @@ pub fn own_coins_at(plan: &PlanFile, i: usize, gate: Gate) -> usize
     let t = plan.header.t;
     match gate {
         Gate::Input(dealer) => coins_if(t, i == dealer),
-        Gate::Multiply(_, _) => coins_if(t, is_first(t + t + 1, i)),
-        Gate::Random => coins_if(t, is_first(plan.header.n, i)),
+        Gate::Multiply(_, _) => dealer_coins(t, i),
+        Gate::Random => coins_if(t, (1..=plan.header.n).contains(&i)),
         _ => 0,
     }
 }
 
 // ---- by a gate's kind, which its first byte gives: every gate of a plan that passes keeps its kind's rule
 
-#[tactic(auto, using(crate::proofs::Counts::kinds))]
-fn kind_of(plan: &PlanFile, l: Layout, g: usize) -> usize
-    requires within { Within plan.now.bytes.now l g }
-    requires g_lt_gates { g < plan.now.header.gates }
-    ensures { result ≡ kind_of (gate_at plan.now.bytes.now g) }
-{
-    plan::kind_in(plan.bytes, l, g)
+// A plan with its gates.
+#[derive(Clone, Copy)]
+struct PlanGates<'a> {
+    plan: &'a PlanFile<'a>,
+    gates: Gates<'a>,
+    ghost bytes: { gates.bytes.now ≡ plan.now.bytes.now },
+    ghost count: { gates.count ≡ plan.now.header.gates },
 }
 
-// Whether gate g, of kind k, is an input of party i.
-#[tactic(auto, using(crate::proofs::Counts::kinds))]
-fn own_by_kind(plan: &[u8], l: Layout, i: usize, g: usize, k: usize) -> bool
-    requires within { Within plan.now l g }
-    requires k_value { k ≡ kind_of (gate_at plan.now g) }
-    ensures { result ≡ is_input_of i (gate_at plan.now g) }
-{
-    k == INPUT && is_input_of(i, plan::gate_in(plan, l, g))
-}
+impl<'a> PlanGates<'a> {
+    fn new(plan: &'a PlanFile<'a>) -> PlanGates<'a>
+        ensures { result.plan.now ≡ plan.now }
+    {
+        PlanGates {
+            plan,
+            gates: plan.gates(),
+        }
+    }
 
-// Party i's coins at gate g, of kind k.
-#[tactic(auto, using(crate::proofs::Counts::coining))]
-fn coins_by_kind(plan: &PlanFile, l: Layout, i: usize, g: usize, k: usize) -> usize
-    requires within { Within plan.now.bytes.now l g }
-    requires k_value { k ≡ kind_of (gate_at plan.now.bytes.now g) }
-    ensures { record { eq : result ≡ count_where (eqb i) (coin_owners_at (plan_of plan.now.bytes.now) (gate_at plan.now.bytes.now g)); le : result ≤ 14 } }
-{
-    if k == MULTIPLY {
-        return coins_if(
-            plan.header.t,
-            is_first(plan.header.t + plan.header.t + 1, i),
-        );
+    // As it is: the file's byte is the kind, and is only compared. The bound on g stands in four methods; an index with the bound in its type would be of
+    // one plan, and made anew for each gate that is read.
+    #[tactic(auto, using(crate::proofs::Counts::kinds))]
+    fn kind(&self, g: usize) -> usize
+        requires { g < self.now.plan.now.header.gates }
+        ensures { result ≡ kind_of (gate_at self.now.plan.now.bytes.now g) }
+    {
+        self.gates.kind(g)
     }
-    if is_local(k) {
-        return 0;
+
+    fn gate(&self, g: usize) -> Gate
+        requires { g < self.now.plan.now.header.gates }
+        ensures { result ≡ gate_at self.now.plan.now.bytes.now g }
+    {
+        self.gates.gate(g)
     }
-    own_coins_at(plan, i, plan::gate_in(plan.bytes, l, g))
+
+    // Whether gate g, of kind k, is an input of party i.
+    #[tactic(auto, using(crate::proofs::Counts::kinds))]
+    fn is_own(&self, i: usize, g: usize, k: usize) -> bool
+        requires g_lt_gates { g < self.now.plan.now.header.gates }
+        requires k_value { k ≡ kind_of (gate_at self.now.plan.now.bytes.now g) }
+        ensures { result ≡ is_input_of i (gate_at self.now.plan.now.bytes.now g) }
+    {
+        k == INPUT && is_input_of(i, self.gate(g))
+    }
+
+    // Party i's coins at gate g, of kind k.
+    #[tactic(auto, using(crate::proofs::Counts::coining))]
+    fn coins(&self, i: usize, g: usize, k: usize) -> usize
+        requires g_lt_gates { g < self.now.plan.now.header.gates }
+        requires k_value { k ≡ kind_of (gate_at self.now.plan.now.bytes.now g) }
+        ensures { record {
+          eq : result ≡ count_where (eqb i) (coin_owners_at (plan_of self.now.plan.now.bytes.now) (gate_at self.now.plan.now.bytes.now g));
+          le : result ≤ 14;
+        } }
+    {
+        let t = self.plan.header.t;
+        if k == MULTIPLY {
+            return dealer_coins(t, i);
+        }
+        if is_local(k) {
+            return 0;
+        }
+        own_coins_at(self.plan, i, self.gate(g))
+    }
+
+    #[tactic(auto, using(crate::proofs::Counts::counting))]
+    fn tally(&self, i: usize) -> Tally
+        ensures { Tallied (plan_of self.now.plan.now.bytes.now) i result }
+    {
+        let mut tally = Tally {
+            inputs: 0,
+            own: 0,
+            multiplies: 0,
+            coins: 0,
+        };
+        for g in 0..self.plan.header.gates {
+            let k = self.kind(g);
+            tally.inputs += usize::from(k == INPUT);
+            tally.own += usize::from(self.is_own(i, g, k));
+            tally.multiplies += usize::from(k == MULTIPLY);
+            tally.coins += self.coins(i, g, k);
+        }
+        tally
+    }
+
+    // Party i's coins at gates below g.
+    #[tactic(auto, using(crate::proofs::Counts::counting))]
+    fn coins_below(&self, i: usize, g: usize) -> usize
+        requires g_le_gates { g ≤ self.now.plan.now.header.gates }
+        ensures { record {
+          eq : result ≡ count_where (eqb i) (flat_map (coin_owners_at (plan_of self.now.plan.now.bytes.now)) (take g (plan_of self.now.plan.now.bytes.now).gates));
+          le : result ≤ 14336;
+        } }
+    {
+        let mut k = 0;
+        for below in 0..g {
+            k += self.coins(i, below, self.kind(below));
+        }
+        k
+    }
+
+    // The step of calls k + 1: that of the gate number k of those that take rounds, or the outs'.
+    #[tactic(auto, using(crate::proofs::Steps::stepping))]
+    fn step_after(&self, k: usize) -> Step
+        ensures { record { eq : result ≡ step_at (plan_of self.now.plan.now.bytes.now) (suc k); of : Stepped (plan_of self.now.plan.now.bytes.now) result } }
+    {
+        let mut left = k;
+        for g in 0..self.plan.header.gates {
+            if MULTIPLY <= self.kind(g) {
+                if left == 0 {
+                    return step_of(g, self.gate(g));
+                }
+                left -= 1;
+            }
+        }
+        Step::SendOuts
+    }
 }
 
 // Whether the gates of a kind are worked on shares alone.
@@ -184,29 +266,14 @@ fn coins_by_kind(plan: &PlanFile, l: Layout, i: usize, g: usize, k: usize) -> us
 fn is_local(k: usize) -> bool
     ensures { result ≡ between 2 4 k }
 {
-    ADD <= k && k <= OFFSET
+    (ADD..=OFFSET).contains(&k)
 }
 
 // A plan's tally for party i, in one pass over its gates.
-#[tactic(auto, using(crate::proofs::Counts::counting))]
 pub fn tally_of(plan: &PlanFile, i: usize) -> Tally
     ensures { Tallied (plan_of plan.now.bytes.now) i result }
 {
-    let l = plan.layout();
-    let mut tally = Tally {
-        inputs: 0,
-        own: 0,
-        multiplies: 0,
-        coins: 0,
-    };
-    for g in 0..plan.header.gates {
-        let k = kind_of(plan, l, g);
-        tally.inputs += usize::from(k == INPUT);
-        tally.own += usize::from(own_by_kind(plan.bytes, l, i, g, k));
-        tally.multiplies += usize::from(k == MULTIPLY);
-        tally.coins += coins_by_kind(plan, l, i, g, k);
-    }
-    tally
+    PlanGates::new(plan).tally(i)
 }
 
 // ---- the same from the plan alone
@@ -246,7 +313,6 @@ pub fn coin_count(plan: &PlanFile) -> usize
 }
 
 // Party i's coins at gates below g.
-#[tactic(auto, using(crate::proofs::Counts::counting))]
 pub fn coins_below(plan: &PlanFile, i: usize, g: usize) -> usize
     requires g_le_gates { g ≤ plan.now.header.gates }
     ensures { record {
@@ -254,12 +320,7 @@ pub fn coins_below(plan: &PlanFile, i: usize, g: usize) -> usize
       le : result ≤ 14336;
     } }
 {
-    let l = plan.layout();
-    let mut k = 0;
-    for below in 0..g {
-        k += coins_by_kind(plan, l, i, below, kind_of(plan, l, below));
-    }
-    k
+    PlanGates::new(plan).coins_below(i, g)
 }
 
 // ---- steps
@@ -277,17 +338,8 @@ fn step_of(g: usize, gate: Gate) -> Step
     }
 }
 
-// Whether gate g takes rounds.
-#[tactic(auto, using(crate::proofs::Steps::stepping))]
-fn rounds_at(plan: &PlanFile, l: Layout, g: usize) -> bool
-    requires within { Within plan.now.bytes.now l g }
-    requires g_lt_gates { g < plan.now.header.gates }
-    ensures { result ≡ leb 5 (kind_of (gate_at plan.now.bytes.now g)) }
-{
-    MULTIPLY <= kind_of(plan, l, g)
-}
-
 // The step that the calls of number k send.
+// As it is: k is a call's number and no kind, so it is compared.
 #[tactic(auto, using(crate::proofs::Steps::stepping))]
 pub fn step_at(plan: &PlanFile, k: usize) -> Step
     ensures { record { eq : result ≡ step_at (plan_of plan.now.bytes.now) k; of : Stepped (plan_of plan.now.bytes.now) result } }
@@ -295,23 +347,5 @@ pub fn step_at(plan: &PlanFile, k: usize) -> Step
     if k == 0 {
         return Step::DealInputs;
     }
-    step_after(plan, k - 1)
-}
-
-// The same with the inputs' step left out.
-#[tactic(auto, using(crate::proofs::Steps::stepping))]
-fn step_after(plan: &PlanFile, k: usize) -> Step
-    ensures { record { eq : result ≡ step_at (plan_of plan.now.bytes.now) (suc k); of : Stepped (plan_of plan.now.bytes.now) result } }
-{
-    let l = plan.layout();
-    let mut left = k;
-    for g in 0..plan.header.gates {
-        if rounds_at(plan, l, g) {
-            if left == 0 {
-                return step_of(g, plan.gate(g));
-            }
-            left -= 1;
-        }
-    }
-    Step::SendOuts
+    PlanGates::new(plan).step_after(k - 1)
 }

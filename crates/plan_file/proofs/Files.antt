@@ -34,9 +34,9 @@ use Rattle.plan.specs.declared.Refusal.TheVariants as refusal
 use Rattle.plan.specs.Refusals.{and_then, first_of, need, unless_found}
 use Rattle.plan.specs.Plans.{Plan, party_count, kind_of, operands_of}
 use Rattle.plan.specs.File.{version_at, layout_for, field_at, gate_start, gate_place, out_place, point_place, point_at, points_placed, magic, same_bytes, between, gate_of, gate_from, gate_at, out_at, gate_ok, out_ok, gate_kept, out_kept, gate_count_at, out_count_at, n_at, t_at, p_at, parties_ok, threshold_ok, modulus_ok, layout_ok, point_kept, majority_check, points_check, plan_checks, plan_check, plan_of}
-use Rattle.plan.proofs.Gates.{layout_rows}
+use Rattle.plan.proofs.Layouts.{layout_rows}
 use Rattle.plan.proofs.Planned.{between-true, modulus_small, modulus_above}
-use Rattle.plan.proofs.Ways.{majority-all, majority-there, points-pass, points-right}
+use Rattle.plan_reading.proofs.Ways.{majority-all, majority-there, points-pass}
 use Rattle.plan_file.specs.Bodies.{Bodies, plan_with, bytes_each, open_from, gate_bytes, gates_bytes, out_bytes, points_bytes, place_in, out_start, started, counted, contents, file_size, file_as, version_for, file_of_plan, content_checks, out_made, field_limit}
 use Rattle.plan_file.proofs.Writing.{each_long, length_open, open_bytes, field-some, limit_span, fits_for}
 
@@ -588,10 +588,10 @@ module _ (n p : ℕ) (b : Bodies) (n-small : n ≤ 15) (p-small : p < 4294967296
 
     -- 26 falls on no point
     points-made : n < p → points_check (file_of_plan n t p b) ≡ (Ok tt)
+    unfolding points_check unless_found
     points-made above =
-        sym (points-right (file_of_plan n t p b) (first_failing (point_kept (file_of_plan n t p b)) (n_at (file_of_plan n t p b))) refl
-        (points-pass (file_of_plan n t p b)
-        (λ i l. made-point n t p b few-gates few_outs n-small (wired_room wired) i (rw (made_n n t p b) at l)) (rw (made_n n t p b, made_p n t p b) above)))
+        rw (points-pass (file_of_plan n t p b)
+        (λ i l. made-point n t p b few-gates few_outs n-small (wired_room wired) i (rw (made_n n t p b) at l)) (rw (made_n n t p b, made_p n t p b) above))
 
 module _ (n t p : ℕ) (b : Bodies) (few-gates : length b.gates ≤ 1024) (few_outs : length b.outs ≤ 64) where
   begun : (leb 18 (length (file_of_plan n t p b)) && same_bytes (take 4 (file_of_plan n t p b)) magic) ≡ true

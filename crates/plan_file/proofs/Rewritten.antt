@@ -24,7 +24,7 @@ use Rattle.plan.specs.Refusals.{unless_found}
 use Rattle.plan.specs.Plans.{Plan, party_count}
 use Rattle.plan.specs.File.{magic, same_bytes, between, layout_for, gate_start, version_at, n_at, t_at, p_at, gate_count_at, out_count_at, gate_at, out_at, point_at, gate_kept, out_kept, majority_kept, point_apart, point_kept, layout_ok, majority_check, points_check, plan_checks, plan_check, plan_of}
 use Rattle.plan.proofs.Refusals.{need-true, next_passes, first_of-nil}
-use Rattle.plan.proofs.Gates.{layout_rows}
+use Rattle.plan.proofs.Layouts.{layout_rows}
 use Rattle.plan.proofs.Planned.{Passing, passing, laid, between-true, length_gates, length_outs}
 use Rattle.plan.proofs.Valid.{Valid, valid, plain}
 use Rattle.plan_file.specs.Bodies.{started, contents, place_in, out_start, file_size, file_as, field_limit}

@@ -22,7 +22,7 @@ use lib.ListN.{length, get_or, take, drop, take-append-drop, drop_of_length-le}
 use lib.Seq.{sets, sets-eq, length-sets, take-suc, take_all, length-take-le}
 use Rattle.numbers.specs.Tables.{tab}
 use Rattle.numbers.specs.Bytes.{bytes_from}
-use Rattle.numbers.proofs.Bytes.{span, length-bytes_from}
+use Rattle.numbers.proofs.Bytes.{span, length-bytes_from, low_bytes}
 use Rattle.numbers.proofs.Tables.{length-tab, get_or-tab}
 use Rattle.numbers.proofs.Rows.{flat-length, flat_append, flat-snoc, sets-append, sets_all, sets_out}
 use Rattle.field.specs.declared.Field.{Field}
@@ -32,8 +32,8 @@ use Rattle.plan.specs.declared.Layout.{Layout}
 use Rattle.plan.specs.declared.Refusal.TheVariants as refusal
 use Rattle.plan.specs.Refusals.{and_then, first_of, need}
 use Rattle.plan.specs.File.{magic, layout_for, gate_start, between, parties_ok, threshold_ok, field_above}
-use Rattle.plan.proofs.Gates.{layout_rows}
-use Rattle.plan.proofs.Ways.{above-not, above-is, modulus_in}
+use Rattle.plan.proofs.Layouts.{layout_rows}
+use Rattle.plan_reading.proofs.Ways.{above-not, above-is, modulus_in}
 use Rattle.plan_file.specs.Bodies.{written, bytes_each, open_from, out_bytes, points_bytes, place_in, out_start, started, counted, contents, file_size, version_for, content_checks, field_limit}
 
 -- ---- bytes
@@ -60,16 +60,6 @@ put_cut s vs ys at room l e f =
 pub put-past : (s : List ℕ) (at : ℕ) (vs : List ℕ) → length s ≤ at → s ≡ written s at vs
 unfolding written
 put-past s at vs l = sym (sets_out s at vs l)
-
--- a number's low bytes
-pub low_bytes : (w x : ℕ) → w ≤ 4 → take w (to_le_bytes w64 x) ≡ bytes_from w x
-unfolding bytes_from
-low_bytes zero x l = refl
-low_bytes (suc zero) x l = refl
-low_bytes (suc (suc zero)) x l = refl
-low_bytes (suc (suc (suc zero))) x l = let e : x / 65536 ≡ x / 256 / 256 = omega arith in rw e
-low_bytes (suc (suc (suc (suc zero)))) x l = let e : x / 65536 ≡ x / 256 / 256 = omega arith in let f : x / 16777216 ≡ x / 256 / 256 / 256 = omega arith in rw (e, f)
-low_bytes (suc (suc (suc (suc (suc w))))) x l = absurd (omega arith)
 
 -- bytes, then others right after them
 pub written_then : (s s1 s2 vs ws : List ℕ) (at next : ℕ) → s1 ≡ written s at vs → s2 ≡ written s1 next ws → next ≡ at + length vs → s2 ≡ written s at (vs ++ ws)
@@ -216,6 +206,15 @@ pub version_third : (p : ℕ) → 65536 ≤ p → 3 ≡ version_for p
 unfolding version_for
 version_third p l = rw (le-ltb p 65536 l)
 
+pub version_low : (p : ℕ) → version_for p < 256
+unfolding version_for
+version_low p = by (ltb p 65536)
+  where
+    by : (x : Bool) → cond x 1 3 < 256
+    by true = omega arith
+    by false = omega arith
+
+-- As it is: answers name this set, since the check leaves their goals open by `using` alone.
 pub ruleset sizing = (rules, version_first, version_third, gates-fit, place-fits, place-le, place_is, points-fit, point-fits, size_is, size-le, out_starts)
 
 pub pair_put : (v k a b : ℕ) (s s1 s2 : List ℕ) → s1 ≡ written s (8 + (layout_for v).field * k) (bytes_from (layout_for v).field a)
@@ -338,6 +337,7 @@ module _ (v at n : ℕ) (s₀ : List ℕ) where
   pub first_end : (i : ℕ) (s : List ℕ) → Pointed v at (tab suc n) s₀ i s → n ≤ i → s ≡ written s₀ at (points_bytes v (tab suc n))
   first_end i s h l = points_end v at (tab suc n) s₀ i s h (rw (length-tab suc n) l)
 
+-- As it is: answers name this set, since the check leaves their goals open by `using` alone.
 pub ruleset pointing = (rules, points_begin, points_next, points_end, points_same, first_next, first_end)
 
 -- ---- refusals 3 to 6
@@ -372,4 +372,5 @@ module _ (n t p gates outs : ℕ) (x : Bool) (ex : x ≡ parties_ok n) where
         unfolding content_checks first_of and_then need
         check-passed h = rw (← ex, hx, ← ey, hy, (above-is n p f.p (sym em ∙ ap modulus_in hf)).0, ← ez, h)
 
+-- As it is: answers name this set, since the check leaves their goals open by `using` alone.
 pub ruleset checking = (rules, not-true, not-false, counts-not, counts_on, check-parties, check-threshold, check-modulus, check-counts, check-passed)

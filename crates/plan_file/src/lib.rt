@@ -17,7 +17,7 @@ use plan::{Gate, MAGIC, Output, Refusal};
 fn counts_ok(gates: usize, outs: usize) -> bool
     ensures { result ≡ (between 1 1024 gates && between 1 64 outs) }
 {
-    plan_reading::is_between(1, 1024, gates) && plan_reading::is_between(1, 64, outs)
+    plan_reading::gates_fit(gates) && plan_reading::outs_fit(outs)
 }
 
 #[tactic(auto, using(crate::proofs::Writing::checking))]
@@ -30,6 +30,7 @@ pub fn check(n: u32, t: u32, p: u32, gates: usize, outs: usize) -> Result<(), Re
     if !plan_reading::threshold_ok(n as usize, t as usize) {
         return Err(Refusal::Threshold);
     }
+    // As it is: `.is_none()` was tried. The two ends after it were left open by a lemma on what it answers; the pattern gives them the field itself.
     let Some(_) = plan_reading::field_above(n as usize, p) else {
         return Err(Refusal::Modulus);
     };
@@ -40,8 +41,11 @@ pub fn check(n: u32, t: u32, p: u32, gates: usize, outs: usize) -> Result<(), Re
 }
 
 // ---- the version, and what stands where in it
+// As it is: the bounds on gates, outs and n stand where they are used. Each function takes other ones of the version, n, gates and outs, so a struct
+// of these four would be made for one or two of its fields.
 
 // The version of a plan that is made.
+// As it is: a version is the file's byte, as it is in `plan::layout_for`, which takes any number; an enum would take fewer.
 #[tactic(auto, using(crate::proofs::Writing::sizing))]
 pub fn version_for(p: u32) -> usize
     ensures { result ≡ version_for p }
@@ -111,7 +115,7 @@ fn put_start(out: &mut [u8], version: usize, n: u32, t: u32)
     put(out, 4, &[version as u8, n as u8, t as u8, 0]);
 }
 
-// Field k of the contents.
+// Field k of the contents, a number as in `plan::field`.
 #[tactic(auto, using(crate::proofs::Writing::writing))]
 fn put_field(out: &mut [u8], version: usize, k: usize, v: usize)
     requires { k < 6 }
@@ -132,6 +136,8 @@ fn put_offset(out: &mut [u8], version: usize, k: usize, at: usize, count: usize)
 }
 
 // The points' offset, in a version that has points.
+// As it is: `out` and the version stand in each function here. A struct of both would hold the `&mut`: each clause, here and where a plan is written,
+// would say `self.new.out.now` for `out.new`, and that the version and the lent list are the same as before.
 #[tactic(auto, using(crate::proofs::Writing::writing))]
 fn put_points_offset(out: &mut [u8], version: usize, at: usize)
     ensures { out.new ≡ written out.old (8 + (layout_for version).field * 5) (bytes_each (layout_for version).field (cond (eqb (layout_for version).point 0) [] (at ∷ []))) }
@@ -143,6 +149,8 @@ fn put_points_offset(out: &mut [u8], version: usize, at: usize)
 }
 
 // The offsets and counts, after p.
+// As it is: buffer, version, gates and outs are four parameters here and in put_contents alone. A struct of version, gates and outs would be made
+// by each caller of file_size, out_start and put_out, of which the last two take no outs.
 #[tactic(auto, using(crate::proofs::Writing::writing))]
 fn put_counts(out: &mut [u8], version: usize, gates: usize, outs: usize)
     requires { record { gates : gates ≤ 1024; outs : outs ≤ 64 } }
@@ -190,6 +198,7 @@ fn put_fields(out: &mut [u8], version: usize, g: usize, kind: u8, a: usize, b: u
 }
 
 // Gate g.
+// As it is: the kinds are numbers since they are the bytes that are written.
 #[tactic(auto, unfolding(crate::specs::Bodies::gate_bytes, plan::specs::Plans::kind_of, plan::specs::Plans::operands_of))]
 pub fn put_gate(out: &mut [u8], version: usize, g: usize, gate: Gate)
     ensures { out.new ≡ written out.old (place_in version g) (gate_bytes version gate) }
@@ -217,6 +226,7 @@ pub fn put_out(out: &mut [u8], version: usize, gates: usize, o: usize, x: Output
 }
 
 // The point of party i + 1, from where the points stand on.
+// As it is: `put_field` with another place and width; one function of both would take these two, which are all that either works out.
 #[tactic(auto, using(crate::proofs::Writing::writing))]
 pub fn put_point(out: &mut [u8], version: usize, at: usize, i: usize, x: u64)
     requires { record { at : at ≤ 10464; i : i < 256 } }

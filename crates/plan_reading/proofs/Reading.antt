@@ -22,8 +22,8 @@ use Rattle.plan.specs.Refusals.{Checked, first_of}
 use Rattle.plan.specs.Planned.{HeaderOf, Planned}
 use Rattle.plan.specs.Plans.{multiplying}
 use Rattle.plan.specs.File.{magic, same_bytes, field_above, plan_checks, plan_check, field_at, gate_at, out_at, gate_ok, out_ok, majority_ok, gate_kept, out_kept, majority_kept}
-use Rattle.plan.proofs.Planned.{laid_within, planned}
-use Rattle.plan.proofs.Ways as ways
+use Rattle.plan.proofs.Planned.{planned}
+use Rattle.plan_reading.proofs.Ways as ways
 
 module _ (bs : List ℕ) (i : ℕ) (t : Bool) (n : ℕ) (en : n ≡ get_or bs 5 0) where
   pub gate-kept_by : (p : ℕ) (gate : Gate) → p ≡ field_at bs 0 → gate ≡ gate_at bs i → t ≡ gate_ok n p i gate → t ≡ gate_kept bs i
@@ -42,7 +42,7 @@ module _ (bs : List ℕ) (i : ℕ) (t : Bool) (n : ℕ) (en : n ≡ get_or bs 5 
       pick true = refl
       pick false = refl
 
-pub ruleset gates = (rules, laid_within, gate-kept_by)
+pub ruleset gates = (rules, gate-kept_by)
 
 pub ruleset outs = (rules, out-kept_by)
 

@@ -9,47 +9,32 @@ ghost use Rattle.plan.specs.File.{magic, same_bytes, between, parties_ok, thresh
 ghost use Rattle.plan.specs.Planned.{HeaderOf, Planned};
 
 use field::Field;
-use plan::{Gate, Header, MAGIC, Output, PlanFile, Refusal};
-
-#[tactic(auto, using(plan::proofs::Ways::ruling))]
-pub fn is_between(low: usize, high: usize, x: usize) -> bool
-    ensures { result ≡ between low high x }
-{
-    low <= x && x <= high
-}
-
-#[tactic(auto, using(plan::proofs::Ways::ruling))]
-fn both_below(a: usize, g: usize, b: u64, p: u64) -> bool
-    ensures { result ≡ (ltb a g && ltb b p) }
-{
-    a < g && b < p
-}
+use plan::{Gate, Gates, Header, MAGIC, Output, PlanFile, Refusal};
 
 // Whether gate g keeps its kind's rule: it reads only wires below g, and its constant is below p.
-#[tactic(auto, using(plan::proofs::Ways::ruling))]
+#[tactic(auto, using(plan::proofs::Ranges::contains_is), unfolding(plan::specs::File::gate_ok))]
 fn gate_ok(n: usize, p: u64, g: usize, gate: Gate) -> bool
     ensures { result ≡ gate_ok n p g gate }
 {
     match gate {
-        Gate::Input(party) => is_between(1, n, party),
-        Gate::Add(a, b) => both_below(a, g, b as u64, g as u64),
-        Gate::Scale(a, c) => both_below(a, g, c, p),
-        Gate::Offset(a, c) => both_below(a, g, c, p),
-        Gate::Multiply(a, b) => both_below(a, g, b as u64, g as u64),
+        Gate::Input(party) => (1..=n).contains(&party),
+        Gate::Add(a, b) | Gate::Multiply(a, b) | Gate::Spend(a, b) => a < g && b < g,
+        Gate::Scale(a, c) | Gate::Offset(a, c) => a < g && c < p,
         Gate::Random => true,
-        Gate::Spend(a, b) => both_below(a, g, b as u64, g as u64),
     }
 }
 
 // Whether an out names a party and a wire of the plan.
-#[tactic(auto, using(plan::proofs::Ways::ruling))]
+#[tactic(auto, using(crate::proofs::Ways::ruling))]
 fn out_ok(n: usize, gates: usize, out: Output) -> bool
     ensures { result ≡ out_ok n gates out }
 {
-    is_between(1, n, out.party) && out.wire < gates
+    (1..=n).contains(&out.party) && out.wire < gates
 }
 
 // The first of n indices at which a test fails.
+// As it is: `(0..n).find(|i| !ok(*i))` was tried. The closure's contract, as it is inferred, asks that `ok` may be called at every number, and `ok` may be at
+// those below n alone; with a `requires` and an `ensures` of its own the closure is longer than this loop.
 fn first_failing<F: Fn(usize) -> bool>(n: usize, ok: F) -> Option<usize>
     requires { (i : ℕ) → i < n → F.pre ok i }
     ensures { (test : ℕ → Bool) → ((i : ℕ) (t : Bool) → i < n → F.post ok i t → t ≡ test i) → result ≡ first_failing test n }
@@ -63,22 +48,19 @@ fn first_failing<F: Fn(usize) -> bool>(n: usize, ok: F) -> Option<usize>
 }
 
 // The first gate that breaks its kind's rule.
-#[tactic(auto, using(plan::proofs::Ways::seeking))]
+#[tactic(auto, using(crate::proofs::Reading::gates))]
 fn first_bad_gate(plan: &[u8]) -> Option<usize>
     requires { layout_ok plan.now ≡ true }
     ensures { result ≡ first_failing (gate_kept plan.now) (gate_count_at plan.now) }
 {
     let n = plan::byte(plan, 5);
     let p = plan::field(plan, 0) as u64;
-    let l = plan::layout_of(plan);
-    first_failing(
-        plan::field(plan, 2),
-        |g| gate_ok(n, p, g, plan::gate_in(plan, l, g)),
-    )
+    let gates = Gates::new(plan);
+    first_failing(gates.count, |g| gate_ok(n, p, g, gates.gate(g)))
 }
 
 // The first out that names no party or no wire of the plan.
-#[tactic(auto, using(plan::proofs::Ways::seeking))]
+#[tactic(auto, using(crate::proofs::Reading::outs))]
 fn first_bad_out(plan: &[u8]) -> Option<usize>
     ensures { result ≡ first_failing (out_kept plan.now) (out_count_at plan.now) }
 {
@@ -98,7 +80,7 @@ fn multiplies(gate: Gate) -> bool
 }
 
 // The first gate that multiplies where 2t is not below n.
-#[tactic(auto, using(plan::proofs::Ways::majorities))]
+#[tactic(auto, using(crate::proofs::Ways::majorities))]
 fn first_lacking(plan: &[u8]) -> Option<usize>
     ensures { result ≡ first_failing (majority_kept plan.now) (gate_count_at plan.now) }
 {
@@ -113,21 +95,20 @@ fn first_lacking(plan: &[u8]) -> Option<usize>
     )
 }
 
-// As it is: that of the points has the same shape; one function of a search's answer and a refusal would be no shorter than either.
-#[tactic(auto, using(plan::proofs::Ways::majorities))]
+#[tactic(auto, using(crate::proofs::Ways::majorities))]
 pub fn check_majority(plan: &[u8]) -> Result<(), Refusal>
     ensures { result ≡ majority_check plan.now }
 {
-    match first_lacking(plan) {
-        Some(_) => Err(Refusal::Majority),
-        None => Ok(()),
+    if first_lacking(plan).is_some() {
+        return Err(Refusal::Majority);
     }
+    Ok(())
 }
 
 // ---- refusal 26
 
 // The first party whose point is that of party i + 1, of those before it.
-#[tactic(auto, using(plan::proofs::Ways::pointing))]
+#[tactic(auto, using(crate::proofs::Ways::pointing))]
 fn earlier(plan: &[u8], i: usize) -> Option<usize>
     requires { i < 256 }
     ensures { result ≡ first_failing (point_apart plan.now i) i }
@@ -137,7 +118,7 @@ fn earlier(plan: &[u8], i: usize) -> Option<usize>
 }
 
 // Whether the point of party i + 1 is from 1 to p - 1 and no earlier party's.
-#[tactic(auto, using(plan::proofs::Ways::pointing))]
+#[tactic(auto, using(crate::proofs::Ways::pointing))]
 fn point_ok(plan: &[u8], p: u64, i: usize) -> bool
     requires i_bound { i < 256 }
     requires p_value { p ≡ p_at plan.now }
@@ -148,7 +129,7 @@ fn point_ok(plan: &[u8], p: u64, i: usize) -> bool
 }
 
 // The first party whose point breaks its rule; points 1 to n keep it where p is above n.
-#[tactic(auto, using(plan::proofs::Ways::pointing))]
+#[tactic(auto, using(crate::proofs::Ways::pointing))]
 fn first_bad_point(plan: &[u8]) -> Option<usize>
     ensures { result ≡ first_failing (point_kept plan.now) (n_at plan.now) }
 {
@@ -161,7 +142,7 @@ fn first_bad_point(plan: &[u8]) -> Option<usize>
     seek_point(plan, n, p as u64)
 }
 
-#[tactic(auto, using(plan::proofs::Ways::pointing))]
+#[tactic(auto, using(crate::proofs::Ways::pointing))]
 fn seek_point(plan: &[u8], n: usize, p: u64) -> Option<usize>
     requires n_bound { n < 256 }
     requires p_value { p ≡ p_at plan.now }
@@ -170,22 +151,14 @@ fn seek_point(plan: &[u8], n: usize, p: u64) -> Option<usize>
     first_failing(n, |i| point_ok(plan, p, i))
 }
 
-#[tactic(auto, using(plan::proofs::Ways::pointing))]
-fn check_points(plan: &[u8]) -> Result<(), Refusal>
-    ensures { result ≡ points_check plan.now }
-{
-    match first_bad_point(plan) {
-        Some(_) => Err(Refusal::Points),
-        None => Ok(()),
-    }
-}
+// ---- refusals 3 to 6, by n, t, p and how many gates and outs there are
 
-// ---- refusals 3 to 5, by n, t and p
-
+// As it is: `parties_ok`, `gates_fit` and `outs_fit` are the same method of three ranges, and nothing else; each is named by its rule.
+#[tactic(auto, using(plan::proofs::Ranges::contains_is))]
 pub fn parties_ok(n: usize) -> bool
     ensures { result ≡ parties_ok n }
 {
-    is_between(1, 15, n)
+    (1..=15).contains(&n)
 }
 
 pub fn threshold_ok(n: usize, t: usize) -> bool
@@ -194,12 +167,26 @@ pub fn threshold_ok(n: usize, t: usize) -> bool
     t < n
 }
 
+#[tactic(auto, using(plan::proofs::Ranges::contains_is))]
+pub fn gates_fit(gates: usize) -> bool
+    ensures { result ≡ between 1 1024 gates }
+{
+    (1..=1024).contains(&gates)
+}
+
+#[tactic(auto, using(plan::proofs::Ranges::contains_is))]
+pub fn outs_fit(outs: usize) -> bool
+    ensures { result ≡ between 1 64 outs }
+{
+    (1..=64).contains(&outs)
+}
+
 // The field of a prime above n and below 2^31.
-#[tactic(auto, using(plan::proofs::Ways::reads))]
+#[tactic(auto, using(crate::proofs::Ways::reads))]
 pub fn field_above(n: usize, p: u32) -> Option<Field>
     ensures { option_map (λ f. f.p) result ≡ field_above n p }
 {
-    if p as usize <= n || 2147483648 <= p {
+    if p as usize <= n {
         return None;
     }
     Field::new(p)
@@ -216,28 +203,28 @@ pub fn begins(plan: &[u8]) -> bool
 }
 
 // Whether byte 7, the offsets, the counts and the length are those of the version's layout.
-#[tactic(auto, using(plan::proofs::Ways::laying))]
+#[tactic(auto, using(crate::proofs::Ways::laying))]
 fn layout_ok(plan: &[u8]) -> bool
     ensures { result ≡ layout_ok plan.now }
 {
     plan::byte(plan, 7) == 0
         && plan::field(plan, 1) == plan::gate_place(plan, 0)
-        && is_between(1, 1024, plan::field(plan, 2))
+        && gates_fit(plan::field(plan, 2))
         && outs_placed(plan)
 }
 
 // Whether the outs follow the gates, and the points the outs.
-#[tactic(auto, using(plan::proofs::Ways::laying))]
+#[tactic(auto, using(crate::proofs::Ways::laying))]
 fn outs_placed(plan: &[u8]) -> bool
     ensures { result ≡ (eqb (field_at plan.now 3) (out_place plan.now 0) && (between 1 64 (out_count_at plan.now) && points_placed plan.now)) }
 {
     plan::field(plan, 3) == plan::out_place(plan, 0)
-        && is_between(1, 64, plan::field(plan, 4))
+        && outs_fit(plan::field(plan, 4))
         && points_placed(plan)
 }
 
 // Whether the points, in a version that has them, follow the outs, and nothing else does.
-#[tactic(auto, using(plan::proofs::Ways::placing))]
+#[tactic(auto, using(crate::proofs::Ways::placing))]
 fn points_placed(plan: &[u8]) -> bool
     ensures { result ≡ points_placed plan.now }
 {
@@ -246,7 +233,7 @@ fn points_placed(plan: &[u8]) -> bool
 }
 
 // Whether the file ends where n points end.
-#[tactic(auto, using(plan::proofs::Ways::placing))]
+#[tactic(auto, using(crate::proofs::Ways::placing))]
 fn ends(plan: &[u8]) -> bool
     ensures { result ≡ eqb (length plan.now) (point_place plan.now (n_at plan.now)) }
 {
@@ -254,14 +241,14 @@ fn ends(plan: &[u8]) -> bool
 }
 
 // Refusals 1 to 4.
-#[tactic(auto, using(plan::proofs::Ways::contents))]
+#[tactic(auto, using(crate::proofs::Ways::contents))]
 fn check_contents(plan: &[u8]) -> Result<(), Refusal>
     ensures { result ≡ first_of (take 4 (plan_checks plan.now)) }
 {
     if !begins(plan) {
         return Err(Refusal::Magic);
     }
-    if !is_between(1, 3, plan::byte(plan, 4)) {
+    if !(1..=3).contains(&plan::byte(plan, 4)) {
         return Err(Refusal::Version);
     }
     let n = plan::byte(plan, 5);
@@ -275,16 +262,21 @@ fn check_contents(plan: &[u8]) -> Result<(), Refusal>
 }
 
 // Refusals 25 and 26.
-#[tactic(auto, using(plan::proofs::Ways::last))]
+// As it is: this ends as `check_majority` does, but for the search and the refusal. One function of both would take them as parameters, and have nothing
+// left to do but a test.
+#[tactic(auto, using(crate::proofs::Ways::last))]
 fn check_last(plan: &[u8]) -> Result<(), Refusal>
     ensures { result ≡ first_of (drop 8 (plan_checks plan.now)) }
 {
     check_majority(plan)?;
-    check_points(plan)
+    if first_bad_point(plan).is_some() {
+        return Err(Refusal::Points);
+    }
+    Ok(())
 }
 
 // Refusals 6 to 8, 25 and 26.
-#[tactic(auto, using(plan::proofs::Ways::body))]
+#[tactic(auto, using(crate::proofs::Ways::body))]
 fn check_body(plan: &[u8]) -> Result<(), Refusal>
     ensures { result ≡ first_of (drop 5 (plan_checks plan.now)) }
 {

@@ -21,6 +21,7 @@ pub fn own_out_count(plan: &PlanFile, i: usize) -> usize
 }
 
 // The numbers that a step brings a seat.
+// As it is: the steps are a closed enum, each case gives a number, and the contract goes by the cases; closures would be chosen by this same `match`.
 #[tactic(auto, using(plan_counts::proofs::Sizes::bringing))]
 fn received(seat: &Seat, step: Step) -> usize
     ensures { record { eq : result ≡ received (plan_of seat.now.plan.now.bytes.now) seat.now.party step; le : result ≤ 1024 } }
@@ -39,6 +40,7 @@ fn received(seat: &Seat, step: Step) -> usize
 }
 
 // The numbers that a seat sends in a step.
+// As it is: a `match` as in `received`, and not one for both, since the inputs, the products and the outs differ.
 #[tactic(auto, using(plan_counts::proofs::Sizes::sending))]
 fn sent_by(seat: &Seat, step: Step) -> usize
     ensures { record { eq : result ≡ sent_by (plan_of seat.now.plan.now.bytes.now) seat.now.party step; le : result ≤ 15360 } }
@@ -65,6 +67,7 @@ fn sent_upto(n: usize, i: usize, dealers: usize) -> usize
 }
 
 // The numbers of mail that a seat's call number k takes.
+// As it is: k is a call's number and no kind, so it is compared.
 #[tactic(auto, using(plan_counts::proofs::Sizes::mailing))]
 pub fn mail_by(seat: &Seat, k: usize) -> usize
     ensures { record { eq : result ≡ mail_count (plan_of seat.now.plan.now.bytes.now) seat.now.party k; le : result ≤ 1024 } }

@@ -20,7 +20,7 @@ ghost use Rattle.pool_sizes.specs.Sizes.{seat_size, call_count, run_size, stored
 ghost use Rattle.pool_files.specs.FileSizes.{import_size, sheet_size, convert_size};
 ghost use Rattle.pool_answers.specs.Answers.{answer_of, billed_of};
 
-// Checks a plan: refusals 1 to 8.
+// Checks a plan: refusals 1 to 8, 25 and 26.
 #[unsafe(no_mangle)]
 pub extern "C" fn pool_plan_check(plan: &[u8]) -> u64
     ensures { result ≡ code_of (plan_check plan.now) }
@@ -44,7 +44,8 @@ pub extern "C" fn pool_calls(plan: &[u8]) -> u64
     pool_sizes::calls(plan)
 }
 
-// One call of a party: refusals 1 to 20.
+// One call of a party: refusals 1 to 8, 25, 26 and 9 to 20.
+// As it is: the C interface hands the figures and the coins over one by one, here and in the calls below.
 #[unsafe(no_mangle)]
 pub extern "C" fn pool_seat_call(
     plan: &[u8],
@@ -70,7 +71,8 @@ pub extern "C" fn pool_run_size(plan: &[u8], set: u16, what: u16) -> u64
     pool_sizes::run_size(plan, set, what)
 }
 
-// All parties in one machine: refusals 1 to 13 and 19.
+// All parties in one machine: refusals 1 to 8, 25, 26, 9 to 13 and 19.
+// As it is: the C interface hands the set over beside the coins, here, in `pool_match` and in `pool_count`.
 #[unsafe(no_mangle)]
 pub extern "C" fn pool_bench(
     plan: &[u8],
@@ -85,7 +87,7 @@ pub extern "C" fn pool_bench(
     pool_answers::sent(run_bench::bench(plan, set, figures, coins, view))
 }
 
-// The matching of coins: refusals 1 to 13, 19, 21 and 22.
+// The matching of coins: refusals 1 to 8, 25, 26, 9 to 13, 19, 21 and 22.
 #[unsafe(no_mangle)]
 pub extern "C" fn pool_match(
     plan: &[u8],
@@ -101,7 +103,8 @@ pub extern "C" fn pool_match(
     plan_codes::code(match_call::pair(plan, set, first, second, coins, matched))
 }
 
-// The bytes of the plan that a circuit's text makes: refusals 23, 24 and 1 to 8.
+// The bytes of the plan that a circuit's text makes: refusals 23, 24, 3 to 6 and 25.
+// As it is: the C interface hands the text, n, t and p over one by one, here and in the three others that make a plan.
 #[unsafe(no_mangle)]
 pub extern "C" fn pool_import_size(text: &[u8], n: u32, t: u32, p: u32) -> u64
     ensures { result ≡ import_size n t p text.now }
@@ -109,7 +112,8 @@ pub extern "C" fn pool_import_size(text: &[u8], n: u32, t: u32, p: u32) -> u64
     pool_files::import_size(text, n, t, p)
 }
 
-// A circuit in Bristol Fashion imported into a plan: refusals 23, 24, 1 to 8 and 19.
+// A circuit in Bristol Fashion imported into a plan: refusals 23, 24, 3 to 6, 25 and 19.
+// As it is: what it shares with `pool_sheet` is the C interface's row of parameters; each hands it to a crate of its own.
 #[unsafe(no_mangle)]
 pub extern "C" fn pool_import(text: &[u8], n: u32, t: u32, p: u32, plan: &mut [u8]) -> u64
     ensures answer { result ≡ code_of (import_answer n t p text.now (length plan.old)) }
@@ -135,7 +139,7 @@ pub extern "C" fn pool_convert(plan: &[u8], out: &mut [u8]) -> u64
     plan_codes::code(convert_call::convert(plan, out))
 }
 
-// The bytes of the plan that a formula sheet makes, whose result goes to `seat`.
+// The bytes of the plan that a formula sheet makes, whose result goes to `seat`: refusals 27, 24, 3 to 5, 8 and 25.
 #[unsafe(no_mangle)]
 pub extern "C" fn pool_sheet_size(text: &[u8], n: u32, t: u32, p: u32, seat: u32) -> u64
     ensures { result ≡ sheet_size n t p seat text.now }
@@ -143,7 +147,7 @@ pub extern "C" fn pool_sheet_size(text: &[u8], n: u32, t: u32, p: u32, seat: u32
     pool_files::sheet_size(text, n, t, p, seat)
 }
 
-// A formula sheet compiled to a plan, whose result goes to `seat`: refusals 27, 24, 3 to 8 and 19.
+// A formula sheet compiled to a plan, whose result goes to `seat`: refusals 27, 24, 3 to 5, 8, 25 and 19.
 #[unsafe(no_mangle)]
 pub extern "C" fn pool_sheet(text: &[u8], n: u32, t: u32, p: u32, seat: u32, plan: &mut [u8]) -> u64
     ensures answer { result ≡ code_of (sheet_answer n t p seat text.now (length plan.old)) }
@@ -161,6 +165,7 @@ pub extern "C" fn pool_record_size(plan: &[u8]) -> u64
 }
 
 // A run stored: refusals 1 to 8, 25, 26, 10 to 13 and 19.
+// As it is: what it shares with `pool_count` is that each hands the C interface's parameters to one call.
 #[unsafe(no_mangle)]
 pub extern "C" fn pool_record(plan: &[u8], figures: &[u8], coins: &[u8], file: &mut [u8]) -> u64
     ensures answer { result ≡ code_of (record_answer plan.now figures.now coins.now (length file.old)) }
@@ -179,6 +184,7 @@ pub extern "C" fn pool_record_read(plan: &[u8], file: &[u8], numbers: &mut [u8])
 }
 
 // One seat's body of a record, as its plant reads it: refusals 1 to 8, 25, 26, 28, 9 and 19.
+// As it is: what it shares with `pool_record_read` is that each hands the C interface's parameters to one call.
 #[unsafe(no_mangle)]
 pub extern "C" fn pool_record_read_seat(
     plan: &[u8],
@@ -216,11 +222,11 @@ pub extern "C" fn pool_count(
     plan_codes::code(count_call::count(plan, set, figures, coins, rows))
 }
 
-// The line charge, by party: refusals 1 to 8, 31 and 19.
+// The line charge, by party: refusals 1 to 8, 25, 26, 31 and 19.
 #[unsafe(no_mangle)]
 pub extern "C" fn pool_charge(plan: &[u8], price: u32, parts: &mut [u8]) -> u64
     ensures answer { result ≡ billed_of (charged_of (charge_answer plan.now price (length parts.old)) (bill_of (plan_of plan.now) price)) }
     ensures parts { parts.new ≡ charge_after plan.now price parts.old }
 {
-    pool_answers::billed(charge_call::charge(plan, price, parts))
+    pool_answers::answer(charge_call::charge(plan, price, parts))
 }

@@ -1,40 +1,31 @@
 -- What the bench and the line charge answer.
 use Rattle.std.proofs.Common.{Result, Ok, Err}
 use Prim.Native.Nat.{ℕ, ◌*◌, ◌%◌, ◌<◌}
-use mathlib.Core.Path.{◌≡◌, refl, sym, ap, ◌∙◌}
+use mathlib.Core.Path.{◌≡◌, refl, ap}
 use native.Mathlib.Nat.{mod-lt}
 use native.Mathlib.Omega.{arith}
 use borrow.Author.Rules.{rules}
+use Rattle.std.specs.Result.{MatchResult, IsOkAnd}
 use Rattle.plan.specs.declared.Refusal.{Refusal}
-use Rattle.plan.specs.Refusals.{code_of}
-use Rattle.plan_codes.proofs.Codes.{code-answered}
-use Rattle.pool_answers.specs.Answers.{answer_of, billed_of}
-
--- ---- the bench
-pub sent_value : (b : Result ℕ Refusal) (n k : ℕ) → b ≡ Ok n → k ≡ 256 * (n % 4294967296) → k ≡ answer_of b
-unfolding answer_of
-sent_value b n k e f = f ∙ sym (rw e refl)
-
-pub sent_refused : (b : Result ℕ Refusal) (r : Refusal) (k : ℕ) → b ≡ Err r → k ≡ code_of (Err r) → k ≡ answer_of b
-unfolding answer_of
-sent_refused b r k e f = f ∙ sym (rw e refl)
+use Rattle.plan_codes.specs.Values as codes
+use Rattle.pool_answers.specs.Answers.{answer_of}
 
 pub small_rest : (n : ℕ) → n % 4294967296 < 72057594037927936
 small_rest n = omega (arith, mod-lt n {m = 4294967296} (omega arith))
 
-pub bench-answered : (b w : Result ℕ Refusal) (r : ℕ) → b ≡ w → r ≡ answer_of b → r ≡ answer_of w
-bench-answered b w r e f = f ∙ ap answer_of e
+-- the answer of what `map` made of a result, by what its closure gives
+module _ (P : ℕ → ℕ → Type 0) where
+  pub cut_answer : (r m : Result ℕ Refusal) → MatchResult r (λ x. IsOkAnd m (P x)) (λ e. m ≡ Err e) → ((x y : ℕ) → P x y → y ≡ x % 4294967296)
+      → codes.answer_of m ≡ answer_of r
+  unfolding answer_of codes.answer_of
+  cut_answer (Ok x) (Ok y) h f = ap (λ v. 256 * v) (f x y h)
+  cut_answer (Ok x) (Err e) h f = absurd h
+  cut_answer (Err e) m h f = rw h refl
 
--- ---- the line charge
-pub billed_value : (c : Result ℕ Refusal) (cents k : ℕ) → c ≡ Ok cents → k ≡ 256 * (cents % 4294967296) → k ≡ billed_of c
-unfolding billed_of
-billed_value c cents k e f = f ∙ sym (rw e refl)
+  pub same_answer : (r m : Result ℕ Refusal) → MatchResult r (λ x. IsOkAnd m (P x)) (λ e. m ≡ Err e) → ((x y : ℕ) → P x y → y ≡ x) → answer_of m ≡ answer_of r
+  unfolding answer_of
+  same_answer (Ok x) (Ok y) h f = ap (λ v. answer_of (Ok v)) (f x y h)
+  same_answer (Ok x) (Err e) h f = absurd h
+  same_answer (Err e) m h f = ap answer_of h
 
-pub billed_refused : (c : Result ℕ Refusal) (r : Refusal) (k : ℕ) → c ≡ Err r → k ≡ code_of (Err r) → k ≡ billed_of c
-unfolding billed_of
-billed_refused c r k e f = f ∙ sym (rw e refl)
-
-pub charge-answered : (c w : Result ℕ Refusal) (r : ℕ) → c ≡ w → r ≡ billed_of c → r ≡ billed_of w
-charge-answered c w r e f = f ∙ ap billed_of e
-
-pub ruleset answering = (rules, code-answered, sent_value, sent_refused, small_rest, bench-answered, billed_value, billed_refused, charge-answered)
+pub ruleset answering = (rules, small_rest)

@@ -9,6 +9,5 @@ answer_of (Ok n) = 256 * (n % 4294967296)
 answer_of (Err r) = code_of (Err r)
 
 -- what the line charge answers: the bill as its value, in bits 8 to 39 (it is at most 231,360,000), or the refusal's code
-unfoldable pub billed_of : Result ℕ Refusal → ℕ
-billed_of (Ok cents) = 256 * (cents % 4294967296)
-billed_of (Err r) = code_of (Err r)
+abbrev pub billed_of : Result ℕ Refusal → ℕ
+billed_of = answer_of

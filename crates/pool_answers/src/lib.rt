@@ -2,26 +2,20 @@
 #![tactic(auto, using(crate::proofs::Answers::answering))]
 
 ghost use Rattle.std.specs.Prelude.{◌≡◌};
-ghost use Rattle.pool_answers.specs.Answers.{answer_of, billed_of};
+ghost use Rattle.pool_answers.specs.Answers.{answer_of};
 
 use plan::Refusal;
 
-// The bench's answer: the elements sent as its value, or the refusal.
+// The answer of a call that has a number: the number as its value, in 32 bits, or the refusal.
+pub fn answer(r: Result<u64, Refusal>) -> u64
+    ensures { result ≡ answer_of r }
+{
+    plan_codes::answer(r.map(|v| (v % 4294967296) as usize))
+}
+
+// The bench's answer, of the elements sent.
 pub fn sent(b: Result<usize, Refusal>) -> u64
     ensures { result ≡ answer_of b }
 {
-    match b {
-        Ok(n) => plan_codes::value(n % 4294967296),
-        Err(r) => plan_codes::code(Err(r)),
-    }
-}
-
-// The line charge's answer: the bill as its value, or the refusal.
-pub fn billed(c: Result<u64, Refusal>) -> u64
-    ensures { result ≡ billed_of c }
-{
-    match c {
-        Ok(cents) => plan_codes::value((cents % 4294967296) as usize),
-        Err(r) => plan_codes::code(Err(r)),
-    }
+    answer(b.map(|n| n as u64))
 }

@@ -1,60 +1,37 @@
 // The sizes of the lists and of the record that a host lends.
 #![tactic(auto)]
 
-ghost use Rattle.std.specs.Prelude.{suc, IfOk, ◌≡◌, [], ◌∷◌, ◌++◌, ◌*◌, ◌<◌, ◌≤◌};
+ghost use Rattle.std.specs.Prelude.{IfOk, ◌≡◌, [], ◌∷◌, ◌++◌, ◌*◌, ◌<◌, ◌≤◌};
 ghost use Rattle.numbers.specs.Bytes.{width};
 ghost use Rattle.plan.specs.declared.Refusal.TheVariants.{Coalition};
 ghost use Rattle.plan.specs.Refusals.{first_of, need};
-ghost use Rattle.plan.specs.Plans.{party_count, last_call};
-ghost use Rattle.plan.specs.File.{between, plan_checks, plan_check, plan_of};
+ghost use Rattle.plan.specs.Plans.{party_count};
+ghost use Rattle.plan.specs.File.{between, plan_checks, plan_of};
 ghost use Rattle.plan_coalition.specs.Coalitions.{set_ok};
-ghost use Rattle.record_laws.specs.Records.{record_size};
 ghost use Rattle.plan_codes.specs.Values.{Answered};
-ghost use Rattle.pool_sizes.specs.Sizes.{mail_of_call, written_by_call, seat_count, run_count, seat_size, call_count, run_size, stored_size};
+ghost use Rattle.pool_sizes.specs.Sizes.{seat_count, run_count, seat_size, call_count, run_size, stored_size};
 
 use plan::{PlanFile, Refusal};
 use plan_counts::Seat;
 
-// As it is: what a call takes and what it writes are two sizes; a closure for which of them would have to carry its bound.
-#[tactic(auto, using(crate::proofs::Sized::counting))]
-fn mail_of_call(seat: &Seat, call: usize) -> usize
-    ensures { record { eq : result ≡ mail_of_call (plan_of seat.now.plan.now.bytes.now) seat.now.party call; le : result ≤ 15360 } }
-{
-    if call <= seat.last_call() {
-        plan_sizes::mail_by(seat, call)
-    } else {
-        0
-    }
-}
-
-#[tactic(auto, using(crate::proofs::Sized::counting))]
-fn written_by_call(seat: &Seat, call: usize) -> usize
-    ensures { record { eq : result ≡ written_by_call (plan_of seat.now.plan.now.bytes.now) seat.now.party call; le : result ≤ 15360 } }
-{
-    if call <= seat.last_call() {
-        plan_sizes::written_by(seat, call)
-    } else {
-        0
-    }
-}
-
-// The numbers of one of a seat's lists.
+// How many numbers one of a seat's lists has.
 // As it is: the C interface names the lists by numbers, here and of a run.
 #[tactic(auto, using(crate::proofs::Sized::counting))]
 fn seat_count(seat: &Seat, call: usize, what: u16) -> usize
     ensures { record { eq : result ≡ seat_count (plan_of seat.now.plan.now.bytes.now) seat.now.party call what; le : result ≤ 15360 } }
 {
+    let is_made = call <= seat.last_call();
     match what {
         0 => seat.own_inputs(),
         1 => seat.tally.coins,
         2 => 1 + seat.plan.header.gates,
-        3 => mail_of_call(seat, call),
-        4 => written_by_call(seat, call),
+        3 if is_made => plan_sizes::mail_by(seat, call),
+        4 if is_made => plan_sizes::written_by(seat, call),
         _ => 0,
     }
 }
 
-// The numbers of one of a run's lists.
+// How many numbers one of a run's lists has.
 #[tactic(auto, using(crate::proofs::Sized::counting))]
 fn run_count(plan: &PlanFile, set: u16, what: u16) -> usize
     ensures { record { eq : result ≡ run_count (plan_of plan.now.bytes.now) set what; le : result ≤ 524288 } }
@@ -73,7 +50,7 @@ fn seat_bytes(bytes: &[u8], party: u16, call: u16, what: u16) -> Result<usize, R
     ensures small { IfOk result (λ s. s < 72057594037927936) }
 {
     let plan = plan_reading::read(bytes)?;
-    if !plan_reading::is_between(1, plan.header.n, party as usize) {
+    if !(1..=plan.header.n).contains(&(party as usize)) {
         return Err(Refusal::Coalition);
     }
     let seat = Seat::new(&plan, party as usize);
@@ -88,21 +65,13 @@ pub fn seat_size(plan: &[u8], seat: u16, call: u16, what: u16) -> u64
     plan_codes::answer(seat_bytes(plan, seat, call, what))
 }
 
-#[tactic(auto, using(crate::proofs::Sized::sizing))]
-fn call_number(bytes: &[u8]) -> Result<usize, Refusal>
-    ensures is { Answered result (plan_check bytes.now) (suc (last_call (plan_of bytes.now))) }
-    ensures small { IfOk result (λ s. s < 72057594037927936) }
-{
-    let plan = plan_reading::read(bytes)?;
-    Ok(plan_counts::last_call(&plan) + 1)
-}
-
 // How many calls each party makes.
+// As it is: `record_size` reads as this does; a function for both would take the closure that `map` takes.
 #[tactic(auto, using(crate::proofs::Sized::sizing))]
 pub fn calls(plan: &[u8]) -> u64
     ensures { result ≡ call_count plan.now }
 {
-    plan_codes::answer(call_number(plan))
+    plan_codes::answer(plan_reading::read(plan).map(|file| plan_counts::last_call(&file) + 1))
 }
 
 #[tactic(auto, using(crate::proofs::Sized::sizing))]
@@ -111,7 +80,7 @@ fn run_bytes(bytes: &[u8], set: u16, what: u16) -> Result<usize, Refusal>
     ensures small { IfOk result (λ s. s < 72057594037927936) }
 {
     let plan = plan_reading::read(bytes)?;
-    if !plan_coalition::set_ok(plan.header, set) {
+    if !plan_coalition::set_ok(plan.header.n, plan.header.t, set) {
         return Err(Refusal::Coalition);
     }
     Ok(numbers::WIDTH * run_count(&plan, set, what))
@@ -125,19 +94,10 @@ pub fn run_size(plan: &[u8], set: u16, what: u16) -> u64
     plan_codes::answer(run_bytes(plan, set, what))
 }
 
-#[tactic(auto, using(crate::proofs::Sized::sizing))]
-fn record_bytes(bytes: &[u8]) -> Result<usize, Refusal>
-    ensures is { Answered result (plan_check bytes.now) (record_size (plan_of bytes.now)) }
-    ensures small { IfOk result (λ s. s < 72057594037927936) }
-{
-    let plan = plan_reading::read(bytes)?;
-    Ok(record_write::record_size(&plan))
-}
-
 // The bytes of a run's record: refusals 1 to 8, 25 and 26.
 #[tactic(auto, using(crate::proofs::Sized::sizing))]
 pub fn record_size(plan: &[u8]) -> u64
     ensures { result ≡ stored_size plan.now }
 {
-    plan_codes::answer(record_bytes(plan))
+    plan_codes::answer(plan_reading::read(plan).map(|file| record_write::record_size(&file)))
 }

@@ -14,7 +14,7 @@ fn views_bytes(bytes: &[u8], set: u16) -> Result<usize, Refusal>
     ensures small { IfOk result (λ s. s < 72057594037927936) }
 {
     let plan = plan_reading::read(bytes)?;
-    if !plan_coalition::set_ok(plan.header, set) {
+    if !plan_coalition::set_ok(plan.header.n, plan.header.t, set) {
         return Err(Refusal::Coalition);
     }
     let k = count_call::checking::settings(&plan, set);

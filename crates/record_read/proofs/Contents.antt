@@ -1,7 +1,7 @@
 -- The contents of a record against the plan, party by party.
 --     contents, tiling     what closes the needs of the functions that check a record
 -- Assumes nothing.
-use Rattle.std.proofs.Common.{Option, Some, None}
+use Rattle.std.proofs.Common.{Option, Some, None, Ok, Err}
 use Prim.Native.Nat.{ℕ, suc, ◌+◌, ◌-◌, ◌*◌, ◌<◌, ◌≤◌}
 use mathlib.Core.Path.{◌≡◌, refl, sym, ap, ◌∙◌}
 use mathlib.Core.Bool.{Bool, true, false, not, ◌&&◌}
@@ -18,9 +18,13 @@ use Rattle.numbers.specs.Bytes.{width, number_at, numbers}
 use Rattle.numbers.proofs.Bytes.{get_or-numbers}
 use Rattle.numbers.proofs.Searches.{Seeking, begin, found, passed, nothing}
 use Rattle.plan.specs.declared.Header.{Header}
+use Rattle.plan.specs.declared.Refusal.{Refusal}
+use Rattle.plan.specs.declared.Refusal.TheVariants as refusal
+use Rattle.plan.specs.Refusals.{need}
 use Rattle.plan.specs.Plans.{Plan, party_count}
 use Rattle.plan.specs.File.{found_none, plan_of}
 use Rattle.plan.specs.Planned.{Planned}
+use Rattle.plan.proofs.Refusals.{need-true, need-false}
 use Rattle.plan.proofs.Planned.{plan_n}
 use Rattle.run_protocol.specs.Rounds.{view_count_of}
 use Rattle.record_laws.specs.Records.{body_size, bodies_before, body_start, record_size, content_kept, record_ok}
@@ -88,10 +92,13 @@ module _ (bs : List ℕ) (h : Header) (pl : Planned bs h) (s : List ℕ) where
   unfolding record_ok
   ok-is = ap (λ (n : ℕ). eqb (length s) (record_size (plan_of bs)) && found_none (first_failing (content_kept (plan_of bs) s) n)) (plan_n pl)
 
-  pub tile_short : length s < 8 * h.n → false ≡ record_ok (plan_of bs) s
+  untiled : false ≡ record_ok (plan_of bs) s → Err refusal.Record ≡ need refusal.Record (record_ok (plan_of bs) s)
+  untiled e = sym (need-false refusal.Record _ (sym e))
+
+  pub tile_short : length s < 8 * h.n → Err refusal.Record ≡ need refusal.Record (record_ok (plan_of bs) s)
   tile_short l =
       let less : 8 * h.n ≤ record_size (plan_of bs) = omega (arith, start_within (plan_of bs) 0 (omega arith), start_first (plan_of bs), plan_n pl) in
-      sym (ok-is ∙ rw (ne_eqb (length s) (record_size (plan_of bs)) (λ e. omega (arith, e, less))))
+      untiled (sym (ok-is ∙ rw (ne_eqb (length s) (record_size (plan_of bs)) (λ e. omega (arith, e, less)))))
 
   pub tile-none : 8 * h.n ≤ length s → Tiled bs h s 0 (8 * h.n)
   tile-none l = record {
@@ -114,8 +121,8 @@ module _ (bs : List ℕ) (h : Header) (pl : Planned bs h) (s : List ℕ) where
       unfolding content_kept
       kept-is = eb ∙ rw (t.start, size_is)
 
-      pub tile-not : b ≡ false → false ≡ record_ok (plan_of bs) s
-      tile-not e = not_found _ (eqb (length s) (record_size (plan_of bs))) k (found (content_kept (plan_of bs) s) h.n k t.kept l (sym kept-is ∙ e)) ∙ sym ok-is
+      pub tile-not : b ≡ false → Err refusal.Record ≡ need refusal.Record (record_ok (plan_of bs) s)
+      tile-not e = untiled (not_found _ (eqb (length s) (record_size (plan_of bs))) k (found (content_kept (plan_of bs) s) h.n k t.kept l (sym kept-is ∙ e)) ∙ sym ok-is)
 
       pub tile-next : not b ≡ false → size ≤ 131072 → Tiled bs h s (k + 1) (at + size)
       tile-next e few = record {
@@ -126,11 +133,18 @@ module _ (bs : List ℕ) (h : Header) (pl : Planned bs h) (s : List ℕ) where
         kept = passed (content_kept (plan_of bs) s) h.n k t.kept l (sym kept-is ∙ not-false b e);
       }
 
-    pub tile-end : h.n ≤ k → eqb (length s) at ≡ record_ok (plan_of bs) s
+    tile-end : h.n ≤ k → eqb (length s) at ≡ record_ok (plan_of bs) s
     unfolding record_size
     tile-end l =
         let q : k ≡ party_count (plan_of bs) = omega (arith, t.within, plan_n pl) in
         ap (eqb (length s)) (t.start ∙ ap (body_start (plan_of bs)) q)
         ∙ none_found _ (eqb (length s) (record_size (plan_of bs))) (nothing (content_kept (plan_of bs) s) h.n k t.kept l) ∙ sym ok-is
 
-pub ruleset tiling = (rules, not-true, not-false, tile_short, tile-none, tile-room, tile-not, tile-next, tile-end)
+    pub tile-over : h.n ≤ k → (length s ≡ at → ⊥) → Err refusal.Record ≡ need refusal.Record (record_ok (plan_of bs) s)
+    tile-over l n = untiled (sym (ne_eqb (length s) at n) ∙ tile-end l)
+
+    pub tile-passes : h.n ≤ k → length s ≡ at → (Ok tt) ≡ need refusal.Record (record_ok (plan_of bs) s)
+    tile-passes l e = sym (need-true refusal.Record _ (sym (tile-end l) ∙ eq-eqb (length s) at e))
+
+-- As it is: answers name this set, since the check leaves their goals open by `using` alone.
+pub ruleset tiling = (rules, not-true, not-false, tile_short, tile-none, tile-room, tile-not, tile-next, tile-over, tile-passes)

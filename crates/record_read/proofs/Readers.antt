@@ -27,6 +27,7 @@ use Rattle.plan.specs.Plans.{Plan, party_count, parties}
 use Rattle.plan.specs.File.{between, found_none, plan_checks, plan_check, plan_of}
 use Rattle.plan.specs.Planned.{Planned}
 use Rattle.plan.proofs.Refusals.{and_then_passed, and_then_refused, and_then_end, first_of-append, need-true, need-false, passed_both, passed-need}
+use Rattle.plan.proofs.Ranges.{contains_is}
 use Rattle.plan.proofs.Planned.{plan_n, between-true}
 use Rattle.seat_messages.specs.Calls.{unless_refused}
 use Rattle.run_protocol.specs.Rounds.{view_count}
@@ -97,21 +98,21 @@ module _ (bs s out : List ℕ) where
     pub all-fits : Fits w64 (8 * h.n)
     all-fits = record { fits = omega (arith, pl.n-high) }
 
-    module _ (t : Bool) (et : t ≡ record_ok (plan_of bs) s) where
-      module _ (y : t ≡ false) where
-        all-untiled : bench_read_answer bs s (length out) ≡ Err refusal.Record
-        all-untiled = all-parts ∙ and_then_passed (plan_check bs) _ pl.passes ∙ and_then_refused _ _ refusal.Record (need-false refusal.Record _ (sym et ∙ y))
+    module _ (t : Checked) (et : t ≡ need refusal.Record (record_ok (plan_of bs) s)) where
+      module _ (q : Refusal) (y : t ≡ Err q) where
+        all-untiled : bench_read_answer bs s (length out) ≡ Err q
+        all-untiled = all-parts ∙ and_then_passed (plan_check bs) _ pl.passes ∙ and_then_refused _ _ q (sym et ∙ y)
 
-        pub all-record : Err refusal.Record ≡ bench_read_answer bs s (length out)
+        pub all-record : Err q ≡ bench_read_answer bs s (length out)
         all-record = sym all-untiled
 
         pub all-kept-record : out ≡ bench_read_after bs s out
         unfolding bench_read_after
-        all-kept-record = kept _ refusal.Record _ out all-untiled
+        all-kept-record = kept _ q _ out all-untiled
 
-      module _ (y : t ≡ true) where
+      module _ (y : t ≡ (Ok tt)) where
         tiled : record_ok (plan_of bs) s ≡ true
-        tiled = sym et ∙ y
+        tiled = passed-need refusal.Record _ (sym et ∙ y)
 
         pub all-contents : 8 * h.n ≤ length s
         all-contents = omega (arith, tiled-contents (plan_of bs) s tiled, n-is)
@@ -151,19 +152,19 @@ module _ (bs s out : List ℕ) where
 pub ruleset reading_all = (rules, not-true, not-false, all-no-plan, all-kept-no-plan, all-fits, all-record, all-kept-record, all-contents, all_short, all-kept-short, all-within, all-passed, all_read)
 
 -- ---- the checks of a plant's reader
-module _ (bs : List ℕ) (h : Header) (p : Planned bs h) (s : List ℕ) (i room : ℕ) (t : Bool) (et : t ≡ record_ok (plan_of bs) s) where
+module _ (bs : List ℕ) (h : Header) (p : Planned bs h) (s : List ℕ) (i room : ℕ) (t : Checked) (et : t ≡ need refusal.Record (record_ok (plan_of bs) s)) where
   seat-parts :
       first_of (seat_checks (plan_of bs) s i room)
-      ≡ and_then (need refusal.Record t) (and_then (need refusal.Coalition (between 1 h.n i)) (need refusal.BufferLength (eqb room (body_size (plan_of bs) i))))
+      ≡ and_then t (and_then (need refusal.Coalition (between 1 h.n i)) (need refusal.BufferLength (eqb room (body_size (plan_of bs) i))))
   unfolding seat_checks first_of
   seat-parts = rw (← et, plan_n p, and_then_end)
 
-  pub seat-record : t ≡ false → Err refusal.Record ≡ first_of (seat_checks (plan_of bs) s i room)
-  seat-record y = sym (seat-parts ∙ and_then_refused _ _ refusal.Record (need-false refusal.Record t y))
+  pub seat-record : (q : Refusal) → t ≡ Err q → Err q ≡ first_of (seat_checks (plan_of bs) s i room)
+  seat-record q y = sym (seat-parts ∙ and_then_refused t _ q y)
 
-  module _ (y : t ≡ true) (u : Bool) (eu : u ≡ between 1 h.n i) where
+  module _ (y : t ≡ (Ok tt)) (u : Bool) (eu : u ≡ between 1 h.n i) where
     past-record : first_of (seat_checks (plan_of bs) s i room) ≡ and_then (need refusal.Coalition u) (need refusal.BufferLength (eqb room (body_size (plan_of bs) i)))
-    past-record = seat-parts ∙ and_then_passed _ _ (need-true refusal.Record t y) ∙ rw (← eu)
+    past-record = seat-parts ∙ and_then_passed t _ y ∙ rw (← eu)
 
     pub seat-stranger : u ≡ false → Err refusal.Coalition ≡ first_of (seat_checks (plan_of bs) s i room)
     seat-stranger z = sym (past-record ∙ and_then_refused _ _ refusal.Coalition (need-false refusal.Coalition u z))
@@ -178,7 +179,7 @@ module _ (bs : List ℕ) (h : Header) (p : Planned bs h) (s : List ℕ) (i room 
       pub seat-passes : room ≡ size → (Ok tt) ≡ first_of (seat_checks (plan_of bs) s i room)
       seat-passes e = sym (past-seat ∙ need-true refusal.BufferLength _ (eq-eqb room size e))
 
-pub ruleset checking_seat = (rules, not-true, not-false, seat-record, seat-stranger, seat-short, seat-passes)
+pub ruleset checking_seat = (rules, not-true, not-false, contains_is, seat-record, seat-stranger, seat-short, seat-passes)
 
 -- ---- a plant's reader
 module _ (bs s out : List ℕ) (i : ℕ) where

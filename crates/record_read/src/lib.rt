@@ -3,7 +3,8 @@
 
 ghost use Rattle.std.specs.Prelude.{◌≡◌, ◌&&◌, ◌+◌, ◌-◌, ◌*◌, ◌≤◌, eqb, length, take, drop};
 ghost use Rattle.numbers.specs.Bytes.{number_at};
-ghost use Rattle.plan.specs.Refusals.{first_of};
+ghost use Rattle.plan.specs.Refusals.{first_of, need};
+ghost use Rattle.plan.specs.declared.Refusal.TheVariants.{Record};
 ghost use Rattle.plan.specs.File.{plan_of};
 ghost use Rattle.record_laws.specs.Records.{record_ok, bench_read_answer, bench_read_after, plant_read_answer, plant_read_after};
 ghost use Rattle.record_read.specs.SeatChecks.{seat_checks, Listed};
@@ -21,23 +22,26 @@ fn content_is(file: &[u8], k: usize, at: usize, size: usize) -> bool
     offset == at && bytes == size
 }
 
-// Whether the contents tile the file, parties ascending, and each body has the length that the plan gives.
+// Refusal 28: the contents tile the file, parties ascending, and each body has the length that the plan gives.
 #[tactic(auto, using(crate::proofs::Contents::tiling))]
-fn check_record(plan: &PlanFile, file: &[u8]) -> bool
-    ensures { result ≡ record_ok (plan_of plan.now.bytes.now) file.now }
+fn check_record(plan: &PlanFile, file: &[u8]) -> Result<(), Refusal>
+    ensures { result ≡ need Record (record_ok (plan_of plan.now.bytes.now) file.now) }
 {
     let mut at = 8 * plan.header.n;
     if file.len() < at {
-        return false;
+        return Err(Refusal::Record);
     }
     for k in 0..plan.header.n {
         let size = record_write::body_size(plan, k + 1);
         if !content_is(file, k, at, size) {
-            return false;
+            return Err(Refusal::Record);
         }
         at += size;
     }
-    file.len() == at
+    if file.len() != at {
+        return Err(Refusal::Record);
+    }
+    Ok(())
 }
 
 // The offset that the contents give for the body of party i.
@@ -63,9 +67,7 @@ fn read_all_on(plan: &PlanFile, file: &[u8], out: &mut [u8]) -> Result<(), Refus
     ensures answer { result ≡ bench_read_answer plan.now.bytes.now file.now (length out.old) }
     ensures out { out.new ≡ bench_read_after plan.now.bytes.now file.now out.old }
 {
-    if !check_record(plan, file) {
-        return Err(Refusal::Record);
-    }
+    check_record(plan, file)?;
     let at = 8 * plan.header.n;
     if out.len() != file.len() - at {
         return Err(Refusal::BufferLength);
@@ -89,11 +91,8 @@ pub fn read_all(bytes: &[u8], file: &[u8], out: &mut [u8]) -> Result<(), Refusal
 fn check_seat(plan: &PlanFile, file: &[u8], i: usize, room: usize) -> Result<(), Refusal>
     ensures { result ≡ first_of (seat_checks (plan_of plan.now.bytes.now) file.now i room) }
 {
-    let tiled = check_record(plan, file);
-    let seated = plan_reading::is_between(1, plan.header.n, i);
-    if !tiled {
-        return Err(Refusal::Record);
-    }
+    let seated = (1..=plan.header.n).contains(&i);
+    check_record(plan, file)?;
     if !seated {
         return Err(Refusal::Coalition);
     }
@@ -116,6 +115,7 @@ fn read_seat_on(plan: &PlanFile, file: &[u8], i: usize, out: &mut [u8]) -> Resul
 
 // A plant's reader: fills `out` with the body of the party of this seat number; or answers the first refusal of the plan, 28, 9 or 19, and then
 // `out` is not written. Of the record's bodies no other is read: what it answers and writes depends on the contents, this body and the length.
+// As it is: what it shares with `read_all` is the line that reads the plan.
 #[tactic(auto, using(crate::proofs::Readers::reading_seat))]
 pub fn read_seat(bytes: &[u8], file: &[u8], seat: u16, out: &mut [u8]) -> Result<(), Refusal>
     ensures answer { result ≡ plant_read_answer bytes.now file.now seat (length out.old) }

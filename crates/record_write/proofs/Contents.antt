@@ -86,6 +86,7 @@ bodies_fit k l = record { fits = omega arith }
 pub contents_fit : (n : ℕ) → n ≤ 15 → Fits w64 (8 * n)
 contents_fit n l = record { fits = omega arith }
 
+-- As it is: answers name this set, since the check leaves their goals open by `using` alone.
 pub ruleset sizing = (rules, few-parties, body_is, body_most, body_fits, size-is_all, size_most, size_fits, bodies_fit, contents_fit)
 
 -- ---- the contents
@@ -166,4 +167,5 @@ content_put k at size d e f a b = b ∙ ap (λ (s : List ℕ). stored s (2 * k +
 pub content_long : (k at size : ℕ) (d e f : List ℕ) → e ≡ stored d (2 * k) at → f ≡ stored e (2 * k + 1) size → length f ≡ length d
 content_long k at size d e f a b = ap length (content_put k at size d e f a b) ∙ length-stored (stored d (2 * k) at) (2 * k + 1) size ∙ length-stored d (2 * k) at
 
+-- As it is: answers name this set, since the check leaves their goals open by `using` alone.
 pub ruleset listing = (rules, few-parties, contents_fit, listed-none, listed-few, listed-fits, listed_next, listed-done, listed-long, put_fits, put_fits_next, content_put, content_long)

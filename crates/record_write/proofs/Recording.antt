@@ -75,6 +75,7 @@ module _ {bs : List ℕ} {h : Header} (pl : Planned bs h) where
             length-append (take (8 * h.n) d) (ys ++ drop (length d - 8 * h.n) (drop (8 * h.n) d))
             ∙ omega (arith, bodies-start, length-take-le (8 * h.n) d bodies-start, length-append ys (drop (length d - 8 * h.n) (drop (8 * h.n) d)), ap length nothing-after, ey, ap length part-is, length-drop (8 * h.n) d)
 
+-- As it is: answers name this set, since the check leaves their goals open by `using` alone.
 pub ruleset writing = (rules, few-parties, contents_fit, everyone_within, contents-room, bodies-start, bodies-room, record_is, record-long)
 
 -- ---- the call

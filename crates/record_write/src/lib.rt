@@ -74,7 +74,8 @@ fn write_record(plan: &PlanFile, inputs: &[u8], coins: &[u8], out: &mut [u8])
 }
 
 // The record of a plan that passes.
-// As it is: the call's own arguments, of which nothing is known before the checks and all after them.
+// As it is: inputs, coins and out are the call's own. A struct of them would be no plainer: nothing is known of them before the checks, and what is known
+// after them is asked by write_record alone.
 #[tactic(auto, using(crate::proofs::Recording::recording))]
 fn record_on(plan: &PlanFile, inputs: &[u8], coins: &[u8], out: &mut [u8]) -> Result<(), Refusal>
     ensures answer { result ≡ record_answer plan.now.bytes.now inputs.now coins.now (length out.old) }

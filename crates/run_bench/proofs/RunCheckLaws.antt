@@ -111,6 +111,7 @@ module _ (bs : List ℕ) (h : Header) (pl : Planned bs h) where
         let dealt : m * (h.t + h.t + 1) ≡ dealer_count (plan_of bs) * kind_count (plan_of bs) 5 = mul_comm m (h.t + h.t + 1) ∙ ap₂ (λ (a b : ℕ). a * b) (sym (plan_dealers pl)) em in
         omega (arith, own_is bs h pl i x ex, mail-total (plan_of bs) (plain bs pl.passes) i)
 
+-- As it is: answers name this set, since the check leaves their goals open by `using` alone.
 pub ruleset sizing = (rules, by-dealers-fits, dealt-fits, outs_fits, all-mail-fits, rest-fits, drawn-fits, view_fits, view-few, view-is)
 
 -- ---- a member's
@@ -164,6 +165,7 @@ module _ (plan : Plan) (set k i : ℕ) (s : Sizing plan set k i) where
   pub size_most : k ≤ 524288
   size_most = omega (arith, s.few, s.high)
 
+-- As it is: answers name this set, since the check leaves their goals open by `using` alone.
 pub ruleset sizing_all = (rules, size_none, size_next, size_done, size_most)
 
 -- ---- what a run is given

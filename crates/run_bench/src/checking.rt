@@ -65,7 +65,7 @@ pub fn check(
 ) -> Result<(), Refusal>
     ensures { result ≡ first_of (run_checks (plan_of plan.now.bytes.now) set inputs.now coins.now room) }
 {
-    if !plan_coalition::set_ok(plan.header, set) {
+    if !plan_coalition::set_ok(plan.header.n, plan.header.t, set) {
         return Err(Refusal::Coalition);
     }
     check_given(plan, inputs, coins)?;

@@ -71,4 +71,5 @@ module _ (bs : List ℕ) (h : Header) (k : Planned bs h) where
   pub draws-fit : Fits w64 (h.t * h.n)
   draws-fit = record { fits = omega (arith, draws-few) }
 
+-- As it is: answers name this set, since the check leaves their goals open by `using` alone.
 pub ruleset taking_coins = (rules, coins_input, coins_multiply, coins_random, coins_else, coins_few, coins-fit, draws-few, draws-fit)

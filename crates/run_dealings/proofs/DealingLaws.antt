@@ -4,14 +4,12 @@
 --     preparing                        what is worked out once
 -- Assumes nothing.
 use mathlib.Core.Path.{◌≡◌, refl, sym, ap, ap₂, ◌∙◌, fun_ext}
-use mathlib.Core.Bool.{Bool, true, false}
+use mathlib.Core.Bool.{Bool, true}
 use mathlib.Core.List.{List, [], ◌∷◌, ◌++◌, map, flat_map}
 use Prim.Native.Nat.{ℕ, zero, suc, ◌+◌, ◌-◌, ◌*◌, ◌/◌, ◌<◌, ◌≤◌}
 use native.Mathlib.Nat.{mul-le-mul}
 use native.Mathlib.Omega.{arith}
 use borrow.Author.Rules.{rules}
-use borrow.Author.Tests.{ltb-true, ltb-false}
-use lib.Dec.{ltb}
 use lib.ListN.{length, take, drop, set, get_or, replicate, length-append, length-take, take-append-drop}
 use lib.Seq.{take_at, drop_at, length-take-le}
 use mir.Syntax.{w64}
@@ -32,66 +30,41 @@ use Rattle.sharing_laws.proofs.Polys.{eval-padded, values-padded}
 use Rattle.sharing_laws.proofs.Elements.{padded-below}
 use Rattle.sharing_laws.proofs.Alls.{map-tab}
 use Rattle.sharing.proofs.Coding.{plain-dot}
-use Rattle.sharing_openings.proofs.Rows.{row_at}
+use Rattle.sharing_laws.proofs.Interpolation.{length-weights}
+use Rattle.sharing_openings.proofs.Rows.{row_at, weights_below}
 use Rattle.run_dealings.specs.Rows.{terms, powers, power_rows, products_of, shared_by, mixed_at, Powered, Dealers, Weighted, Coined}
 use Rattle.run_dealings.specs.Columns.{column_sum, piece_by, pieces_by, share_at}
-use Rattle.run_dealings.proofs.RowLaws.{part_front, made}
+use Rattle.run_dealings.proofs.RowLaws.{Making, make-none, make-next, part_front, made}
 use Rattle.run_dealings.proofs.PowerLaws.{eval-powers, rows-flat}
-use Rattle.run_dealings.proofs.PolynomialLaws.{length_shared, shared_short, below-cons, length-padded, polynomial_at, terms_few, terms_many, terms_most}
-use Rattle.run_dealings.proofs.ColumnLaws.{Rowing, rowing, row-none, row_next, row_is, row_long}
-
--- ---- the count of coefficients
-module _ (t k : ℕ) (e : k ≡ terms t) where
-  record Counted : Type 0 where
-    most : k ≤ 16
-    small : t < 8 → k ≤ 8
-    above : t < 16 → t < k
-
-  terms_by : (b c : Bool) → ltb t 4 ≡ b → ltb t 8 ≡ c → Counted
-  terms_by true c l m =
-      let q : k ≡ 4 = e ∙ sym (terms_few t (ltb-true t 4 l)) in
-      record { most = omega arith; small = λ s. omega arith; above = λ s. omega (arith, ltb-true t 4 l) }
-  terms_by false true l m =
-      let q : k ≡ 8 = e ∙ sym (terms_many t (ltb-false t 4 l) (ltb-true t 8 m)) in
-      record { most = omega arith; small = λ s. omega arith; above = λ s. omega (arith, ltb-true t 8 m) }
-  terms_by false false l m =
-      let q : k ≡ 16 = e ∙ sym (terms_most t (ltb-false t 4 l) (ltb-false t 8 m)) in
-      record { most = omega arith; small = λ s. omega (arith, ltb-false t 8 m); above = λ s. omega arith }
-
-  pub terms_within : k ≤ 16
-  terms_within = (terms_by (ltb t 4) (ltb t 8) refl refl).most
-
-  pub terms_small : t < 8 → k ≤ 8
-  terms_small = (terms_by (ltb t 4) (ltb t 8) refl refl).small
-
-  pub terms_above : t < 16 → t < k
-  terms_above = (terms_by (ltb t 4) (ltb t 8) refl refl).above
+use Rattle.run_dealings.proofs.PolynomialLaws.{length_shared, shared_short, below-cons, length-padded, polynomial_at, terms_few, terms_many, terms_within, terms_small, terms_above}
+use Rattle.run_dealings.proofs.ColumnLaws.{few_weights, powered_by, rowing, row_is, row_long, row_small}
 
 -- ---- a dealing's row: j pieces stand
-pub record Piecing (p : ℕ) (f points d : List ℕ) (at j : ℕ) : Type 0 where
-  pub rows : Rowing (length f) (λ i. eval p f (get_or points i 0)) (length points) d at j
+pub record Piecing (p : ℕ) (f points d : List ℕ) (j : ℕ) : Type 0 where
+  pub fills : Making (λ i. eval p f (get_or points i 0)) (length points) d j
 
 module _ (p : ℕ) (f points : List ℕ) where
-  pub piece-none : Piecing p f points (replicate 15 0) 0 0
-  piece-none = record { rows = row-none (length f) _ (length points) }
+  pub piece-none : Piecing p f points (replicate 15 0) 0
+  piece-none = record { fills = make-none _ (length points) }
 
-  module _ (d : List ℕ) (at j : ℕ) (h : Piecing p f points d at j) where
-    module _ (rows : List ℕ) (b : Powered p (length f) points rows) (l : j < length points) where
-      pub row-short : length (take (at + length f - at) (drop at rows)) ≤ length f
-      row-short = omega (arith, row_long p (length f) points rows b _ d at j h.rows l)
+  module _ (d : List ℕ) (j : ℕ) (h : Piecing p f points d j) where
+    module _ (t : ℕ) (counted : length f ≡ terms t) (rows : List ℕ) (b : Powered p (terms t) points rows) (l : j < length points) where
+      pub row-short : length (take (length f * j + length f - length f * j) (drop (length f * j) rows)) ≤ length f
+      row-short = omega (arith, row_long p t (length f) counted points rows b j l)
 
-      pub piece-next : (v : ℕ) → length points ≤ 15 → Is p (dot p (take (at + length f - at) (drop at rows)) f) v → Piecing p f points (set d j v) (at + length f) (j + 1)
+      pub row_within_16 : length (take (length f * j + length f - length f * j) (drop (length f * j) rows)) ≤ 16
+      row_within_16 = row_small p t (length f) counted points rows b j l
+
+      pub piece-next : (v : ℕ) → length points ≤ 15 → Is p (dot p (take (length f * j + length f - length f * j) (drop (length f * j) rows)) f) v → Piecing p f points (set d j v) (j + 1)
       piece-next v m is =
-          let e : v ≡ eval p f (get_or points j 0) = is.eq ∙ ap (λ (ws : List ℕ). dot p ws f) (row_is p (length f) points rows b _ d at j h.rows l) ∙ eval-powers p f (get_or points j 0) in
-          record { rows = row_next (length f) _ (length points) d at j v h.rows m l e }
+          let e : v ≡ eval p f (get_or points j 0) = is.eq ∙ ap (λ (ws : List ℕ). dot p ws f) (row_is p t (length f) counted points rows b j l) ∙ eval-powers p f (get_or points j 0) in
+          record { fills = make-next _ (length points) d j h.fills v m l e }
 
     pub pieces-made : length points ≤ j → take (length points) d ≡ map (eval p f) points
-    pieces-made l = made _ (length points) d j h.rows.fills l ∙ sym (map-tab (eval p f) points)
+    pieces-made l = made _ (length points) d j h.fills l ∙ sym (map-tab (eval p f) points)
 
-pub above-one : (p : ℕ) → Ready p → 1 < p
-above-one p r = r.prime.above
-
-pub ruleset dealing = (rowing, above-one, piece-none, row-short, piece-next, pieces-made)
+-- As it is: answers name this set, since the check leaves their goals open by `using` alone.
+pub ruleset dealing = (rowing, piece-none, row-short, row_within_16, piece-next, pieces-made)
 
 -- ---- an input's row
 -- the first entries of an array, after they were lent and came back as ys
@@ -124,12 +97,6 @@ module _ (t k : ℕ) (few : t < 16) (e : k ≡ terms t) (d : List ℕ) (long : l
     pub dealt-counted : k ≡ length (take k (ys ++ drop k d))
     dealt-counted = sym ys-long
 
-    pub dealt-small : length (take k (ys ++ drop k d)) ≤ 16
-    dealt-small = omega (arith, ys-long, terms_within t k e)
-
-    pub dealt-powered : (p : ℕ) (points rows : List ℕ) → Powered p (terms t) points rows → Powered p (length (take k (ys ++ drop k d))) points rows
-    dealt-powered p points rows b = rw (ys-long, e) b
-
     module _ (p x at : ℕ) (coins : List ℕ) (is : ys ≡ padded (length (take k d)) (x ∷ take t (drop at (numbers coins)))) where
       pub dealt_below : Coined p t 1 at (numbers coins) → x < p → all_below p (take k (ys ++ drop k d)) ≡ true
       dealt_below c l =
@@ -143,17 +110,12 @@ module _ (t k : ℕ) (few : t < 16) (e : k ≡ terms t) (d : List ℕ) (long : l
 pub one_dealing : (p t at : ℕ) (coins : List ℕ) → Coined p t 1 at (numbers coins) → at + t ≤ length coins / width
 one_dealing p t at coins c = omega (arith, c.room, numbers-length coins)
 
-pub ruleset inputs = (rules, terms_within, one_dealing, front-counted, front_wide, whole_long, dealt-counted, dealt-small, dealt-powered, dealt_below, input-dealt)
+-- As it is: answers name this set, since the check leaves their goals open by `using` alone.
+pub ruleset inputs = (rules, terms_within, one_dealing, front-counted, front_wide, whole_long, dealt_below, input-dealt)
 
 -- ---- a multiply's row
 -- the two counts of coefficients, where the grid is worked
 module _ (t k : ℕ) (e : k ≡ terms t) where
-  pub powered_by : (p : ℕ) (points rows : List ℕ) → Powered p (terms t) points rows → Powered p k points rows
-  powered_by p points rows b = rw e b
-
-  pub room_by : (ws fs : List ℕ) → terms t * length ws ≤ length fs → k * length ws ≤ length fs
-  room_by ws fs l = rw e l
-
   pub shares_by : (p i : ℕ) (row ws fs points : List ℕ) → take i row ≡ map (share_at p k ws fs) points → take i row ≡ map (share_at p (terms t) ws fs) points
   shares_by p i row ws fs points r = rw (← e) r
 
@@ -161,7 +123,7 @@ module _ (t k : ℕ) (e : k ≡ terms t) where
 pub in_range : (p : ℕ) (w v : Bool) → w ≡ is_wide p → w ≡ v → v ≡ is_wide p
 in_range p w v e f = sym f ∙ e
 
-pub ruleset sharing_by = (rules, in_range, above-one, terms_few, terms_many, powered_by, room_by, shares_by)
+pub ruleset sharing_by = (rules, terms_few, terms_many, shares_by)
 
 -- what stands below p
 tab_below : (p : ℕ) (F : List ℕ → List ℕ) (f : ℕ → List ℕ) (n : ℕ) → ((i : ℕ) → i < n → all_below p (F (f i)) ≡ true) → all_below p (flat_map F (tab f n)) ≡ true
@@ -279,13 +241,8 @@ module _ (t k : ℕ) (few : t < 8) (e : k ≡ terms t) (ws points : List ℕ) (l
             ∙ ap (λ (h : ℕ → ℕ). map h points) (fun_ext (λ z. shares_mixed p t k ws (take (length ws) vs) (drop at (numbers coins)) (terms_above t k e (omega arith)) (values_long ws points lw lp vs many) z))
             ∙ ap (λ (ss : List ℕ). map (mixed_at p ws (shared_by t ss (drop at (numbers coins)))) points) products
 
-pub few-weights : (ws points : List ℕ) → length ws ≤ length points → length points ≤ 15 → length ws ≤ 15
-few-weights ws points lw lp = omega arith
-
-pub few_coins : (t : ℕ) → t < 8 → t < 16
-few_coins t l = omega arith
-
-pub ruleset multiplying = (rules, above-one, few_coins, terms_above, used_fits, used_within, used-counted, values-counted, values-room, values_coins, dealt-within, dealt-again, dealt-room, dealt-elements, row-mixed, few-weights)
+-- As it is: answers name this set, since the check leaves their goals open by `using` alone.
+pub ruleset multiplying = (rules, terms_above, used_fits, used_within, used-counted, values-counted, values-room, values_coins, dealt-within, dealt-again, dealt-room, dealt-elements, row-mixed)
 
 -- ---- what is worked out once for a plan
 module _ (t k : ℕ) (e : k ≡ terms t) (points : List ℕ) (many : length points ≤ 15) where
@@ -361,7 +318,24 @@ module _ (t m : ℕ) (points : List ℕ) (h : Dealers t points m) where
           weighs = rw (← e) (take_at zs (drop m ws) m b) ∙ is ∙ ap (weights p 0) dealers_are;
         }
 
+-- what is prepared for a field, for its sums
+pub powered_for : (p q k : ℕ) (points rows : List ℕ) → q ≡ p → Powered p k points rows → Powered q k points rows
+powered_for p q k points rows e b = rw e b
+
+module _ (p t m : ℕ) (points ws : List ℕ) (h : Dealers t points m) (w : Weighted p t points ws) where
+  pub dealers_weights : take m ws ≡ weights p 0 (take (t + t + 1) points)
+  dealers_weights = rw h.eq w.weighs
+
+  pub dealers_counted : length (take m ws) ≤ length points
+  dealers_counted =
+      omega (arith, ap length dealers_weights, length-weights p 0 (take (t + t + 1) points), length-take (t + t + 1) points)
+
+  pub dealers_elements : (q : ℕ) → q ≡ p → Ready p → all_below q (take m ws) ≡ true
+  dealers_elements q e r = rw (e, dealers_weights) (weights_below r.prime 0 (take (t + t + 1) points))
+
 pub ready_above : (p : ℕ) → Ready p → 0 < p
 ready_above p r = pos r.prime
 
 pub ruleset preparing = (rules, ready_above, powers_fit, powers-within, powers-long, powers-count, powered, powers-kept, dealers_count, dealers_below, dealers_in, weights-in, weights-count, weights-long, weighted, weights-kept)
+
+pub ruleset made_ready = (rules, dealers_in, powered_for, dealers_counted, dealers_elements)

@@ -1,15 +1,13 @@
 -- Mixtures: the weighted sum of the dealers' polynomials.
 --     mixture_dealt          its value at a point is the sum of the point's column
 --     Mixing, mixing         the loop over the dealers: a coefficient weighed and summed
---     filling-mixture        the loop over the coefficients
+--     filling_mixture        the loop over the coefficients
 --     mixed_sharing          what closes the needs of the function that deals it
 -- Assumes nothing.
 use mathlib.Core.Path.{◌≡◌, refl, sym, ap, ◌∙◌, fun_ext}
 use mathlib.Core.Bool.{true}
 use mathlib.Core.List.{List, [], ◌∷◌, ◌++◌, map}
 use Prim.Native.Nat.{ℕ, zero, suc, ◌+◌, ◌*◌, ◌%◌, ◌^◌, ◌<◌, ◌≤◌}
-use native.Mathlib.Numerals.{add-one}
-use native.Mathlib.Nat.{mul-suc, mul-zero}
 use native.Mathlib.Omega.{arith}
 use borrow.Author.Rules.{rules}
 use lib.ListN.{length, take, drop, get_or, length-drop}
@@ -22,16 +20,18 @@ use Rattle.numbers.proofs.Tables.{length-tab, get_or-tab, tab-ext, row_room}
 use Rattle.numbers.proofs.Below.{all_below-tab}
 use Rattle.numbers.proofs.Fills.{Filled, filling, filled}
 use Rattle.field.specs.Mod.{add, mul}
-use Rattle.field.specs.Field.{Below2, Is, kept, reciprocal, Reducible, Ready}
+use Rattle.field.specs.Field.{Below2, Is, kept, sum_bound, Ready}
 use Rattle.field.proofs.Solve.{canon-lt, #, quote, solve}
 use Rattle.field.proofs.Inverse.{pos}
 use Rattle.sharing_laws.specs.Poly.{eval}
 use Rattle.sharing_laws.specs.Interp.{dot}
-use Rattle.sharing.proofs.Coding.{entry_below, dot_canon, plain-dot, Summed, sum-none, sum_low, sum_more, sum-small, sum-reducible, is_by, sum-whole}
+use Rattle.sharing.proofs.Coding.{entry_below, dot_canon, plain-dot, Summed, sum-none, sum_low, sum_more, sum-small, bound_sixteen, is_by, sum-whole}
 use Rattle.run_dealings.specs.Rows.{terms, powers}
 use Rattle.run_dealings.specs.Columns.{column_sum, piece_by, pieces_by, share_at, mixed_coefficient, mixture_of}
 use Rattle.run_dealings.proofs.PowerLaws.{eval-powers, length-powers}
-use Rattle.run_dealings.proofs.DealingLaws.{above-one, front-is, terms_within, few_coins, front-counted, whole_long, dealt-counted, dealt-small, dealt-powered}
+use Rattle.run_dealings.proofs.PolynomialLaws.{terms_within}
+use Rattle.run_dealings.proofs.ColumnLaws.{few_weights}
+use Rattle.run_dealings.proofs.DealingLaws.{front-is, front-counted, whole_long, dealt-counted}
 
 -- ---- sums of sums, in either order
 module _ (p : ℕ) where
@@ -86,33 +86,35 @@ mixture_dealt p k ws fs x room =
 abbrev pub coefficients_at : ℕ → List ℕ → List ℕ → ℕ → List ℕ
 coefficients_at k ws fs i = tab (λ d. get_or fs (k * d + i) 0) (length ws)
 
-pub record Mixing (p k : ℕ) (ws fs : List ℕ) (i sum at d : ℕ) : Type 0 where
-  pub place : at ≡ k * d + i
+pub record Mixing (p k : ℕ) (ws fs : List ℕ) (i sum d : ℕ) : Type 0 where
   pub summed : Summed p ws (coefficients_at k ws fs i) sum d
 
 module _ (p k : ℕ) (ws fs : List ℕ) (i : ℕ) where
-  pub mix-none : Mixing p k ws fs i 0 i 0
-  mix-none = record { place = omega (arith, mul-zero k); summed = sum-none p ws (coefficients_at k ws fs i) }
+  pub mix-none : Mixing p k ws fs i 0 0
+  mix-none = record { summed = sum-none p ws (coefficients_at k ws fs i) }
 
-  module _ (sum at d : ℕ) (h : Mixing p k ws fs i sum at d) where
+  module _ (sum d : ℕ) (h : Mixing p k ws fs i sum d) where
     module _ (l : d < length ws) (room : k * length ws ≤ length fs) (few : i < k) where
-      pub mix-within : at < length fs
-      mix-within = omega (arith, h.place, row_room k d (length ws) l)
+      pub mix-within : k * d + i < length fs
+      mix-within = omega (arith, row_room k d (length ws) l)
 
-      pub mix-next-fits : length fs * 8 < 2 ^ 63 → Fits w64 (at + k)
-      mix-next-fits f = record { fits = omega (arith, h.place, row_room k d (length ws) l) }
+      pub mix-row-fits : length fs * 8 < 2 ^ 63 → Fits w64 (k * d)
+      mix-row-fits f = record { fits = omega (arith, row_room k d (length ws) l) }
 
-      pub mix-place-fits : length fs * 8 < 2 ^ 63 → Fits w64 (at * 8)
-      mix-place-fits f = record { fits = omega (arith, h.place, row_room k d (length ws) l) }
+      pub mix-entry-fits : length fs * 8 < 2 ^ 63 → Fits w64 (k * d + i)
+      mix-entry-fits f = record { fits = omega (arith, row_room k d (length ws) l) }
 
-      pub mix-below : Ready p → all_below p ws ≡ true → all_below p fs ≡ true → Below2 p (get_or ws d 0) (get_or fs at 0)
-      mix-below r hw hf = record { left = entry_below p ws d r hw; right = entry_below p fs at r hf }
+      pub mix-place-fits : length fs * 8 < 2 ^ 63 → Fits w64 ((k * d + i) * 8)
+      mix-place-fits f = record { fits = omega (arith, row_room k d (length ws) l) }
+
+      pub mix-below : Ready p → all_below p ws ≡ true → all_below p fs ≡ true → Below2 p (get_or ws d 0) (get_or fs (k * d + i) 0)
+      mix-below r hw hf = record { left = entry_below p ws d r hw; right = entry_below p fs (k * d + i) r hf }
 
     pub mix-few : Ready p → length ws ≤ 15 → sum ≤ 4294967296 * p
     mix-few r m = sum_low p ws (coefficients_at k ws fs i) r sum d h.summed (omega arith)
 
-    pub mix-reducible : (m : ℕ) → Ready p → m ≡ reciprocal p → length ws ≤ 15 → Reducible p m sum
-    mix-reducible m r e few = sum-reducible p m sum (length ws) r e (sum-small p ws (coefficients_at k ws fs i) r sum d h.summed) (omega arith)
+    pub mix_bound : Ready p → length ws ≤ 15 → sum ≤ sum_bound p 16
+    mix_bound r few = omega (arith, sum-small p ws (coefficients_at k ws fs i) r sum d h.summed, bound_sixteen p (length ws) r (omega arith))
 
     pub mix-whole : (y : ℕ) → Ready p → length ws ≤ d → Is p (sum % p) y → Is p (mixed_coefficient p k ws fs i) y
     unfolding mixed_coefficient
@@ -126,25 +128,25 @@ module _ (p k : ℕ) (ws fs : List ℕ) (i : ℕ) where
       unfolding all
       all-below = all_below-tab p (λ e. get_or fs (k * e + i) 0) (length ws) (λ e m. entry_below p fs (k * e + i) r hf)
 
-      here : get_or all d 0 ≡ get_or fs at 0
+      here : get_or all d 0 ≡ get_or fs (k * d + i) 0
       unfolding all
-      here = get_or-tab (λ e. get_or fs (k * e + i) 0) (length ws) d 0 l ∙ ap (λ (n : ℕ). get_or fs n 0) (sym h.place)
+      here = get_or-tab (λ e. get_or fs (k * e + i) 0) (length ws) d 0 l
 
       long : length ws ≤ length all
       unfolding all
       long = omega (arith, length-tab (λ e. get_or fs (k * e + i) 0) (length ws))
 
-      pub mix_next : (y : ℕ) → y ≡ kept p (sum + get_or ws d 0 * get_or fs at 0) → Mixing p k ws fs i y (at + k) (d + 1)
+      pub mix_next : (y : ℕ) → y ≡ kept p (sum + get_or ws d 0 * get_or fs (k * d + i) 0) → Mixing p k ws fs i y (d + 1)
       unfolding all
       mix_next y e = record {
-        place = omega (arith, h.place, add-one d, mul-suc k d);
         summed =
-            sum_more p ws all r sum d h.summed hw all-below (get_or ws d 0) (get_or fs at 0)
+            sum_more p ws all r sum d h.summed hw all-below (get_or ws d 0) (get_or fs (k * d + i) 0)
             (record { within = l; also = omega (arith, long); left = refl; right = sym here })
             y (d + 1) e refl;
       }
 
-pub ruleset mixing = (rules, mix-none, mix-within, mix-next-fits, mix-place-fits, mix-below, mix-few, mix-reducible, mix-whole, mix_next)
+-- As it is: answers name this set, since the check leaves their goals open by `using` alone.
+pub ruleset mixing = (rules, few_weights, mix-none, mix-within, mix-row-fits, mix-entry-fits, mix-place-fits, mix-below, mix-few, mix_bound, mix-whole, mix_next)
 
 -- ---- the loop over the coefficients
 pub mixture-filled : (p k : ℕ) (ws fs d₀ d : List ℕ) (i : ℕ) → k ≡ length d₀ → length d ≤ i → Filled (mixed_coefficient p k ws fs) d₀ d i → d ≡ mixture_of p (length d₀) ws fs
@@ -154,7 +156,8 @@ mixture-filled p k ws fs d₀ d i e l h = rw (← e) (filled (mixed_coefficient 
 pub coefficient-is : (p v y : ℕ) → Is p v y → y ≡ v
 coefficient-is p v y e = e.eq
 
-pub ruleset filling-mixture = (filling, above-one, coefficient-is, mixture-filled)
+-- As it is: answers name this set, since the check leaves their goals open by `using` alone.
+pub ruleset filling_mixture = (filling, coefficient-is, mixture-filled)
 
 -- ---- the mixture dealt
 module _ (t k : ℕ) (few : t < 8) (e : k ≡ terms t) (d : List ℕ) (long : length d ≡ 16) where
@@ -179,4 +182,5 @@ module _ (t k : ℕ) (few : t < 8) (e : k ≡ terms t) (d : List ℕ) (long : le
         ∙ ap (λ (f : ℕ → ℕ). map f points) (fun_ext (λ x. mixture_dealt p k ws fs x (rw e room)))
         ∙ ap (λ (i : ℕ). map (share_at p i ws fs) points) e
 
-pub ruleset mixed_sharing = (rules, above-one, few_coins, terms_within, front-counted, whole_long, dealt-counted, dealt-small, dealt-powered, mixed_room, mixed-below, mixed-dealt)
+-- As it is: answers name this set, since the check leaves their goals open by `using` alone.
+pub ruleset mixed_sharing = (rules, terms_within, front-counted, whole_long, dealt-counted, mixed_room, mixed-below, mixed-dealt)

@@ -88,6 +88,7 @@ padded-tab (suc n) (a ∷ f) l =
 pub all-padded : (v t : ℕ) (cs d₀ d : List ℕ) (i : ℕ) → t < length d₀ → length d ≤ i → Filled (λ k. get_or (v ∷ take t cs) k 0) d₀ d i → d ≡ padded (length d₀) (v ∷ take t cs)
 all-padded v t cs d₀ d i l m h = filled _ d₀ d i m h ∙ padded-tab (length d₀) (v ∷ take t cs) (omega (arith, length-take t cs))
 
+-- As it is: answers name this set, since the check leaves their goals open by `using` alone.
 pub ruleset padding = (filling, all-padded)
 
 pub length-padded : (n : ℕ) (f : List ℕ) → length f ≤ n → length (padded n f) ≡ n
@@ -167,3 +168,30 @@ unfolding terms
 terms_most t l m = rw (le-ltb t 4 l, le-ltb t 8 m)
 
 pub ruleset counting-terms = (rules, terms_few, terms_many, terms_most)
+
+-- its bounds
+module _ (t k : ℕ) (e : k ≡ terms t) where
+  record Counted : Type 0 where
+    most : k ≤ 16
+    small : t < 8 → k ≤ 8
+    above : t < 16 → t < k
+
+  terms_by : (b c : Bool) → ltb t 4 ≡ b → ltb t 8 ≡ c → Counted
+  terms_by true c l m =
+      let q : k ≡ 4 = e ∙ sym (terms_few t (ltb-true t 4 l)) in
+      record { most = omega arith; small = λ s. omega arith; above = λ s. omega (arith, ltb-true t 4 l) }
+  terms_by false true l m =
+      let q : k ≡ 8 = e ∙ sym (terms_many t (ltb-false t 4 l) (ltb-true t 8 m)) in
+      record { most = omega arith; small = λ s. omega arith; above = λ s. omega (arith, ltb-true t 8 m) }
+  terms_by false false l m =
+      let q : k ≡ 16 = e ∙ sym (terms_most t (ltb-false t 4 l) (ltb-false t 8 m)) in
+      record { most = omega arith; small = λ s. omega (arith, ltb-false t 8 m); above = λ s. omega arith }
+
+  pub terms_within : k ≤ 16
+  terms_within = (terms_by (ltb t 4) (ltb t 8) refl refl).most
+
+  pub terms_small : t < 8 → k ≤ 8
+  terms_small = (terms_by (ltb t 4) (ltb t 8) refl refl).small
+
+  pub terms_above : t < 16 → t < k
+  terms_above = (terms_by (ltb t 4) (ltb t 8) refl refl).above

@@ -96,6 +96,7 @@ module _ (p x : ℕ) (r : Ready p) where
     unfolding powers
     powers-filled l = filled (power p x) d₀ d i l h.filled
 
+-- As it is: answers name this set, since the check leaves their goals open by `using` alone.
 pub ruleset powering = (rules, power-none, power_next, powers-filled)
 
 -- ---- the rows
@@ -134,6 +135,7 @@ module _ (p k : ℕ) (points d₀ d : List ℕ) (i : ℕ) (h : Written (powers_a
   unfolding power_rows
   rows_written l = written_done (powers_at p k points) k (length points) d₀ d i l h ∙ rows-flat (λ x. powers p x k) 0 points
 
+-- As it is: answers name this set, since the check leaves their goals open by `using` alone.
 pub ruleset writing = (rules, entry_below, none_written, row_end, row_fits, row_start_fits, place_fits, row_written, rows_written)
 
 -- a row of those that stand in front

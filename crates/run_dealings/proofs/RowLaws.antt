@@ -1,23 +1,23 @@
 -- Loops that fill a row.
---     Making, making                           a loop that fills an array's first n entries
+--     Making, entry-none, entry-next, entries-made     loops that fill an array's first n entries
 -- Assumes nothing.
 use mathlib.Core.Path.{◌≡◌, refl, sym, ap, ◌∙◌}
-use mathlib.Core.List.{List, [], ◌∷◌, map}
+use mathlib.Core.List.{List, [], ◌∷◌, ◌++◌, map}
 use Prim.Native.Nat.{ℕ, zero, suc, ◌+◌, ◌-◌, ◌*◌, ◌^◌, ◌<◌, ◌≤◌}
 use native.Mathlib.Numerals.{add-one}
 use native.Mathlib.Omega.{arith}
 use borrow.Author.Rules.{rules}
 use lib.ListN.{length, take, drop, set, get_or, replicate, length-replicate, length-drop, length-set}
-use lib.Seq.{take-nil, drop-nil, take-suc-set, get_or-take, get_or-drop, take-take, drop-set-lt, drop-drop, length-take-le}
+use lib.Seq.{take_at, drop_at, take-nil, drop-nil, take-suc-set, get_or-take, get_or-drop, take-take, length-take-le}
 use mir.Syntax.{w64}
 use mir.Val.{Fits}
 use Rattle.numbers.specs.Tables.{tab}
 use Rattle.numbers.proofs.Tables.{tab-next, tab-zero, get_or-tab, row_room}
 use Rattle.numbers.proofs.Below.{all_below_at, all_below-take, all_below-drop}
+use Rattle.numbers.proofs.Fills.{Filled, fill_none, fill_next, filled}
 use Rattle.field.specs.Mod.{mul}
-use Rattle.field.specs.Field.{Is}
 use Rattle.sharing_laws.proofs.Alls.{map-tab}
-use Rattle.run_dealings.specs.Rows.{products_of, Rowed, Standing}
+use Rattle.run_dealings.specs.Rows.{Rowed, Standing}
 
 -- an entry of a list of values
 pub get_or-values : (F : ℕ → ℕ) (xs : List ℕ) (j : ℕ) → j < length xs → get_or (map F xs) j 0 ≡ F (get_or xs j 0)
@@ -46,16 +46,15 @@ drop_zeros zero m = let e : m - zero ≡ m = omega arith in rw e
 drop_zeros (suc n) zero = let e : zero - suc n ≡ zero = omega arith in rw e
 drop_zeros (suc n) (suc m) = let e : suc m - suc n ≡ m - n = omega arith in rw e (drop_zeros n m)
 
--- ---- a loop that fills the first n entries of an array of 15 by a rule
+-- ---- a loop that fills the first n entries of an array of 15
 pub record Making (f : ℕ → ℕ) (n : ℕ) (d : List ℕ) (j : ℕ) : Type 0 where
   pub within : j ≤ n
   pub long : length d ≡ 15
   pub front : take j d ≡ tab f j
-  pub rest : drop j d ≡ drop j (replicate 15 0)
 
 module _ (f : ℕ → ℕ) (n : ℕ) where
   pub make-none : Making f n (replicate 15 0) 0
-  make-none = record { within = omega arith; long = length-replicate {A = ℕ} 15 0; front = sym (tab-zero f); rest = refl }
+  make-none = record { within = omega arith; long = length-replicate {A = ℕ} 15 0; front = sym (tab-zero f) }
 
   module _ (d : List ℕ) (j : ℕ) (h : Making f n d j) where
     pub make-next : (v : ℕ) → n ≤ 15 → j < n → v ≡ f j → Making f n (set d j v) (j + 1)
@@ -63,19 +62,33 @@ module _ (f : ℕ → ℕ) (n : ℕ) where
       within = omega arith;
       long = length-set d j v ∙ h.long;
       front = rw (tab-next, add-one, take-suc-set d j v (omega (arith, h.long)), h.front, e);
-      rest = drop-set-lt (j + 1) d j v (omega arith) ∙ sym (drop-drop 1 j d) ∙ ap (drop 1) h.rest ∙ drop-drop 1 j (replicate 15 0);
     }
-
-    pub make-next-is : (p v : ℕ) → n ≤ 15 → j < n → Is p (f j) v → Making f n (set d j v) (j + 1)
-    make-next-is p v m l e = make-next v m l e.eq
 
     pub made : n ≤ j → take n d ≡ tab f n
     made l = let q : j ≡ n = omega (arith, h.within) in rw (← q) h.front
 
-    pub unmade : n ≤ j → drop n d ≡ replicate (15 - n) 0
-    unmade l = let q : j ≡ n = omega (arith, h.within) in rw (← q) (h.rest ∙ drop_zeros j 15)
+-- ---- a loop over these entries alone
+pub entries : (n : ℕ) → n ≤ 15 → length (take n (replicate {A = ℕ} 15 0)) ≡ n
+entries n m = length-take-le n (replicate 15 0) (omega (arith, length-replicate {A = ℕ} 15 0))
 
-pub ruleset making = (rules, make-none, make-next, make-next-is, made, unmade)
+module _ (f : ℕ → ℕ) (n : ℕ) (m : n ≤ 15) where
+  pub entry-none : Filled f (take n (replicate 15 0)) (take n (replicate 15 0)) 0
+  entry-none = record { within = omega arith; long = refl; front = fill_none f (take n (replicate 15 0)) }
+
+  module _ (d : List ℕ) (j : ℕ) (h : Filled f (take n (replicate 15 0)) d j) where
+    pub entry-next : (v : ℕ) → j < length (take n (replicate {A = ℕ} 15 0)) → v ≡ f j → Filled f (take n (replicate 15 0)) (set d j v) (j + 1)
+    entry-next v l e = record {
+      within = omega arith;
+      long = length-set d j v ∙ h.long;
+      front = fill_next f j d v (omega (arith, h.long)) e h.front;
+    }
+
+    pub entries-made : length (take n (replicate {A = ℕ} 15 0)) ≤ j → (take n (d ++ drop n (replicate 15 0)) ≡ tab f n) × (drop n (d ++ drop n (replicate 15 0)) ≡ replicate (15 - n) 0)
+    entries-made l =
+        let k : length d ≡ n = h.long ∙ entries n m in (
+          take_at d (drop n (replicate 15 0)) n k ∙ filled f (take n (replicate 15 0)) d j (omega (arith, h.long)) h ∙ ap (tab f) (entries n m),
+          drop_at d (drop n (replicate 15 0)) n k ∙ drop_zeros n 15,
+        )
 
 -- ---- reading a row of the table
 module _ (p n w : ℕ) (table : List ℕ) (r : Rowed p n w table) where
@@ -98,14 +111,11 @@ module _ (p n w : ℕ) (table : List ℕ) (r : Rowed p n w table) where
         rw (get_or-take n (drop (n * w) table) j 0 l, get_or-drop (n * w) table j 0) at (all_below_at p (take n (drop (n * w) table)) j r.below m)
 
   -- the same for the first m parties
-  pub first-entry_below : (m j : ℕ) → m ≤ n → j < m → get_or table (n * w + j) 0 < p
-  first-entry_below m j le l = row-entry-below j (omega arith)
+  pub first_entry_below : (m j : ℕ) → m ≤ n → j < m → get_or table (n * w + j) 0 < p
+  first_entry_below m j le l = row-entry-below j (omega arith)
 
-pub make_first : (f : ℕ → ℕ) (m n p v : ℕ) (d : List ℕ) (j : ℕ) → Making f m d j → m ≤ n → n ≤ 15 → j < m → Is p (f j) v → Making f m (set d j v) (j + 1)
-make_first f m n p v d j h a b l e = make-next-is f m d j h p v (omega arith) l e
+-- the product that party j deals
+abbrev pub product_at : ℕ → ℕ → ℕ → ℕ → List ℕ → ℕ → ℕ
+product_at p n a b table j = mul p (get_or table (n * a + j) 0) (get_or table (n * b + j) 0)
 
-pub products_made : (p n m a b : ℕ) (table d : List ℕ) (j : ℕ) → Making (λ k. mul p (get_or table (n * a + k) 0) (get_or table (n * b + k) 0)) m d j → m ≤ j → take m d ≡ products_of p n m a b table
-unfolding products_of
-products_made p n m a b table d j h l = made _ m d j h l
-
-pub ruleset row_reading = (making, products_made, first-entry_below, make_first, row_start_fits, entry-within, entry-fits, entry-place-fits, row-entry-below)
+pub ruleset row_reading = (rules, first_entry_below, row_start_fits, entry-within, entry-fits, entry-place-fits, row-entry-below)

@@ -66,13 +66,12 @@ pub record Weighted (p t : ℕ) (points ws : List ℕ) : Type 0 where
   pub wide : length (take (t + t + 1) points) ≤ length ws
   pub weighs : take (length (take (t + t + 1) points)) ws ≡ weights p 0 (take (t + t + 1) points)
 
--- what is worked out once for a plan: the powers of all parties' points, and the weights at 0 of the dealers'
-pub record Prepared (bs : List ℕ) (h : Header) (points rows ws : List ℕ) : Type 0 where
+-- dealings modulo p of t coins each are those of a plan: at all parties' points, with the weights at 0 of the first 2t + 1
+pub record Fitted (bs : List ℕ) (h : Header) (p t : ℕ) (points ws : List ℕ) : Type 0 where
+  pub field : p ≡ h.field.p
+  pub threshold : t ≡ h.t
   pub are : points ≡ (plan_of bs).points
-  pub room : terms h.t * length points ≤ length rows
-  pub powers : take (terms h.t * length points) rows ≡ power_rows h.field.p (terms h.t) points
-  pub wide : length (take (h.t + h.t + 1) points) ≤ length ws
-  pub weighs : take (length (take (h.t + h.t + 1) points)) ws ≡ weights h.field.p 0 (take (h.t + h.t + 1) points)
+  pub weighs : ws ≡ weights p 0 (take (t + t + 1) points)
 
 -- t coins for each of m dealings stand from place `at` on, and are below p
 pub record Coined (p t m at : ℕ) (cs : List ℕ) : Type 0 where

@@ -1,17 +1,19 @@
 // Dealings of a run, for all receiving parties at once: the rows of inputs and of multiply gates.
 #![tactic(auto)]
 
-ghost use Rattle.std.specs.Prelude.{◌≡◌, true, ◌+◌, ◌-◌, ◌*◌, ◌/◌, ◌<◌, ◌≤◌, length, take, drop, get_or, replicate};
+ghost use Rattle.std.specs.Prelude.{ℕ, ◌≡◌, true, ◌+◌, ◌-◌, ◌*◌, ◌/◌, ◌<◌, ◌≤◌, length, take, drop, get_or, replicate};
 ghost use mathlib.Core.List.{◌∷◌, map, flat_map};
+ghost use Rattle.numbers.specs.Tables.{tab};
 ghost use Rattle.numbers.specs.Bytes.{width, numbers, all_below};
-ghost use Rattle.field.specs.Field.{Is, is_wide, reciprocal};
+ghost use Rattle.field.specs.Field.{Is};
 ghost use Rattle.sharing_laws.specs.Poly.{eval, padded};
+ghost use Rattle.sharing_laws.specs.Interp;
 ghost use Rattle.plan.specs.Plans.{coin_owners_at};
 ghost use Rattle.plan.specs.File.{gate_at, plan_of};
 ghost use Rattle.run_dealings.specs.Rows.{terms, powers, power_rows, products_of, shared_by, mixed_at, Powered, Dealers, Weighted, Coined, Rowed};
 ghost use Rattle.run_dealings.specs.Columns.{pieces_by, column_at, column_sum, share_at, mixed_coefficient, mixture_of, with_column, with_columns};
 
-use field::Field;
+use field::{Field, Sums};
 use plan::{Gate, PlanFile};
 
 // ---- what is worked out once for a plan
@@ -85,6 +87,8 @@ pub fn prepare(f: Field, t: usize, points: &[u64], rows: &mut [u64], weights: &m
 // ---- the polynomials of dealings
 
 // Coefficient i of a dealing's polynomial: the dealt value, then t coins from one place of the list on, then 0.
+// As it is: the coins, the place in them and t go together into this function and the two below; the place moves on with each dealing, so a struct of
+// them would be made anew for each.
 #[tactic(auto, using(crate::proofs::PolynomialLaws::coefficients))]
 fn coefficient(value: u64, coins: &[u8], at: usize, t: usize, i: usize) -> u64
     requires { at + t ≤ length coins.now / width }
@@ -106,8 +110,8 @@ fn polynomial(value: u64, coins: &[u8], at: usize, t: usize, out: &mut [u64])
     requires t_in_bounds_2 { t < length out.old }
     ensures { out.new ≡ padded (length out.old) (value ∷ take t (drop at (numbers coins.now))) }
 {
-    for i in 0..out.len() {
-        out[i] = coefficient(value, coins, at, t, i);
+    for (i, c) in out.iter_mut().enumerate() {
+        *c = coefficient(value, coins, at, t, i);
     }
 }
 
@@ -125,6 +129,22 @@ fn polynomials(t: usize, k: usize, values: &[u64], coins: &[u8], at: usize, out:
     }
 }
 
+// ---- rows
+
+// A row by a rule: n entries, and zeros after them.
+// As it is: there is no heap, so that each row here has room for the 15 parties of the largest plan, and who takes it knows n.
+pub fn row_by<F: Fn(usize) -> u64>(n: usize, rule: F) -> [u64; 15]
+    requires n_bound { n ≤ 15 }
+    requires callable { (j : ℕ) → j < n → F.pre rule j }
+    ensures { (entry : ℕ → ℕ) → ((j r : ℕ) → j < n → F.post rule j r → r ≡ entry j) → (take n result ≡ tab entry n) × (drop n result ≡ replicate (15 - n) 0) }
+{
+    let mut row = [0u64; 15];
+    for (j, entry) in row[..n].iter_mut().enumerate() {
+        *entry = rule(j);
+    }
+    row
+}
+
 // ---- multiply gates
 
 // What the first m parties deal: each one's share of wire a times its share of wire b.
@@ -138,299 +158,255 @@ pub fn products(f: Field, n: usize, m: usize, a: usize, b: usize, table: &[u64])
 {
     let left = n * a;
     let right = n * b;
-    let mut row = [0u64; 15];
-    for j in 0..m {
-        row[j] = f.mul(table[left + j], table[right + j]);
-    }
-    row
+    row_by(m, |j| f.mul(table[left + j], table[right + j]))
 }
 
-// Column j of a grid, row the dealer and column the receiver: the receiver's pieces of these polynomials, by the powers of its point, each
-// weighed and summed where it is dealt. `wide` says whether the prime is, and m is its reciprocal.
-#[inline(always)]
-#[tactic(auto, using(crate::proofs::ColumnLaws::columning))]
-fn column(
-    f: Field,
-    wide: bool,
-    m: u64,
-    weights: &[u64],
-    powers: &[u64],
-    polynomials: &[u64],
-    j: usize,
-    grid: &mut [[u64; 15]; 15],
-) -> u64
-    requires wide_value { wide ≡ is_wide f.p }
-    requires m_value { m ≡ reciprocal f.p }
-    requires weights_len_bound { (length weights.now ≤ 15) × (all_below f.p weights.now ≡ true) }
-    requires powers_len_bound { (length powers.now ≤ 16) × (all_below f.p powers.now ≡ true) }
-    requires weights_in_bounds { (length powers.now * length weights.now ≤ length polynomials.now) × (all_below f.p polynomials.now ≡ true) }
-    requires j_bound { j < 15 }
-    ensures is { Is f.p (column_sum f.p weights.now (pieces_by f.p (length powers.now) powers.now polynomials.now (length weights.now))) result }
-    ensures grid_after { grid.new ≡ with_column j (pieces_by f.p (length powers.now) powers.now polynomials.now (length weights.now)) grid.old }
-{
-    let k = powers.len();
-    let mut sum: u64 = 0;
-    let mut at: usize = 0;
-    for d in 0..weights.len() {
-        let e = at + k;
-        let piece = sharing::dot_by(f, wide, m, powers, &polynomials[at..e]);
-        grid[d][j] = piece;
-        sum = f.add_product(wide, sum, weights[d], piece);
-        at = e;
-    }
-    f.reduced(wide, m, sum)
+// How a product is worked: on the grid of all pieces, or by the sum of the dealers' polynomials, where no piece is seen.
+#[derive(Clone, Copy)]
+pub enum Way {
+    Grid,
+    Sum,
 }
 
-// The columns of all receivers, by their power rows of k powers each, and every column's sum.
-#[inline(always)]
-#[tactic(auto, using(crate::proofs::ColumnLaws::gridding))]
-fn columns(
-    f: Field,
-    wide: bool,
-    m: u64,
-    k: usize,
-    points: &[u64],
-    rows: &[u64],
-    weights: &[u64],
-    polynomials: &[u64],
-    grid: &mut [[u64; 15]; 15],
-) -> [u64; 15]
-    requires wide_value { wide ≡ is_wide f.p }
-    requires m_value { m ≡ reciprocal f.p }
-    requires k_bound { (k ≤ 16) × (length points.now ≤ 15) }
-    requires powered { Powered f.p k points.now rows.now }
-    requires weights_len_bound { (length weights.now ≤ 15) × (all_below f.p weights.now ≡ true) }
-    requires weights_in_bounds { (k * length weights.now ≤ length polynomials.now) × (all_below f.p polynomials.now ≡ true) }
-    ensures result_value { take (length points.now) result ≡ map (share_at f.p k weights.now polynomials.now) points.now }
-    ensures grid_after { grid.new ≡ with_columns (column_at f.p k points.now polynomials.now (length weights.now)) (length points.now) grid.old }
-{
-    let mut sums = [0u64; 15];
-    let mut at: usize = 0;
-    for j in 0..points.len() {
-        let e = at + k;
-        sums[j] = column(f, wide, m, weights, &rows[at..e], polynomials, j, grid);
-        at = e;
-    }
-    sums
+// What the dealings of a plan are worked with: t coins each, the parties' points, their power rows, and the weights at 0 of the dealers' points.
+#[derive(Clone, Copy)]
+pub struct Dealings<'a> {
+    pub sums: Sums,
+    pub way: Way,
+    pub t: usize,
+    pub points: &'a [u64],
+    pub rows: &'a [u64],
+    pub weights: &'a [u64],
+    pub ghost threshold: { t < 16 },
+    pub ghost parties: { length points.now ≤ 15 },
+    pub ghost powered: { Powered sums.field.p (terms t) points.now rows.now },
+    pub ghost dealers: { length weights.now ≤ length points.now },
+    pub ghost weights_below: { all_below sums.field.p weights.now ≡ true },
 }
 
-// Every receiver's share: these polynomials are dealt into the grid, and each receiver's column is weighed and summed there.
-#[inline(always)]
-#[tactic(auto, using(crate::proofs::DealingLaws::sharing_by))]
-fn shares_by(
-    f: Field,
-    wide: bool,
-    t: usize,
-    points: &[u64],
-    rows: &[u64],
-    weights: &[u64],
-    polynomials: &[u64],
-) -> [u64; 15]
-    requires wide_value { wide ≡ is_wide f.p }
-    requires t_bound { (t < 8) × (length points.now ≤ 15) }
-    requires powered { Powered f.p (terms t) points.now rows.now }
-    requires weights_len_bound { (length weights.now ≤ 15) × (all_below f.p weights.now ≡ true) }
-    requires weights_in_bounds { (terms t * length weights.now ≤ length polynomials.now) × (all_below f.p polynomials.now ≡ true) }
-    ensures { take (length points.now) result ≡ map (share_at f.p (terms t) weights.now polynomials.now) points.now }
-{
-    let m = f.reciprocal();
-    let mut grid = [[0u64; 15]; 15];
-    if t < 4 {
-        return columns(f, wide, m, 4, points, rows, weights, polynomials, &mut grid);
-    }
-    columns(f, wide, m, 8, points, rows, weights, polynomials, &mut grid)
+// What the dealers of a product deal: their polynomials one after the other, with as many coefficients each as a dealing has.
+#[derive(Clone, Copy)]
+struct Product<'a> {
+    dealings: &'a Dealings<'a>,
+    polynomials: &'a [u64],
+    ghost few: { dealings.now.t < 8 },
+    ghost room: { terms dealings.now.t * length dealings.now.weights.now ≤ length polynomials.now },
+    ghost below: { all_below dealings.now.sums.field.p polynomials.now ≡ true },
 }
 
-// The same, by the prime's range: `wide` is a constant in each call, as the count of coefficients is.
-#[inline(never)]
-#[tactic(auto, using(crate::proofs::DealingLaws::sharing_by))]
-fn shares(
-    f: Field,
-    t: usize,
-    points: &[u64],
-    rows: &[u64],
-    weights: &[u64],
-    polynomials: &[u64],
-) -> [u64; 15]
-    requires t_bound { (t < 8) × (length points.now ≤ 15) }
-    requires powered { Powered f.p (terms t) points.now rows.now }
-    requires weights_len_bound { (length weights.now ≤ 15) × (all_below f.p weights.now ≡ true) }
-    requires weights_in_bounds { (terms t * length weights.now ≤ length polynomials.now) × (all_below f.p polynomials.now ≡ true) }
-    ensures { take (length points.now) result ≡ map (share_at f.p (terms t) weights.now polynomials.now) points.now }
-{
-    if f.is_wide() {
-        return shares_by(f, true, t, points, rows, weights, polynomials);
+impl Product<'_> {
+    // Column j of a grid, row the dealer and column the receiver: the receiver's pieces of the polynomials, by the powers of its point, each
+    // weighed and summed where it is dealt.
+    // As it is: the sums are built here with the prime's range as a constant. `piece` of run_views builds them so too; no private function is seen
+    // by both crates, and a public one of field would be there for these two.
+    #[inline(always)]
+    #[tactic(auto, using(crate::proofs::ColumnLaws::columning))]
+    fn column<const WIDE: bool>(&self, powers: &[u64], j: usize, grid: &mut [[u64; 15]; 15]) -> u64
+        requires wide_value { WIDE ≡ self.now.dealings.now.sums.wide }
+        requires powers_len { length powers.now ≡ terms self.now.dealings.now.t }
+        requires powers_value { all_below self.now.dealings.now.sums.field.p powers.now ≡ true }
+        requires j_bound { j < 15 }
+        ensures is { Is self.now.dealings.now.sums.field.p (column_sum self.now.dealings.now.sums.field.p self.now.dealings.now.weights.now (pieces_by self.now.dealings.now.sums.field.p (length powers.now) powers.now self.now.polynomials.now (length self.now.dealings.now.weights.now))) result }
+        ensures grid_after { grid.new ≡ with_column j (pieces_by self.now.dealings.now.sums.field.p (length powers.now) powers.now self.now.polynomials.now (length self.now.dealings.now.weights.now)) grid.old }
+    {
+        let sums = Sums {
+            field: self.dealings.sums.field,
+            wide: WIDE,
+            reciprocal: self.dealings.sums.reciprocal,
+        };
+        let weights = self.dealings.weights;
+        let polynomials = self.polynomials;
+        let k = powers.len();
+        let mut sum: u64 = 0;
+        for (d, weight) in weights.iter().enumerate() {
+            let at = k * d;
+            let piece = sharing::dot_by(sums, powers, &polynomials[at..at + k]);
+            grid[d][j] = piece;
+            sum = sums.add_product(sum, *weight, piece);
+        }
+        sums.reduced(sum)
     }
-    shares_by(f, false, t, points, rows, weights, polynomials)
-}
 
-// ---- one dealing
-
-// The pieces of a dealing: the polynomial's values at the points, by their power rows.
-#[tactic(auto, using(crate::proofs::DealingLaws::dealing))]
-fn dealing(f: Field, points: &[u64], rows: &[u64], polynomial: &[u64]) -> [u64; 15]
-    requires points_len_bound { (length points.now ≤ 15) × (length polynomial.now ≤ 16) }
-    requires powered { Powered f.p (length polynomial.now) points.now rows.now }
-    requires polynomial_value { all_below f.p polynomial.now ≡ true }
-    ensures { take (length points.now) result ≡ map (eval f.p polynomial.now) points.now }
-{
-    let wide = f.is_wide();
-    let m = f.reciprocal();
-    let k = polynomial.len();
-    let mut row = [0u64; 15];
-    let mut at: usize = 0;
-    for j in 0..points.len() {
-        let e = at + k;
-        row[j] = sharing::dot_by(f, wide, m, &rows[at..e], polynomial);
-        at = e;
+    // The columns of all receivers, by their power rows of K powers each, and every column's sum.
+    #[inline(always)]
+    #[tactic(auto, using(crate::proofs::ColumnLaws::gridding))]
+    fn columns<const WIDE: bool, const K: usize>(&self, grid: &mut [[u64; 15]; 15]) -> [u64; 15]
+        requires wide_value { WIDE ≡ self.now.dealings.now.sums.wide }
+        requires k_value { K ≡ terms self.now.dealings.now.t }
+        ensures result_value { take (length self.now.dealings.now.points.now) result ≡ map (share_at self.now.dealings.now.sums.field.p K self.now.dealings.now.weights.now self.now.polynomials.now) self.now.dealings.now.points.now }
+        ensures grid_after { grid.new ≡ with_columns (column_at self.now.dealings.now.sums.field.p K self.now.dealings.now.points.now self.now.polynomials.now (length self.now.dealings.now.weights.now)) (length self.now.dealings.now.points.now) grid.old }
+    {
+        let points = self.dealings.points;
+        let rows = self.dealings.rows;
+        let mut sums = [0u64; 15];
+        for j in 0..points.len() {
+            let at = K * j;
+            sums[j] = self.column::<WIDE>(&rows[at..at + K], j, grid);
+        }
+        sums
     }
-    row
-}
 
-// ---- the same where no piece is seen: the polynomials are weighed and summed, and the sum is dealt
-
-// Coefficient i of the weighted sum of these polynomials, k coefficients each. `wide` says whether the prime is, and m is its reciprocal.
-#[tactic(auto, using(crate::proofs::MixtureLaws::mixing))]
-fn mixed_coefficient(
-    f: Field,
-    wide: bool,
-    m: u64,
-    weights: &[u64],
-    k: usize,
-    polynomials: &[u64],
-    i: usize,
-) -> u64
-    requires wide_value { wide ≡ is_wide f.p }
-    requires m_value { m ≡ reciprocal f.p }
-    requires weights_len_bound { (length weights.now ≤ 15) × (all_below f.p weights.now ≡ true) }
-    requires weights_in_bounds { (k * length weights.now ≤ length polynomials.now) × (all_below f.p polynomials.now ≡ true) }
-    requires i_lt_k { i < k }
-    ensures { Is f.p (mixed_coefficient f.p k weights.now polynomials.now i) result }
-{
-    let mut sum: u64 = 0;
-    let mut at: usize = i;
-    for weight in weights {
-        sum = f.add_product(wide, sum, *weight, polynomials[at]);
-        at += k;
+    // Every receiver's share: the polynomials are dealt into the grid, and each receiver's column is weighed and summed there. The prime's range and
+    // the count of coefficients are constants in each call.
+    #[inline(never)]
+    #[tactic(auto, using(crate::proofs::DealingLaws::sharing_by))]
+    fn gridded(&self) -> [u64; 15]
+        ensures { take (length self.now.dealings.now.points.now) result ≡ map (share_at self.now.dealings.now.sums.field.p (terms self.now.dealings.now.t) self.now.dealings.now.weights.now self.now.polynomials.now) self.now.dealings.now.points.now }
+    {
+        let mut grid = [[0u64; 15]; 15];
+        match (self.dealings.sums.wide, self.dealings.t < 4) {
+            (true, true) => self.columns::<true, 4>(&mut grid),
+            (true, false) => self.columns::<true, 8>(&mut grid),
+            (false, true) => self.columns::<false, 4>(&mut grid),
+            (false, false) => self.columns::<false, 8>(&mut grid),
+        }
     }
-    f.reduced(wide, m, sum)
-}
 
-// The weighted sum of these polynomials, of as many coefficients each as there is room for.
-fn mix(f: Field, weights: &[u64], polynomials: &[u64], out: &mut [u64])
-    requires weights_len_bound { (length weights.now ≤ 15) × (all_below f.p weights.now ≡ true) }
-    requires weights_in_bounds { (length out.old * length weights.now ≤ length polynomials.now) × (all_below f.p polynomials.now ≡ true) }
-    ensures { out.new ≡ mixture_of f.p (length out.old) weights.now polynomials.now }
-{
-    let wide = f.is_wide();
-    let m = f.reciprocal();
-    let k = out.len();
-    for i in 0..k {
-        out[i] = mixed_coefficient(f, wide, m, weights, k, polynomials, i);
+    // Coefficient i of the weighted sum of the polynomials, k coefficients each.
+    #[tactic(auto, using(crate::proofs::MixtureLaws::mixing))]
+    fn mixed_coefficient(&self, k: usize, i: usize) -> u64
+        requires k_value { k ≡ terms self.now.dealings.now.t }
+        requires i_lt_k { i < k }
+        ensures { Is self.now.dealings.now.sums.field.p (mixed_coefficient self.now.dealings.now.sums.field.p k self.now.dealings.now.weights.now self.now.polynomials.now i) result }
+    {
+        let sums = self.dealings.sums;
+        let polynomials = self.polynomials;
+        let mut sum: u64 = 0;
+        for (d, weight) in self.dealings.weights.iter().enumerate() {
+            sum = sums.add_product(sum, *weight, polynomials[k * d + i]);
+        }
+        sums.reduced(sum)
+    }
+
+    // The weighted sum of the polynomials.
+    #[tactic(auto, using(crate::proofs::MixtureLaws::filling_mixture))]
+    fn mix(&self, out: &mut [u64])
+        requires { length out.old ≡ terms self.now.dealings.now.t }
+        ensures { out.new ≡ mixture_of self.now.dealings.now.sums.field.p (length out.old) self.now.dealings.now.weights.now self.now.polynomials.now }
+    {
+        let k = out.len();
+        for (i, c) in out.iter_mut().enumerate() {
+            *c = self.mixed_coefficient(k, i);
+        }
+    }
+
+    // Every receiver's share, by the sum of the polynomials, which is dealt.
+    #[tactic(auto, using(crate::proofs::MixtureLaws::mixed_sharing))]
+    fn mixed(&self) -> [u64; 15]
+        ensures { take (length self.now.dealings.now.points.now) result ≡ map (share_at self.now.dealings.now.sums.field.p (terms self.now.dealings.now.t) self.now.dealings.now.weights.now self.now.polynomials.now) self.now.dealings.now.points.now }
+    {
+        let k = terms(self.dealings.t);
+        let mut mixed = [0u64; 16];
+        self.mix(&mut mixed[..k]);
+        self.dealings.dealing(&mixed[..k])
     }
 }
 
-// Every receiver's share, by the sum of these polynomials.
-#[tactic(auto, using(crate::proofs::MixtureLaws::mixed_sharing))]
-fn mixed_shares(
-    f: Field,
-    t: usize,
-    points: &[u64],
-    rows: &[u64],
-    weights: &[u64],
-    polynomials: &[u64],
-) -> [u64; 15]
-    requires t_bound { (t < 8) × (length points.now ≤ 15) }
-    requires powered { Powered f.p (terms t) points.now rows.now }
-    requires weights_len_bound { (length weights.now ≤ 15) × (all_below f.p weights.now ≡ true) }
-    requires weights_in_bounds { (terms t * length weights.now ≤ length polynomials.now) × (all_below f.p polynomials.now ≡ true) }
-    ensures { take (length points.now) result ≡ map (share_at f.p (terms t) weights.now polynomials.now) points.now }
-{
-    let k = terms(t);
-    let mut mixed = [0u64; 16];
-    mix(f, weights, polynomials, &mut mixed[..k]);
-    dealing(f, points, rows, &mixed[..k])
-}
-
-// Every receiver's share: by the grid of pieces, or by the sum of the polynomials.
-fn shares_of(
-    gridded: bool,
-    f: Field,
-    t: usize,
-    points: &[u64],
-    rows: &[u64],
-    weights: &[u64],
-    polynomials: &[u64],
-) -> [u64; 15]
-    requires t_bound { (t < 8) × (length points.now ≤ 15) }
-    requires powered { Powered f.p (terms t) points.now rows.now }
-    requires weights_len_bound { (length weights.now ≤ 15) × (all_below f.p weights.now ≡ true) }
-    requires weights_in_bounds { (terms t * length weights.now ≤ length polynomials.now) × (all_below f.p polynomials.now ≡ true) }
-    ensures { take (length points.now) result ≡ map (share_at f.p (terms t) weights.now polynomials.now) points.now }
-{
-    if gridded {
-        return shares(f, t, points, rows, weights, polynomials);
+impl<'a> Dealings<'a> {
+    // Rows and weights are written where they are lent.
+    #[tactic(auto, using(crate::proofs::DealingLaws::made_ready))]
+    pub fn new(
+        way: Way,
+        field: Field,
+        t: usize,
+        points: &'a [u64],
+        rows: &'a mut [u64],
+        weights: &'a mut [u64],
+    ) -> Self
+        requires t_in_bounds { (t < length points.now) × (length points.now ≤ 15) }
+        requires points_value { all_below field.p points.now ≡ true }
+        requires rows_in_bounds { 240 ≤ length rows.old }
+        requires weights_in_bounds { 15 ≤ length weights.old }
+        ensures field { result.sums.field.p ≡ field.p }
+        ensures plan { (result.t ≡ t) × (result.points.now ≡ points.now) }
+        ensures weights_value { result.weights.now ≡ Interp.weights field.p 0 (take (t + t + 1) points.now) }
+    {
+        prepare(field, t, points, rows, weights);
+        let dealers = dealers(t, points);
+        Dealings {
+            sums: Sums::new(field),
+            way,
+            t,
+            points,
+            rows,
+            weights: &weights[..dealers],
+        }
     }
-    mixed_shares(f, t, points, rows, weights, polynomials)
+
+    // The pieces of a dealing: the polynomial's values at the points, by their power rows.
+    #[tactic(auto, using(crate::proofs::DealingLaws::dealing))]
+    fn dealing(&self, polynomial: &[u64]) -> [u64; 15]
+        requires polynomial_len { length polynomial.now ≡ terms self.now.t }
+        requires polynomial_value { all_below self.now.sums.field.p polynomial.now ≡ true }
+        ensures { take (length self.now.points.now) result ≡ map (eval self.now.sums.field.p polynomial.now) self.now.points.now }
+    {
+        let sums = self.sums;
+        let rows = self.rows;
+        let k = polynomial.len();
+        let mut row = [0u64; 15];
+        for j in 0..self.points.len() {
+            let at = k * j;
+            row[j] = sharing::dot_by(sums, &rows[at..at + k], polynomial);
+        }
+        row
+    }
+
+    // An input gate's row: the input is dealt.
+    #[tactic(auto, using(crate::proofs::DealingLaws::inputs))]
+    pub fn input_row(&self, x: u64, coins: &[u8], at: usize) -> [u64; 15]
+        requires x_lt_p { x < self.now.sums.field.p }
+        requires coined { Coined self.now.sums.field.p self.now.t 1 at (numbers coins.now) }
+        ensures { take (length self.now.points.now) result ≡ map (eval self.now.sums.field.p (x ∷ take self.now.t (drop at (numbers coins.now)))) self.now.points.now }
+    {
+        let k = terms(self.t);
+        let mut dealt = [0u64; 16];
+        polynomial(x, coins, at, self.t, &mut dealt[..k]);
+        self.dealing(&dealt[..k])
+    }
+
+    // A multiply gate's row: the dealers' products are dealt, and each receiver's pieces weighed and summed.
+    // As it is: the way is kept with the dealings. A closure would be a type parameter of `Dealings` and of each struct that keeps one, and its contract
+    // would be the one that both methods have.
+    #[tactic(auto, using(crate::proofs::DealingLaws::multiplying))]
+    pub fn multiply_row(
+        &self,
+        a: usize,
+        b: usize,
+        coins: &[u8],
+        at: usize,
+        table: &[u64],
+    ) -> [u64; 15]
+        requires t_bound { self.now.t < 8 }
+        requires coined { Coined self.now.sums.field.p self.now.t (length self.now.weights.now) at (numbers coins.now) }
+        requires rowed { Rowed self.now.sums.field.p (length self.now.points.now) a table.now }
+        requires rowed_2 { Rowed self.now.sums.field.p (length self.now.points.now) b table.now }
+        ensures { take (length self.now.points.now) result ≡ map (mixed_at self.now.sums.field.p self.now.weights.now (shared_by self.now.t (products_of self.now.sums.field.p (length self.now.points.now) (length self.now.weights.now) a b table.now) (drop at (numbers coins.now)))) self.now.points.now }
+    {
+        let dealers = self.weights.len();
+        let products = products(self.sums.field, self.points.len(), dealers, a, b, table);
+        let k = terms(self.t);
+        let used = k * dealers;
+        let mut dealt = [0u64; 120];
+        polynomials(
+            self.t,
+            k,
+            &products[..dealers],
+            coins,
+            at,
+            &mut dealt[..used],
+        );
+        let product = Product {
+            dealings: self,
+            polynomials: &dealt[..used],
+        };
+        match self.way {
+            Way::Grid => product.gridded(),
+            Way::Sum => product.mixed(),
+        }
+    }
 }
 
-// A multiply gate's row: the dealers' products are dealt, and each receiver's pieces weighed and summed. `gridded` says whether on the grid of pieces.
-#[tactic(auto, using(crate::proofs::DealingLaws::multiplying))]
-pub fn multiply_row(
-    gridded: bool,
-    f: Field,
-    t: usize,
-    points: &[u64],
-    rows: &[u64],
-    weights: &[u64],
-    a: usize,
-    b: usize,
-    coins: &[u8],
-    at: usize,
-    table: &[u64],
-) -> [u64; 15]
-    requires t_bound { t < 8 }
-    requires weights_in_bounds { (length weights.now ≤ length points.now) × (length points.now ≤ 15) }
-    requires powered { Powered f.p (terms t) points.now rows.now }
-    requires weights_value { all_below f.p weights.now ≡ true }
-    requires coined { Coined f.p t (length weights.now) at (numbers coins.now) }
-    requires rowed { Rowed f.p (length points.now) a table.now }
-    requires rowed_2 { Rowed f.p (length points.now) b table.now }
-    ensures { take (length points.now) result ≡ map (mixed_at f.p weights.now (shared_by t (products_of f.p (length points.now) (length weights.now) a b table.now) (drop at (numbers coins.now)))) points.now }
-{
-    let dealers = weights.len();
-    let products = products(f, points.len(), dealers, a, b, table);
-    let k = terms(t);
-    let used = k * dealers;
-    let mut dealt = [0u64; 120];
-    polynomials(t, k, &products[..dealers], coins, at, &mut dealt[..used]);
-    shares_of(gridded, f, t, points, rows, weights, &dealt[..used])
-}
-
-// ---- inputs
-
-// An input gate's row: the input is dealt.
-#[tactic(auto, using(crate::proofs::DealingLaws::inputs))]
-pub fn input_row(
-    f: Field,
-    t: usize,
-    points: &[u64],
-    rows: &[u64],
-    x: u64,
-    coins: &[u8],
-    at: usize,
-) -> [u64; 15]
-    requires t_bound { (t < 16) × (length points.now ≤ 15) }
-    requires powered { Powered f.p (terms t) points.now rows.now }
-    requires x_lt_p { x < f.p }
-    requires coined { Coined f.p t 1 at (numbers coins.now) }
-    ensures { take (length points.now) result ≡ map (eval f.p (x ∷ take t (drop at (numbers coins.now)))) points.now }
-{
-    let k = terms(t);
-    let mut dealt = [0u64; 16];
-    polynomial(x, coins, at, t, &mut dealt[..k]);
-    dealing(f, points, rows, &dealt[..k])
-}
+// ---- coins
 
 // The coins that gate g takes from the list of all.
 pub fn coins_taken(plan: &PlanFile, g: usize) -> usize

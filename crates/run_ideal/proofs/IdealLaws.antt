@@ -104,6 +104,7 @@ takes_none plan (Spend a b) i r = refl
 pub takes-other : (plan : Plan) (gate g : Gate) → gate ≡ g → ((s : ℕ) → gate ≡ Input s → ⊥) → (gate ≡ Random → ⊥) → 0 ≡ inputs_taken plan g
 takes-other plan gate g e i r = takes_none plan gate i r ∙ ap (inputs_taken plan) e
 
+-- As it is: answers name this set, since the check leaves their goals open by `using` alone.
 pub ruleset taking = (rules, takes-input, takes-random, takes-other)
 
 pub wire-none : (wires : List ℕ) (w : ℕ) → length wires ≤ w → 0 ≡ get_or wires w 0
@@ -112,6 +113,7 @@ wire-none wires w l = sym (get_or-eq_default wires 0 l)
 pub wire_below : (p : ℕ) (wires : List ℕ) (w r : ℕ) → Ready p → all_below p wires ≡ true → r ≡ get_or wires w 0 → r < p
 wire_below p wires w r k h e = rw e (entry_below p wires w k h)
 
+-- As it is: answers name this set, since the check leaves their goals open by `using` alone.
 pub ruleset valuing = (rules, planned-ready, wire-none, wire_below, scaled-below, offset-below, value-input, value-add, value-scale, value_offset, value-multiply, value-random, value-spend)
 
 -- ---- how much of a run's list the gates below gate g own, one gate more
@@ -184,4 +186,5 @@ module _ (bs : List ℕ) (h : Header) (xs d₀ : List ℕ) where
         ∙ sym (ap (λ (gs : List Gate). values_from (plan_of bs) gs (take g d) (drop next xs)) (drop_of_length-le (plan_of bs).gates {i = g} (omega (arith, plan_gates k))))
         ∙ w.left
 
+-- As it is: answers name this set, since the check leaves their goals open by `using` alone.
 pub ruleset working = (rules, work_none, work-room, front_long, work-next, work-done)

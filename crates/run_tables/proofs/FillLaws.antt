@@ -216,4 +216,5 @@ module _ (bs : List ℕ) (h : Header) (k : Planned bs h) (inputs coins : List �
       pub table_kept : drop (h.n * h.gates) d ≡ drop (h.n * h.gates) d₀
       table_kept = ap (λ (m : ℕ). drop (h.n * m) d) (sym all) ∙ f.rest ∙ ap (λ (m : ℕ). drop (h.n * m) d₀) all
 
+-- As it is: answers name this set, since the check leaves their goals open by `using` alone.
 pub ruleset filling_table = (rules, fill_none, inputs_below, gate-taking, gate-standing, gate-room, fill_next, table_filled, table_kept)

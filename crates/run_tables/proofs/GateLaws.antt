@@ -14,14 +14,13 @@ use lib.Dec.{ltb}
 use lib.ListN.{length, take, drop, get_or, length-map}
 use lib.Seq.{get_or-take, get_or-drop, length-take-le}
 use Rattle.numbers.specs.Tables.{tab}
-use Rattle.numbers.specs.Bytes.{all_below}
 use Rattle.numbers.proofs.Tables.{length-tab, tab-ext, tab-map, row_room}
 use Rattle.numbers.proofs.Truth.{both_true}
 use Rattle.field.specs.Mod.{add, mul}
 use Rattle.sharing_laws.specs.Poly.{eval}
 use Rattle.sharing_laws.specs.Interp.{weights, dot}
 use Rattle.sharing_laws.proofs.Alls.{map-tab}
-use Rattle.sharing_openings.proofs.Rows.{weights_below}
+use Rattle.sharing_laws.proofs.Interpolation.{length-weights}
 use Rattle.plan.specs.declared.Gate.{Gate}
 use Rattle.plan.specs.declared.Gate.TheVariants.{Input, Add, Scale, Offset, Multiply, Random, Spend}
 use Rattle.plan.specs.declared.Rule.{Rule}
@@ -36,10 +35,10 @@ use Rattle.seat_messages.proofs.PointLaws.{plan_points_long}
 use Rattle.run_protocol.specs.Shares.{Before, wire_at, product_of, multiply_dealt, multiply_share, gate_share}
 use Rattle.run_protocol.proofs.Dealt.{pieces-reduction}
 use Rattle.run_ideal.proofs.IdealLaws.{no_random, no-spend, wire_below}
-use Rattle.run_dealings.specs.Rows.{rows_of, terms, products_of, shared_by, mixed_at, Prepared, Powered, Coined, Rowed, Standing, Taking, Holds, Worked}
+use Rattle.run_dealings.specs.Rows.{rows_of, products_of, shared_by, mixed_at, Fitted, Coined, Rowed, Standing, Taking, Holds, Worked}
 use Rattle.run_dealings.proofs.CoinLaws.{coins_input, coins_multiply}
 use Rattle.numbers.proofs.Rows.{flat-length, flat-part}
-use Rattle.run_dealings.proofs.RowLaws.{get_or-values, standing-row}
+use Rattle.run_dealings.proofs.RowLaws.{get_or-values, standing-row, row_reading}
 
 -- ---- the rows of a table
 cancel : (n a b : ℕ) → 1 ≤ n → n * a ≡ n * b → a ≡ b
@@ -135,34 +134,22 @@ module _ (plan : Plan) (n g : ℕ) (en : length plan.points ≡ n) (low : 1 ≤ 
       ∙ ap₂ (λ (vs ds : List ℕ). map (mixed_at plan.p vs (shared_by plan.t (products_of plan.p n (dealer_count plan) a b table) ds)) plan.points) ew (sym holds.coins)
       ∙ ap (λ (F : ℕ → ℕ). map F plan.points) (fun_ext (λ x. mixed-share a b x red la lb le))
 
--- ---- what is prepared
-module _ (bs : List ℕ) (h : Header) (points rows ws : List ℕ) (prepared : Prepared bs h points rows ws) where
-  pub powered : Powered h.field.p (terms h.t) points rows
-  powered = record { room = prepared.room; front = prepared.powers }
-
+-- ---- the dealings of a plan
+module _ (bs : List ℕ) (h : Header) (p t : ℕ) (points ws : List ℕ) (fitted : Fitted bs h p t points ws) where
   module _ (k : Planned bs h) where
     parties : length points ≡ h.n
-    parties = ap length prepared.are ∙ plan_points_long bs h k
-
-    pub points-few : length points ≤ 15
-    points-few = omega (arith, parties, k.n-high)
+    parties = ap length fitted.are ∙ plan_points_long bs h k
 
     -- the dealers are parties
     module _ (two : 2 * h.t < h.n) where
-      dealers_are : length (take (h.t + h.t + 1) points) ≡ h.t + h.t + 1
-      dealers_are = length-take-le (h.t + h.t + 1) points (omega (arith, parties))
+      weights-long : length ws ≡ h.t + h.t + 1
+      weights-long =
+          ap length fitted.weighs ∙ length-weights p 0 (take (t + t + 1) points)
+          ∙ length-take-le (t + t + 1) points (omega (arith, parties, fitted.threshold))
+          ∙ omega (arith, fitted.threshold)
 
-      weights-in : h.t + h.t + 1 ≤ length ws
-      weights-in = omega (arith, prepared.wide, dealers_are)
-
-      weighs : take (h.t + h.t + 1) ws ≡ weights h.field.p 0 (take (h.t + h.t + 1) points)
-      weighs = rw dealers_are at prepared.weighs
-
-      weights-long : length (take (h.t + h.t + 1) ws) ≡ h.t + h.t + 1
-      weights-long = length-take-le (h.t + h.t + 1) ws weights-in
-
-pub coins_few : (bs : List ℕ) (h : Header) → Planned bs h → h.t < 16
-coins_few bs h k = omega (arith, k.threshold, k.n-high)
+      weighs : ws ≡ weights h.field.p 0 (take (h.t + h.t + 1) points)
+      weighs = rw (← fitted.field, ← fitted.threshold) fitted.weighs
 
 -- ---- gate g of a plan that passes, as it was read
 module _ (bs : List ℕ) (h : Header) (k : Planned bs h) (g : ℕ) (l : g < h.gates) where
@@ -212,38 +199,28 @@ module _ (bs : List ℕ) (h : Header) (k : Planned bs h) (g : ℕ) (l : g < h.ga
       unfolding multiplying is_kind kind_of
       two is = gate_majority bs h k g read l e (ap multiplying is)
 
-      pub multiply_few : read ≡ Multiply a b → h.t < 8
-      multiply_few is = omega (arith, two is, k.n-high)
+      module _ (p t : ℕ) (points ws : List ℕ) (fitted : Fitted bs h p t points ws) where
+        pub multiply_few : read ≡ Multiply a b → t < 8
+        multiply_few is = omega (arith, two is, k.n-high, fitted.threshold)
 
-      module _ (points rows ws : List ℕ) (prepared : Prepared bs h points rows ws) where
-        pub weights-stand : read ≡ Multiply a b → h.t + h.t + 1 ≤ length ws
-        weights-stand is = weights-in bs h points rows ws prepared k (two is)
+        pub multiply-left-stands : read ≡ Multiply a b → Rowed p (length points) a table
+        multiply-left-stands is = rw (fitted.field, parties bs h p t points ws fitted k) (standing-row h.field.p h.n g a table s (ltb-true a g (multiplies is).0))
 
-        pub weights-counted : read ≡ Multiply a b → h.t + h.t + 1 ≡ length (take (h.t + h.t + 1) ws)
-        weights-counted is = sym (weights-long bs h points rows ws prepared k (two is))
-
-        pub weights-elements : read ≡ Multiply a b → all_below h.field.p (take (h.t + h.t + 1) ws) ≡ true
-        weights-elements is = rw (weighs bs h points rows ws prepared k (two is)) (weights_below (planned-ready bs h k).prime 0 (take (h.t + h.t + 1) points))
-
-        pub dealers_within : read ≡ Multiply a b → length (take (h.t + h.t + 1) ws) ≤ length points
-        dealers_within is = omega (arith, weights-long bs h points rows ws prepared k (two is), parties bs h points rows ws prepared k, two is)
-
-        pub multiply-left-stands : read ≡ Multiply a b → Rowed h.field.p (length points) a table
-        multiply-left-stands is = rw (parties bs h points rows ws prepared k) (standing-row h.field.p h.n g a table s (ltb-true a g (multiplies is).0))
-
-        pub multiply-right-stands : read ≡ Multiply a b → Rowed h.field.p (length points) b table
-        multiply-right-stands is = rw (parties bs h points rows ws prepared k) (standing-row h.field.p h.n g b table s (ltb-true b g (multiplies is).1))
+        pub multiply-right-stands : read ≡ Multiply a b → Rowed p (length points) b table
+        multiply-right-stands is = rw (fitted.field, parties bs h p t points ws fitted k) (standing-row h.field.p h.n g b table s (ltb-true b g (multiplies is).1))
 
     -- coins
     module _ (at : ℕ) (cs : List ℕ) (taking : Taking (plan_of bs) (gate_at bs g) at cs) where
       coined : (m : ℕ) → h.t * m ≡ length (coin_owners_at (plan_of bs) (gate_at bs g)) → Coined h.field.p h.t m at cs
       coined m q = record { room = rw (← q) at taking.room; below = rw (← q, plan_p k) at taking.below }
 
-      pub input_coins : (i : ℕ) → read ≡ Input i → Coined h.field.p h.t 1 at cs
-      input_coins i is = coined 1 (mul-one h.t ∙ coins_input bs h k g read e i is)
+      module _ (p t : ℕ) (points ws : List ℕ) (fitted : Fitted bs h p t points ws) where
+        pub input_coins : (i : ℕ) → read ≡ Input i → Coined p t 1 at cs
+        input_coins i is = rw (fitted.field, fitted.threshold) (coined 1 (mul-one h.t ∙ coins_input bs h k g read e i is))
 
-      pub multiply_coins : (a b : ℕ) (points rows ws : List ℕ) → read ≡ Multiply a b → Prepared bs h points rows ws → Coined h.field.p h.t (length (take (h.t + h.t + 1) ws)) at cs
-      multiply_coins a b points rows ws is prepared = rw (weights-long bs h points rows ws prepared k (two a b is)) (coined (h.t + h.t + 1) (coins_multiply bs h k g read e a b is))
+        pub multiply_coins : (a b : ℕ) → read ≡ Multiply a b → Coined p t (length ws) at cs
+        multiply_coins a b is =
+            rw (fitted.field, fitted.threshold, weights-long bs h p t points ws fitted k (two a b is)) (coined (h.t + h.t + 1) (coins_multiply bs h k g read e a b is))
 
     -- rows
     module _ (xs cs row : List ℕ) where
@@ -278,29 +255,45 @@ module _ (bs : List ℕ) (h : Header) (k : Planned bs h) (g : ℕ) (l : g < h.ga
       pub worked-spend : (a b : ℕ) → read ≡ Spend a b → Worked (plan_of bs) h.n (gate_at bs g) g xs cs table row
       worked-spend a b is = absurd (no-spend bs h k g a b l (sym e ∙ is))
 
-      module _ (points rows ws : List ℕ) (prepared : Prepared bs h points rows ws) where
+      module _ (p t : ℕ) (points ws : List ℕ) (fitted : Fitted bs h p t points ws) where
         pub worked-multiply : (a b : ℕ) → read ≡ Multiply a b
-            → take (length points) row
-            ≡ map (mixed_at h.field.p (take (h.t + h.t + 1) ws) (shared_by h.t (products_of h.field.p (length points) (length (take (h.t + h.t + 1) ws)) a b table) cs)) points
-            → Worked (plan_of bs) h.n (gate_at bs g) g xs cs table row
+            → take (length points) row ≡ map (mixed_at p ws (shared_by t (products_of p (length points) (length ws) a b table) cs)) points → Worked (plan_of bs) h.n (gate_at bs g) g xs cs table row
         unfolding dealer_count dealer_points
         worked-multiply a b is made =
             by_kind (Multiply a b) is
             (λ before holds.
-            multiply-share (plan_of bs) h.n g (plan_points_long bs h k) k.n_low xs cs table s.room before holds row a b (take (h.t + h.t + 1) ws) (plain bs k.passes).rule
+            multiply-share (plan_of bs) h.n g (plan_points_long bs h k) k.n_low xs cs table s.room before holds row a b ws (plain bs k.passes).rule
             (ltb-true a g (multiplies a b is).0) (ltb-true b g (multiplies a b is).1)
             (rw (plan_t k) (omega (arith, two a b is)))
-            (rw (plan_p k, plan_t k, ← prepared.are) (weighs bs h points rows ws prepared k (two a b is)))
-            (rw (plan_p k, plan_t k, ← prepared.are, ← parties bs h points rows ws prepared k) (rw (weights-long bs h points rows ws prepared k (two a b is)) at made)))
+            (rw (plan_p k, plan_t k, ← fitted.are) (weighs bs h p t points ws fitted k (two a b is)))
+            (rw (plan_p k, plan_t k, ← fitted.are, ← parties bs h p t points ws fitted k)
+            (rw (fitted.field, fitted.threshold, weights-long bs h p t points ws fitted k (two a b is)) at made)))
 
     -- an input is the next of the list
-    pub worked-input : (xs cs row points rows ws : List ℕ) (i x from : ℕ) → Prepared bs h points rows ws → read ≡ Input i → x ≡ get_or xs from 0
-        → take (length points) row ≡ map (eval h.field.p (x ∷ take h.t cs)) points → Worked (plan_of bs) h.n (gate_at bs g) g (drop from xs) cs table row
-    worked-input xs cs row points rows ws i x from prepared is ex made =
+    pub worked-input : (xs cs row points ws : List ℕ) (p t i x from : ℕ) → Fitted bs h p t points ws → read ≡ Input i → x ≡ get_or xs from 0
+        → take (length points) row ≡ map (eval p (x ∷ take t cs)) points → Worked (plan_of bs) h.n (gate_at bs g) g (drop from xs) cs table row
+    worked-input xs cs row points ws p t i x from fitted is ex made =
         let first : x ≡ get_or (drop from xs) 0 0 = ex ∙ ap (λ (m : ℕ). get_or xs m 0) (sym (add-zero from)) ∙ sym (get_or-drop from xs 0 0) in
         by_kind (drop from xs) cs row (Input i) is
         (λ before holds.
         input-share (plan_of bs) h.n g (plan_points_long bs h k) k.n_low (drop from xs) cs table s.room before holds row i
-        (rw (plan_p k, plan_t k, ← prepared.are, ← parties bs h points rows ws prepared k, ← first) made))
+        (rw (plan_p k, plan_t k, ← fitted.are, ← parties bs h p t points ws fitted k, ← first) (rw (fitted.field, fitted.threshold) at made)))
 
-pub ruleset working = (rules, planned-ready, wire_below, powered, weights-stand, weights-counted, weights-elements, dealers_within, points-few, coins_few, multiply_few, add-left-stands, add-right-stands, scale-stands, scale_constant, offset-stands, offset_constant, multiply-left-stands, multiply-right-stands, input_coins, multiply_coins, worked-add, worked-scale, worked-offset, worked-random, worked-spend, worked-input, worked-multiply)
+-- an element of the plan's field is one of the dealings'
+pub fitted_below : (bs : List ℕ) (h : Header) (p t : ℕ) (points ws : List ℕ) (x : ℕ) → Fitted bs h p t points ws → x < h.field.p → x < p
+fitted_below bs h p t points ws x fitted l = rw fitted.field l
+
+-- ---- the rules of rows
+abbrev pub sum_at : ℕ → ℕ → ℕ → ℕ → List ℕ → ℕ → ℕ
+sum_at p n a b table j = add p (get_or table (n * a + j) 0) (get_or table (n * b + j) 0)
+
+abbrev pub multiple_at : ℕ → ℕ → ℕ → ℕ → List ℕ → ℕ → ℕ
+multiple_at p n a c table j = mul p (get_or table (n * a + j) 0) c
+
+abbrev pub shifted_at : ℕ → ℕ → ℕ → ℕ → List ℕ → ℕ → ℕ
+shifted_at p n a c table j = add p (get_or table (n * a + j) 0) c
+
+pub ruleset reading = (row_reading, add-left-stands, add-right-stands, scale-stands, scale_constant, offset-stands, offset_constant)
+
+-- As it is: answers name this set, since the check leaves their goals open by `using` alone.
+pub ruleset working = (rules, planned-ready, wire_below, fitted_below, multiply_few, add-left-stands, add-right-stands, scale-stands, scale_constant, offset-stands, offset_constant, multiply-left-stands, multiply-right-stands, input_coins, multiply_coins, worked-add, worked-scale, worked-offset, worked-random, worked-spend, worked-input, worked-multiply)

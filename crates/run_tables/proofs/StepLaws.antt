@@ -4,17 +4,18 @@
 use mathlib.Core.Path.{◌≡◌, sym, ap, ◌∙◌}
 use mathlib.Core.Bool.{true}
 use mathlib.Core.List.{List}
-use Prim.Native.Nat.{ℕ, ◌<◌, ◌≤◌}
+use Prim.Native.Nat.{ℕ, ◌+◌, ◌<◌, ◌≤◌}
 use native.Mathlib.Omega.{arith}
 use borrow.Author.Rules.{rules}
-use lib.ListN.{length}
+use lib.ListN.{length, take}
 use Rattle.numbers.specs.Bytes.{all_below}
 use Rattle.plan.specs.declared.Header.{Header}
 use Rattle.plan.specs.File.{plan_of}
 use Rattle.plan.specs.Planned.{Planned}
 use Rattle.plan.proofs.Valid.{planned-ready}
 use Rattle.seat_messages.proofs.PointLaws.{plan_points_long, plan_points_below}
-use Rattle.run_dealings.specs.Rows.{Sized, terms, Powered, Weighted, Prepared}
+use Rattle.run_dealings.specs.Rows.{Sized, Fitted}
+use Rattle.sharing_laws.specs.Interp.{weights}
 
 -- ---- what a plan's contents give
 pub planned_sized : (bs : List ℕ) (h : Header) → Planned bs h → Sized h
@@ -37,7 +38,8 @@ module _ (bs : List ℕ) (h : Header) (k : Planned bs h) (ps : List ℕ) (e : ps
   pub points_elements : all_below h.field.p ps ≡ true
   points_elements = rw e (plan_points_below bs h k)
 
-  pub prepared : (rows ws : List ℕ) → Powered h.field.p (terms h.t) ps rows → Weighted h.field.p h.t ps ws → Prepared bs h ps rows ws
-  prepared rows ws b w = record { are = e; room = b.room; powers = b.front; wide = w.wide; weighs = w.weighs }
+  pub fitted : (p t : ℕ) (qs ws : List ℕ) → p ≡ h.field.p → t ≡ h.t → qs ≡ ps → ws ≡ weights h.field.p 0 (take (h.t + h.t + 1) ps) → Fitted bs h p t qs ws
+  fitted p t qs ws same few are is = record { field = same; threshold = few; are = are ∙ e; weighs = rw (same, few, are) is }
 
-pub ruleset placing = (rules, prepared, points-counted, points_most, points_over, points_elements)
+-- As it is: answers name this set, since the check leaves their goals open by `using` alone.
+pub ruleset placing = (rules, fitted, points-counted, points_most, points_over, points_elements)

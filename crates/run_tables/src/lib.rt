@@ -7,72 +7,19 @@ ghost use Rattle.numbers.specs.Bytes.{numbers, all_below};
 ghost use Rattle.field.specs.Mod.{add, mul};
 ghost use Rattle.plan.specs.File.{plan_of, gate_at};
 ghost use Rattle.run_protocol.specs.Shares.{share_table};
-ghost use Rattle.run_dealings.specs.Rows.{rows_of, Prepared, Rowed, Standing, Taking, Worked, Stepped, Given};
+ghost use Rattle.run_dealings.specs.Rows.{rows_of, Fitted, Standing, Taking, Worked, Stepped, Given};
 
-use field::Field;
 use plan::{Gate, PlanFile};
-
-// ---- gates that each party works on its own shares
-// As it is: one function of a rule, `impl Fn(usize) -> u64`, was tried; each closure has to state its bounds and its result again, which is
-// longer than its loop.
-
-// Each party's share of wire a plus that of wire b.
-fn add_row(f: Field, n: usize, a: usize, b: usize, table: &[u64]) -> [u64; 15]
-    requires n_bound { n ≤ 15 }
-    requires rowed { Rowed f.p n a table.now }
-    requires rowed_2 { Rowed f.p n b table.now }
-    ensures { take n result ≡ tab (λ j. add f.p (get_or table.now (n * a + j) 0) (get_or table.now (n * b + j) 0)) n }
-{
-    let left = n * a;
-    let right = n * b;
-    let mut row = [0u64; 15];
-    for j in 0..n {
-        row[j] = f.add(table[left + j], table[right + j]);
-    }
-    row
-}
-
-// Each party's share of wire a times c.
-// As it is: as the sum above.
-fn scale_row(f: Field, n: usize, a: usize, c: u64, table: &[u64]) -> [u64; 15]
-    requires n_bound { n ≤ 15 }
-    requires rowed { Rowed f.p n a table.now }
-    requires c_lt_p { c < f.p }
-    ensures { take n result ≡ tab (λ j. mul f.p (get_or table.now (n * a + j) 0) c) n }
-{
-    let left = n * a;
-    let mut row = [0u64; 15];
-    for j in 0..n {
-        row[j] = f.mul(table[left + j], c);
-    }
-    row
-}
-
-// Each party's share of wire a plus c.
-fn offset_row(f: Field, n: usize, a: usize, c: u64, table: &[u64]) -> [u64; 15]
-    requires n_bound { n ≤ 15 }
-    requires rowed { Rowed f.p n a table.now }
-    requires c_lt_p { c < f.p }
-    ensures { take n result ≡ tab (λ j. add f.p (get_or table.now (n * a + j) 0) c) n }
-{
-    let left = n * a;
-    let mut row = [0u64; 15];
-    for j in 0..n {
-        row[j] = f.add(table[left + j], c);
-    }
-    row
-}
+use run_dealings::{Dealings, Way, row_by};
 
 // ---- gate by gate
 
-// A plan with what is worked out once for all its dealings: the parties' points, their power rows, and the weights at 0 of the dealers' points.
+// A plan with what its dealings are worked with.
 #[derive(Clone, Copy)]
 pub struct RunPlan<'a> {
     pub plan: &'a PlanFile<'a>,
-    pub points: &'a [u64],
-    pub rows: &'a [u64],
-    pub weights: &'a [u64],
-    pub ghost prepared: { Prepared plan.now.bytes.now plan.now.header points.now rows.now weights.now },
+    pub dealings: Dealings<'a>,
+    pub ghost fitted: { Fitted plan.now.bytes.now plan.now.header dealings.sums.field.p dealings.t dealings.points.now dealings.weights.now },
 }
 
 impl<'a> RunPlan<'a> {
@@ -80,6 +27,7 @@ impl<'a> RunPlan<'a> {
     #[tactic(auto, using(crate::proofs::StepLaws::placing))]
     pub fn new(
         plan: &'a PlanFile<'a>,
+        way: Way,
         points: &'a [u64],
         rows: &'a mut [u64],
         weights: &'a mut [u64],
@@ -89,20 +37,17 @@ impl<'a> RunPlan<'a> {
         requires weights_in_bounds { 15 ≤ length weights.old }
         ensures { result.plan.now ≡ plan.now }
     {
-        run_dealings::prepare(plan.header.field, plan.header.t, points, rows, weights);
-        RunPlan {
-            plan,
-            points,
-            rows,
-            weights,
-        }
+        let h = plan.header;
+        let dealings = Dealings::new(way, h.field, h.t, points, rows, weights);
+        RunPlan { plan, dealings }
     }
 
     // The row of gate g's wire, from the rows of the wires below it. No plan file has a gate of the last two kinds.
+    // As it is: inputs, coins and table go together from `fill` on, but two runs may be worked by one `RunPlan`, each with its own lists, and the table is
+    // written; a struct of them and of their places would be made for each gate.
     #[tactic(auto, using(crate::proofs::GateLaws::working))]
     fn gate_row(
         &self,
-        gridded: bool,
         g: usize,
         inputs: &[u8],
         i: usize,
@@ -118,39 +63,21 @@ impl<'a> RunPlan<'a> {
     {
         let f = self.plan.header.field;
         let n = self.plan.header.n;
-        let t = self.plan.header.t;
-        let dealers = t + t + 1;
         match self.plan.gate(g) {
-            Gate::Input(_) => {
-                let x = numbers::read(inputs, i);
-                run_dealings::input_row(f, t, self.points, self.rows, x, coins, at)
-            }
-            Gate::Add(a, b) => add_row(f, n, a, b, table),
-            Gate::Scale(a, c) => scale_row(f, n, a, c, table),
-            Gate::Offset(a, c) => offset_row(f, n, a, c, table),
-            Gate::Multiply(a, b) => run_dealings::multiply_row(
-                gridded,
-                f,
-                t,
-                self.points,
-                self.rows,
-                &self.weights[..dealers],
-                a,
-                b,
-                coins,
-                at,
-                table,
-            ),
+            Gate::Input(_) => self.dealings.input_row(numbers::read(inputs, i), coins, at),
+            Gate::Add(a, b) => row_by(n, |j| f.add(table[n * a + j], table[n * b + j])),
+            Gate::Scale(a, c) => row_by(n, |j| f.mul(table[n * a + j], c)),
+            Gate::Offset(a, c) => row_by(n, |j| f.add(table[n * a + j], c)),
+            Gate::Multiply(a, b) => self.dealings.multiply_row(a, b, coins, at, table),
             Gate::Random => [0; 15],
             Gate::Spend(_, _) => [0; 15],
         }
     }
 
     // Works gate g for all parties: sets the row of its wire, from the rows of the wires below it. Its inputs stand from place i on, its coins from
-    // place `at` on. `gridded` says whether a product is worked on the grid of pieces.
+    // place `at` on.
     pub fn step(
         &self,
-        gridded: bool,
         g: usize,
         inputs: &[u8],
         i: usize,
@@ -167,11 +94,13 @@ impl<'a> RunPlan<'a> {
     {
         let n = self.plan.header.n;
         let start = n * g;
-        let row = self.gate_row(gridded, g, inputs, i, coins, at, table);
+        let row = self.gate_row(g, inputs, i, coins, at, table);
         table[start..start + n].copy_from_slice(&row[..n]);
     }
 
     // The table of a run: its gates one after the other.
+    // As it is: inputs, coins and table go on one by one, as in step. A struct of inputs and coins would leave the table beside it, a `&mut`, and each clause
+    // that step requires speaks of one of the three.
     #[tactic(auto, using(crate::proofs::FillLaws::filling_table))]
     fn steps(&self, inputs: &[u8], coins: &[u8], table: &mut [u64])
         requires given { Given (plan_of self.now.plan.now.bytes.now) inputs.now coins.now }
@@ -182,7 +111,7 @@ impl<'a> RunPlan<'a> {
         let mut i: usize = 0;
         let mut at: usize = 0;
         for g in 0..self.plan.header.gates {
-            self.step(true, g, inputs, i, coins, at, table);
+            self.step(g, inputs, i, coins, at, table);
             i += run_ideal::inputs_taken(self.plan, g);
             at += run_dealings::coins_taken(self.plan, g);
         }
@@ -202,38 +131,6 @@ pub fn fill(plan: &PlanFile, inputs: &[u8], coins: &[u8], table: &mut [u64])
     let points = seat_messages::points_of(plan);
     let mut rows = [0u64; 240];
     let mut weights = [0u64; 15];
-    RunPlan::new(plan, &points[..plan.header.n], &mut rows, &mut weights).steps(
-        inputs, coins, table,
-    );
-}
-
-// The same step for a caller that holds the parts in a struct of its own.
-pub fn step(
-    gridded: bool,
-    plan: &PlanFile,
-    points: &[u64],
-    rows: &[u64],
-    weights: &[u64],
-    g: usize,
-    inputs: &[u8],
-    i: usize,
-    coins: &[u8],
-    at: usize,
-    table: &mut [u64],
-)
-    requires g_lt_gates { g < plan.now.header.gates }
-    requires prepared { Prepared plan.now.bytes.now plan.now.header points.now rows.now weights.now }
-    requires inputs_value { all_below plan.now.header.field.p (numbers inputs.now) ≡ true }
-    requires taking { Taking (plan_of plan.now.bytes.now) (gate_at plan.now.bytes.now g) at (numbers coins.now) }
-    requires standing { Standing plan.now.header.field.p plan.now.header.n g table.old }
-    requires gates_in_bounds { plan.now.header.n * plan.now.header.gates ≤ length table.old }
-    ensures { Stepped (plan_of plan.now.bytes.now) plan.now.header.n (gate_at plan.now.bytes.now g) g (drop i (numbers inputs.now)) (drop at (numbers coins.now)) table.old table.new }
-{
-    let run = RunPlan {
-        plan,
-        points,
-        rows,
-        weights,
-    };
-    run.step(gridded, g, inputs, i, coins, at, table);
+    let points = &points[..plan.header.n];
+    RunPlan::new(plan, Way::Grid, points, &mut rows, &mut weights).steps(inputs, coins, table);
 }

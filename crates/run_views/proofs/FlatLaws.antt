@@ -1,9 +1,9 @@
 -- A view that is read off the flat table is the view that is read off the table of shares.
 --     table_long, table_below                 how long the flat table is, and that its entries are elements
---     share-flat, row-flat                    the flat table's entries and rows
---     first_flat, outs-flat                   the mail of the first and the last step
---     gate-flat, steps-flat                   the mail of the gates' steps
---     results-flat, view-flat                 the results and the view
+--     share_flat, row_flat                    the flat table's entries and rows
+--     first_flat, outs_flat                   the mail of the first and the last step
+--     gate_flat, steps_flat                   the mail of the gates' steps
+--     results_flat, view_flat                 the results and the view
 -- Assumes nothing.
 use mathlib.Core.Path.{◌≡◌, refl, sym, ap, ap₂, ◌∙◌}
 use mathlib.Core.Bool.{true}
@@ -30,10 +30,9 @@ use Rattle.plan.specs.declared.Gate.{Gate}
 use Rattle.plan.specs.declared.Gate.TheVariants.{Input, Add, Scale, Offset, Multiply, Random, Spend}
 use Rattle.plan.specs.declared.Rule.{Rule}
 use Rattle.plan.specs.declared.Rule.TheVariants.{Reduction}
-use Rattle.plan.specs.declared.Step.{Step}
 use Rattle.plan.specs.declared.Step.TheVariants.{DealInputs, DealProduct, SendOuts}
 use Rattle.plan.specs.declared.Header.{Header}
-use Rattle.plan.specs.Plans.{Plan, party_count, parties, point_of, dealer_count, dealer_points, kind_of, is_kind, multiplying, is_input_of, input_wires, out_wires, coin_owners_at, coin_count, own_inputs, own_coins, multiply_steps, steps_at, steps_from, steps}
+use Rattle.plan.specs.Plans.{Plan, party_count, parties, point_of, dealer_count, dealer_points, kind_of, is_kind, multiplying, is_input_of, input_wires, out_wires, coin_owners_at, coin_count, multiply_steps, steps_at, steps_from, steps}
 use Rattle.plan.specs.File.{gate_ok, plan_of}
 use Rattle.plan.specs.Planned.{Planned}
 use Rattle.plan.proofs.Planned.{plan_t, plan_p, plan_n, plan_dealers, plan_gates, plan_gate}
@@ -48,7 +47,7 @@ use Rattle.run_protocol.proofs.StepInputs.{wires-all}
 use Rattle.run_protocol.proofs.StepOuts.{out-wires-within}
 use Rattle.run_protocol.proofs.Dealt.{reduction-owners, coins-enough, pieces-reduction}
 use Rattle.run_ideal.proofs.IdealLaws.{taken_next}
-use Rattle.run_dealings.specs.Rows.{rows_of, powers, Standing}
+use Rattle.run_dealings.specs.Rows.{rows_of, powers}
 use Rattle.run_dealings.proofs.PowerLaws.{eval-powers}
 use Rattle.run_tables.proofs.GateLaws.{rows-length, rows_row, rows-entry}
 use Rattle.run_tables.proofs.FillLaws.{before_all, stands}
@@ -70,40 +69,40 @@ module _ (plan : Plan) (xs cs table : List ℕ) (is : table ≡ rows_of plan.poi
       (stands plan (pos v.prime) xs cs [] (party_count plan) (length plan.gates) table refl some (omega arith) (omega (arith, table_long))
       (all ∙ is ∙ ap (rows_of plan.points) (sym (before_all plan xs cs [] (length plan.gates) (omega arith))))).below
 
-  pub share-flat : (i w : ℕ) → 1 ≤ i → i ≤ party_count plan → w < length plan.gates → share_in (party_count plan) table i w ≡ wire_at shares w (point_of plan i)
+  pub share_flat : (i w : ℕ) → 1 ≤ i → i ≤ party_count plan → w < length plan.gates → share_in (party_count plan) table i w ≡ wire_at shares w (point_of plan i)
   unfolding share_in point_of party_count
-  share-flat i w l m k =
+  share_flat i w l m k =
       ap (λ (t : List ℕ). get_or t (party_count plan * w + (i - 1)) 0) is
       ∙ rows-entry plan.points (party_count plan) refl shares w (i - 1) (omega (arith, length-table plan xs cs [])) (omega arith)
 
-  pub row-flat : (w : ℕ) → w < length plan.gates → row_in (party_count plan) table w ≡ map (wire_at shares w) plan.points
+  pub row_flat : (w : ℕ) → w < length plan.gates → row_in (party_count plan) table w ≡ map (wire_at shares w) plan.points
   unfolding row_in party_count
-  row-flat w l = ap (λ (t : List ℕ). take (party_count plan) (drop (party_count plan * w) t)) is ∙ rows_row plan.points (party_count plan) refl shares w (omega (arith, length-table plan xs cs []))
+  row_flat w l = ap (λ (t : List ℕ). take (party_count plan) (drop (party_count plan * w) t)) is ∙ rows_row plan.points (party_count plan) refl shares w (omega (arith, length-table plan xs cs []))
 
   -- ---- the mail of the first and the last step
-  shares-flat : (i : ℕ) (ws : List ℕ) → 1 ≤ i → i ≤ party_count plan → All (λ w. w < length plan.gates) ws
+  shares_flat : (i : ℕ) (ws : List ℕ) → 1 ≤ i → i ≤ party_count plan → All (λ w. w < length plan.gates) ws
       → map (share_in (party_count plan) table i) ws ≡ map (λ w. wire_at shares w (point_of plan i)) ws
-  shares-flat i ws l m a =
+  shares_flat i ws l m a =
       map-all (share_in (party_count plan) table i) (λ w. wire_at shares w (point_of plan i)) ws
-      (all_map (λ w. w < length plan.gates) (λ w. share_in (party_count plan) table i w ≡ wire_at shares w (point_of plan i)) ws (λ w k. share-flat i w l m k) a)
+      (all_map (λ w. w < length plan.gates) (λ w. share_in (party_count plan) table i w ≡ wire_at shares w (point_of plan i)) ws (λ w k. share_flat i w l m k) a)
 
-  inputs-within : (j : ℕ) → All (λ w. w < length plan.gates) (input_wires plan j)
+  inputs_within : (j : ℕ) → All (λ w. w < length plan.gates) (input_wires plan j)
   unfolding input_wires
-  inputs-within j = wires-all (is_input_of j) (λ w. w < length plan.gates) 0 plan.gates (λ k l e. omega arith)
+  inputs_within j = wires-all (is_input_of j) (λ w. w < length plan.gates) 0 plan.gates (λ k l e. omega arith)
 
   pub first_flat : (i : ℕ) → 1 ≤ i → i ≤ party_count plan → first_in plan (party_count plan) table i ≡ table_mail plan xs cs [] i DealInputs
   unfolding first_in wires_by_party table_mail
   first_flat i l m =
       flat_map-all (λ j. map (share_in (party_count plan) table i) (input_wires plan j)) (λ j. map (λ w. wire_at shares w (point_of plan i)) (input_wires plan j)) (parties plan)
-      (all-every (λ j. map (share_in (party_count plan) table i) (input_wires plan j) ≡ map (λ w. wire_at shares w (point_of plan i)) (input_wires plan j)) (parties plan) (λ j. shares-flat i (input_wires plan j) l m (inputs-within j)))
+      (all-every (λ j. map (share_in (party_count plan) table i) (input_wires plan j) ≡ map (λ w. wire_at shares w (point_of plan i)) (input_wires plan j)) (parties plan) (λ j. shares_flat i (input_wires plan j) l m (inputs_within j)))
       ∙ sym (map-flat_map (λ w. wire_at shares w (point_of plan i)) (input_wires plan) (parties plan))
 
-  pub outs-flat : (v : Valid plan) (i : ℕ) → outs_in plan (party_count plan) table i ≡ table_mail plan xs cs [] i SendOuts
+  pub outs_flat : (v : Valid plan) (i : ℕ) → outs_in plan (party_count plan) table i ≡ table_mail plan xs cs [] i SendOuts
   unfolding outs_in table_mail
-  outs-flat v i =
+  outs_flat v i =
       let row : ℕ → List ℕ = λ x. map (λ w. wire_at shares w x) (out_wires plan i) in
       flat_map-all (λ j. map (share_in (party_count plan) table j) (out_wires plan i)) (λ j. row (point_of plan j)) (parties plan)
-      (each-party plan (λ j. map (share_in (party_count plan) table j) (out_wires plan i) ≡ row (point_of plan j)) (λ j l m. shares-flat j (out_wires plan i) l m (out-wires-within plan v i)))
+      (each-party plan (λ j. map (share_in (party_count plan) table j) (out_wires plan i) ≡ row (point_of plan j)) (λ j l m. shares_flat j (out_wires plan i) l m (out-wires-within plan v i)))
       ∙ sym (flat_map-map row (point_of plan) (parties plan))
       ∙ ap (flat_map row) (sym (parties_points plan))
 
@@ -152,17 +151,17 @@ module _ {bs : List ℕ} {h : Header} (pl : Planned bs h) (xs cs table : List �
         (rw (← drop-drop (plan.t * k) (place g) cs, ← coins_are) (omega (arith, length-drop (plan.t * k) before.coins, row_room plan.t k (dealer_count plan) m)))
 
     -- what dealer k deals
-    dealt-flat : (k : ℕ) → k < dealer_count plan
+    dealt_flat : (k : ℕ) → k < dealer_count plan
         → mul h.field.p (share_in h.n table (k + 1) a) (share_in h.n table (k + 1) b) ≡ get_or (multiply_dealt plan Reduction before a b) k 0
     unfolding multiply_dealt product_of dealer_points before point_of party_count
-    dealt-flat k m =
+    dealt_flat k m =
         let u : suc k ≤ party_count plan = omega (arith, dealers_few) in
         let q : suc k - 1 ≡ k = omega arith in
         let long : k < length (take (dealer_count plan) plan.points) = omega (arith, length-take-le (dealer_count plan) plan.points dealers_few) in
         let at : (w : ℕ) → w < g → share_in h.n table (k + 1) w ≡ wire_at before.env w (get_or plan.points k 0) =
         λ w lw.
         ap₂ (λ (n i : ℕ). share_in n table i w) (sym (plan_n pl)) (add-one k)
-        ∙ share-flat plan xs cs table is (suc k) w (omega arith) u (omega arith)
+        ∙ share_flat plan xs cs table is (suc k) w (omega arith) u (omega arith)
         ∙ ap (λ (j : ℕ). share w (get_or plan.points j 0)) q
         ∙ ap (λ (f : ℕ → ℕ). f (get_or plan.points k 0)) (sym (before-wire plan xs cs [] g w (omega arith) lw)) in
         ap₂ (λ (x y : ℕ). mul h.field.p x y) (at a reads.0) (at b reads.1)
@@ -171,56 +170,56 @@ module _ {bs : List ℕ} {h : Header} (pl : Planned bs h) (xs cs table : List �
         ∙ ap (λ (x : ℕ). mul plan.p (wire_at before.env a x) (wire_at before.env b x)) (get_or-take (dealer_count plan) plan.points k 0 m))
 
     -- the powers of x weigh t + 1 coefficients as the point x does
-    piece-flat : (x k : ℕ) → k < dealer_count plan
+    piece_flat : (x k : ℕ) → k < dealer_count plan
         → piece_in h table a b cs (place g) (powers h.field.p x (h.t + 1)) k
         ≡ eval plan.p (get_or (multiply_dealt plan Reduction before a b) k 0 ∷ take plan.t (drop (plan.t * k) before.coins)) x
     unfolding piece_in
-    piece-flat x k m =
+    piece_flat x k m =
         let s : ℕ = mul h.field.p (share_in h.n table (k + 1) a) (share_in h.n table (k + 1) b) in
         let f : List ℕ = s ∷ take plan.t (drop (place g + plan.t * k) cs) in
         let long : h.t + 1 ≡ length f = omega (arith, own_long k m, plan_t pl) in
         ap₂ (λ (p t : ℕ). dot p (powers p x (h.t + 1)) (s ∷ take t (drop (place g + t * k) cs))) (sym (plan_p pl)) (sym (plan_t pl))
         ∙ ap (λ (n : ℕ). dot plan.p (powers plan.p x n) f) long
         ∙ eval-powers plan.p f x
-        ∙ ap₂ (λ (y : ℕ) (c : List ℕ). eval plan.p (y ∷ take plan.t c) x) (dealt-flat k m)
+        ∙ ap₂ (λ (y : ℕ) (c : List ℕ). eval plan.p (y ∷ take plan.t c) x) (dealt_flat k m)
         (sym (drop-drop (plan.t * k) (place g) cs) ∙ ap (drop (plan.t * k)) (sym coins_are))
 
-    product-flat : (i : ℕ) → pieces_in h table cs (place g) (powers h.field.p (point_of plan i) (h.t + 1)) (Multiply a b) ≡ table_mail plan xs cs [] i (DealProduct g a b)
+    product_flat : (i : ℕ) → pieces_in h table cs (place g) (powers h.field.p (point_of plan i) (h.t + 1)) (Multiply a b) ≡ table_mail plan xs cs [] i (DealProduct g a b)
     unfolding pieces_in table_mail gate_in before
-    product-flat i =
+    product_flat i =
         let x : ℕ = point_of plan i in
         ap (tab (piece_in h table a b cs (place g) (powers h.field.p x (h.t + 1)))) (sym (plan_dealers pl))
         ∙ tab-ext (piece_in h table a b cs (place g) (powers h.field.p x (h.t + 1)))
-        (λ k. eval plan.p (get_or (multiply_dealt plan Reduction before a b) k 0 ∷ take plan.t (drop (plan.t * k) before.coins)) x) (dealer_count plan) (piece-flat x)
+        (λ k. eval plan.p (get_or (multiply_dealt plan Reduction before a b) k 0 ∷ take plan.t (drop (plan.t * k) before.coins)) x) (dealer_count plan) (piece_flat x)
         ∙ sym (ap (λ (y : Gate). pieces_at plan y before x) e ∙ pieces-reduction plan a b x before by)
 
   kinds : (g : ℕ) (x : Gate) → get_or plan.gates g (Input 0) ≡ x → kind_of x ≤ 5
   kinds g x e = rw (← e) ((plain bs pl.passes).kinds g)
 
-  gate-flat : (i g : ℕ) (x : Gate) → g < length plan.gates → get_or plan.gates g (Input 0) ≡ x
+  gate_flat : (i g : ℕ) (x : Gate) → g < length plan.gates → get_or plan.gates g (Input 0) ≡ x
       → pieces_in h table cs (place g) (powers h.field.p (point_of plan i) (h.t + 1)) x ≡ flat_map (table_mail plan xs cs [] i) (steps_at plan.rule g x)
   unfolding pieces_in steps_at multiply_steps flat_map kind_of
-  gate-flat i g (Input s) l e = refl
-  gate-flat i g (Add a b) l e = refl
-  gate-flat i g (Scale a c) l e = refl
-  gate-flat i g (Offset a c) l e = refl
-  gate-flat i g (Multiply a b) l e =
-      product-flat g a b l e i ∙ sym (ap (λ (r : Rule). flat_map (table_mail plan xs cs [] i) (multiply_steps r g a b)) by ∙ append-nil (table_mail plan xs cs [] i (DealProduct g a b)))
-  gate-flat i g Random l e = let q : 6 ≤ 5 = kinds g Random e in absurd (omega arith)
-  gate-flat i g (Spend a b) l e = let q : 7 ≤ 5 = kinds g (Spend a b) e in absurd (omega arith)
+  gate_flat i g (Input s) l e = refl
+  gate_flat i g (Add a b) l e = refl
+  gate_flat i g (Scale a c) l e = refl
+  gate_flat i g (Offset a c) l e = refl
+  gate_flat i g (Multiply a b) l e =
+      product_flat g a b l e i ∙ sym (ap (λ (r : Rule). flat_map (table_mail plan xs cs [] i) (multiply_steps r g a b)) by ∙ append-nil (table_mail plan xs cs [] i (DealProduct g a b)))
+  gate_flat i g Random l e = let q : 6 ≤ 5 = kinds g Random e in absurd (omega arith)
+  gate_flat i g (Spend a b) l e = let q : 7 ≤ 5 = kinds g (Spend a b) e in absurd (omega arith)
 
-  steps-from : (i m g : ℕ) → m + g ≡ length plan.gates
+  steps_flat_from : (i m g : ℕ) → m + g ≡ length plan.gates
       → steps_in plan h table cs (powers h.field.p (point_of plan i) (h.t + 1)) (place g) (drop g plan.gates) ≡ flat_map (table_mail plan xs cs [] i) (steps_from plan.rule g (drop g plan.gates))
   unfolding steps_in steps_from flat_map place
-  steps-from i zero g e = rw (drop_of_length-le plan.gates {i = g} (omega arith))
-  steps-from i (suc m) g e =
+  steps_flat_from i zero g e = rw (drop_of_length-le plan.gates {i = g} (omega arith))
+  steps_flat_from i (suc m) g e =
       let l : g < length plan.gates = omega arith in
       let ws : List ℕ = powers h.field.p (point_of plan i) (h.t + 1) in
       let x : Gate = get_or plan.gates g (Input 0) in
       let gs : List Gate = drop (suc g) plan.gates in
       let here : place g + length (coin_owners_at plan x) ≡ place (suc g) = next_place g l in
       ap (λ (l : List Gate). steps_in plan h table cs ws (place g) l) (drop-cons plan.gates g (Input 0) l)
-      ∙ ap₂ (λ (u w : List ℕ). u ++ w) (gate-flat i g x l refl) (ap (λ (n : ℕ). steps_in plan h table cs ws n gs) here ∙ steps-from i m (suc g) (omega arith))
+      ∙ ap₂ (λ (u w : List ℕ). u ++ w) (gate_flat i g x l refl) (ap (λ (n : ℕ). steps_in plan h table cs ws n gs) here ∙ steps_flat_from i m (suc g) (omega arith))
       ∙ sym (ap (λ (l : List Gate). flat_map (table_mail plan xs cs [] i) (steps_from plan.rule g l)) (drop-cons plan.gates g (Input 0) l)
       ∙ flat_map-append (table_mail plan xs cs [] i) (steps_at plan.rule g x) (steps_from plan.rule (suc g) gs))
     where
@@ -230,30 +229,30 @@ module _ {bs : List ℕ} {h : Header} (pl : Planned bs h) (xs cs table : List �
           taken_next (coin_owners_at plan) bs h (place k) k (length (coin_owners_at plan (get_or plan.gates k (Input 0)))) pl refl m (ap (λ (y : Gate). length (coin_owners_at plan y)) (plan_gate pl k m))
           ∙ ap (λ (n : ℕ). length (flat_map (coin_owners_at plan) (take n plan.gates))) (add-one k)
 
-  steps-flat : (i : ℕ) → steps_in plan h table cs (powers h.field.p (point_of plan i) (h.t + 1)) 0 plan.gates ≡ flat_map (table_mail plan xs cs [] i) (steps_from plan.rule 0 plan.gates)
+  steps_flat : (i : ℕ) → steps_in plan h table cs (powers h.field.p (point_of plan i) (h.t + 1)) 0 plan.gates ≡ flat_map (table_mail plan xs cs [] i) (steps_from plan.rule 0 plan.gates)
   unfolding place flat_map
-  steps-flat i = steps-from i (length plan.gates) 0 (add-zero (length plan.gates))
+  steps_flat i = steps_flat_from i (length plan.gates) 0 (add-zero (length plan.gates))
 
   -- ---- results
-  pub results-flat : (i : ℕ) → map (opened_in plan h table) (out_wires plan i) ≡ table_results plan xs cs [] i
+  pub results_flat : (i : ℕ) → map (opened_in plan h table) (out_wires plan i) ≡ table_results plan xs cs [] i
   unfolding table_results opened_in
-  results-flat i =
+  results_flat i =
       let result : ℕ → ℕ = λ w. opened plan.p plan.t plan.points (map (share w) plan.points) in
       map-all (opened_in plan h table) result (out_wires plan i)
       (all_map (λ w. w < length plan.gates) (λ w. opened_in plan h table w ≡ result w) (out_wires plan i)
       (λ w k.
       ap₂ (λ (p t : ℕ). opened p t plan.points (row_in h.n table w)) (sym (plan_p pl)) (sym (plan_t pl))
-      ∙ ap (opened plan.p plan.t plan.points) (ap (λ (n : ℕ). row_in n table w) (sym (plan_n pl)) ∙ row-flat plan xs cs table is w k))
+      ∙ ap (opened plan.p plan.t plan.points) (ap (λ (n : ℕ). row_in n table w) (sym (plan_n pl)) ∙ row_flat plan xs cs table is w k))
       (out-wires-within plan v i))
 
   -- ---- the view
-  mail-flat : (i : ℕ) → 1 ≤ i → i ≤ party_count plan → mail_in plan h table cs i ≡ flat_map (table_mail plan xs cs [] i) (steps plan)
+  mail_flat : (i : ℕ) → 1 ≤ i → i ≤ party_count plan → mail_in plan h table cs i ≡ flat_map (table_mail plan xs cs [] i) (steps plan)
   unfolding mail_in steps flat_map
-  mail-flat i l m =
+  mail_flat i l m =
       ap₂ (λ (u w : List ℕ). u ++ w) (ap (λ (n : ℕ). first_in plan n table i) (sym (plan_n pl)) ∙ first_flat plan xs cs table is i l m)
-      (ap₂ (λ (u w : List ℕ). u ++ w) (steps-flat i) (ap (λ (n : ℕ). outs_in plan n table i) (sym (plan_n pl)) ∙ outs-flat plan xs cs table is v i ∙ sym (append-nil (table_mail plan xs cs [] i SendOuts)))
+      (ap₂ (λ (u w : List ℕ). u ++ w) (steps_flat i) (ap (λ (n : ℕ). outs_in plan n table i) (sym (plan_n pl)) ∙ outs_flat plan xs cs table is v i ∙ sym (append-nil (table_mail plan xs cs [] i SendOuts)))
       ∙ sym (flat_map-append (table_mail plan xs cs [] i) (steps_from plan.rule 0 plan.gates) (SendOuts ∷ [])))
 
-  pub view-flat : (i : ℕ) → 1 ≤ i → i ≤ party_count plan → view_in plan h table xs cs i ≡ table_view_of plan xs cs [] i
+  pub view_flat : (i : ℕ) → 1 ≤ i → i ≤ party_count plan → view_in plan h table xs cs i ≡ table_view_of plan xs cs [] i
   unfolding view_in table_view_of
-  view-flat i l m = rw (mail-flat i l m, results-flat i)
+  view_flat i l m = rw (mail_flat i l m, results_flat i)

@@ -1,5 +1,5 @@
 -- The parts of a view joined, and the views of a coalition's members.
---     mailing, joining      all mail to a party, and its view
+--     joining               all mail to a party, and its view
 --     member_within         in a set that names no party above n, each member is a party
 --     membering             the view of a party that is a member
 --     Viewed, viewing       the views of all members
@@ -7,7 +7,7 @@
 use mathlib.Core.Path.{◌≡◌, refl, sym, ap, ◌∙◌}
 use mathlib.Core.Bool.{Bool, true, false, cond}
 use mathlib.Core.List.{List, [], ◌∷◌, ◌++◌, map, flat_map, Memᴰ}
-use Prim.Native.Nat.{ℕ, suc, ◌+◌, ◌-◌, ◌*◌, ◌^◌, ◌<◌, ◌≤◌}
+use Prim.Native.Nat.{ℕ, suc, ◌+◌, ◌-◌, ◌*◌, ◌/◌, ◌^◌, ◌<◌, ◌≤◌}
 use native.Mathlib.Numerals.{add-one}
 use native.Mathlib.Omega.{arith}
 use borrow.Author.Rules.{rules}
@@ -33,32 +33,29 @@ use Rattle.run_protocol.proofs.Runs.{views-table}
 use Rattle.run_protocol.proofs.ViewCounts.{view-count}
 use Rattle.run_dealings.specs.Rows.{rows_of, powers, Given}
 use Rattle.run_views.specs.Flat.{first_in, steps_in, outs_in, opened_in, mail_in, view_in, Ran}
-use Rattle.run_views.specs.Writing.{Wrote, stored_from}
+use Rattle.run_views.specs.Writing.{Wrote}
 use Rattle.sharing_laws.proofs.Lists.{flat_map-all, all_map}
-use Rattle.run_views.proofs.ViewLaws.{few-powers, row_count, power-row}
-use Rattle.run_views.proofs.WriteLaws.{stored_from-whole, wrote_none, wrote_then, Left, left-none, left_then, left_end}
-use Rattle.run_views.proofs.FlatLaws.{table_long, table_below, view-flat}
+use Rattle.run_views.proofs.ViewLaws.{few_powers, row_count, powers_row}
+use Rattle.run_views.proofs.WriteLaws.{wrote_none, wrote_then, wrote_as, wrote_whole, Left, left_all, left_then, left_end}
+use Rattle.run_views.proofs.FlatLaws.{table_long, table_below, view_flat}
 
 -- ---- parts
-wrote_most : (m k : ℕ) (xs : List ℕ) (at : ℕ) (old new : List ℕ) (next : ℕ) → m ≤ k → Wrote m xs at old new next → Wrote k xs at old new next
-wrote_most m k xs at old new next l w = record { bytes = w.bytes; place = w.place; few = omega (arith, w.few) }
-
 module _ (plan : Plan) (h : Header) (table cs : List ℕ) (i at : ℕ) (old : List ℕ) where
   pub mail_done :
-      (a b next : ℕ) (row da db new : List ℕ) → take (h.t + 1) row ≡ powers h.field.p (point_of plan i) (h.t + 1) → Wrote 15360 (first_in plan h.n table i) at old da a → Wrote 15360 (steps_in plan h table cs (take (h.t + 1) row) 0 plan.gates) a da db b
-      → Wrote 960 (outs_in plan h.n table i) b db new next → Wrote 31680 (mail_in plan h table cs i) at old new next
+      (a b next : ℕ) (row da db new : List ℕ) → take (h.t + 1) row ≡ powers h.field.p (point_of plan i) (h.t + 1) → Wrote (first_in plan h.n table i) at old da a
+      → Wrote (steps_in plan h table cs (take (h.t + 1) row) 0 plan.gates) a da db b → Wrote (outs_in plan h.n table i) b db new next → Wrote (mail_in plan h table cs i) at old new next
   unfolding mail_in
-  mail_done a b next row da db new e u v w = wrote_then 15360 16320 _ _ at a next old da new u (wrote_then 15360 960 _ _ a b next da db new (rw e at v) w)
+  mail_done a b next row da db new e u v w = wrote_then _ _ at a next old da new u (wrote_then _ _ a b next da db new (rw e at v) w)
 
   pub view_done :
-      (xs : List ℕ) (a b c next : ℕ) (da db dc new : List ℕ) → Wrote 1024 (own_inputs plan i xs) at old da a → Wrote 14336 (own_coins plan i cs) a da db b
-      → Wrote 31680 (mail_in plan h table cs i) b db dc c → Wrote 64 (map (opened_in plan h table) (out_wires plan i)) c dc new next
-      → Wrote 47104 (view_in plan h table xs cs i) at old new next
+      (xs : List ℕ) (a b c next : ℕ) (da db dc new : List ℕ) → Wrote (own_inputs plan i xs) at old da a → Wrote (own_coins plan i cs) a da db b
+      → Wrote (mail_in plan h table cs i) b db dc c → Wrote (map (opened_in plan h table) (out_wires plan i)) c dc new next
+      → Wrote (view_in plan h table xs cs i) at old new next
   unfolding view_in
-  view_done xs a b c next da db dc new s u v w =
-      wrote_then 1024 46080 _ _ at a next old da new s (wrote_then 14336 31744 _ _ a b next da db new u (wrote_then 31680 64 _ _ b c next db dc new v w))
+  view_done xs a b c next da db dc new s u v w = wrote_then _ _ at a next old da new s (wrote_then _ _ a b next da db new u (wrote_then _ _ b c next db dc new v w))
 
-pub ruleset joining = (rules, few-powers, power-row, row_count, mail_done, view_done)
+-- As it is: answers name this set, since the check leaves their goals open by `using` alone.
+pub ruleset joining = (rules, few_powers, powers_row, row_count, mail_done, view_done)
 
 -- ---- a member
 -- a set that names no party above n admits its own count of members
@@ -72,23 +69,24 @@ pub member_most : (n set i : ℕ) (b : Bool) → set < 2 ^ n → b ≡ in_set se
 member_most n set i b w e y l m = member_within n set w i (in_member set i l m (sym e ∙ y))
 
 module _ (vs : List ℕ) (set i at : ℕ) (old : List ℕ) (b : Bool) (e : b ≡ in_set set i) where
-  pub member-not : b ≡ false → Wrote 47104 (cond (in_set set i) vs []) at old old at
-  member-not y = rw (← e, y) (wrote_none 47104 at old)
+  pub member_not : b ≡ false → at ≤ length old / width → Wrote (cond (in_set set i) vs []) at old old at
+  member_not y l = rw (← e, y) (wrote_none at old l)
 
-  pub member-view : (new : List ℕ) (next : ℕ) → b ≡ true → Wrote 47104 vs at old new next → Wrote 47104 (cond (in_set set i) vs []) at old new next
-  member-view new next y w = rw (← e, y) w
+  pub member_view : (new : List ℕ) (next : ℕ) → b ≡ true → Wrote vs at old new next → Wrote (cond (in_set set i) vs []) at old new next
+  member_view new next y w = rw (← e, y) w
 
-pub ruleset membering = (rules, not-true, not-false, member_most, member-not, member-view)
+-- As it is: answers name this set, since the check leaves their goals open by `using` alone.
+pub ruleset membering = (rules, not-true, not-false, member_most, member_not, member_view)
 
 -- ---- all members
+-- the invariant before party i
 pub record Viewed (vs : ℕ → List ℕ) (set : ℕ) (old new : List ℕ) (at i : ℕ) : Type 0 where
-  pub left : Left (flat_map vs (members set)) 0 old new at (flat_map vs (members_from set i (17 - i))) (47104 * (i - 1))
-  pub low : 1 ≤ i
+  pub left : Left (flat_map vs (members set)) 0 old new at (flat_map vs (members_from set i (17 - i)))
   pub high : i ≤ 17
 
-pub views-none : (vs : ℕ → List ℕ) (set : ℕ) (old : List ℕ) → Viewed vs set old old 0 1
+pub views_all : (vs : ℕ → List ℕ) (set : ℕ) (old : List ℕ) → Viewed vs set old old 0 1
 unfolding members
-views-none vs set old = record { left = left-none _ 0 old _ refl; low = omega arith; high = omega arith }
+views_all vs set old = record { left = left_all _ 0 old _ refl (omega arith); high = omega arith }
 
 views_step : (vs : ℕ → List ℕ) (b : Bool) (i : ℕ) (is : List ℕ) → flat_map vs (cond b (i ∷ is) is) ≡ cond b (vs i) [] ++ flat_map vs is
 unfolding flat_map
@@ -96,25 +94,20 @@ views_step vs true i is = refl
 views_step vs false i is = refl
 
 module _ (vs : ℕ → List ℕ) (set : ℕ) (old new : List ℕ) (at i : ℕ) (s : Viewed vs set old new at i) where
-  pub views_near : i < 17 → at ≤ 800000
-  views_near l = omega (arith, s.left.few)
-
-  pub views_next : (new' : List ℕ) (at' : ℕ) → i < 17 → Wrote 47104 (cond (in_set set i) (vs i) []) at new new' at' → length new' ≡ length new → Viewed vs set old new' at' (i + 1)
+  pub views_next : (new' : List ℕ) (at' : ℕ) → i ≤ 16 → Wrote (cond (in_set set i) (vs i) []) at new new' at' → Viewed vs set old new' at' (i + 1)
   unfolding members_from
-  views_next new' at' l w n =
+  views_next new' at' l w =
       let e : 17 - i ≡ suc (17 - (i + 1)) = omega arith in
-      let q : 47104 * (i - 1) + 47104 ≤ 47104 * (i + 1 - 1) = omega (arith, s.low) in
       record {
-        left = left_then _ 0 old new at _ (47104 * (i - 1)) s.left 47104 (cond (in_set set i) (vs i) []) _ new' at' (47104 * (i + 1 - 1)) (rw (e, ← add-one i) (views_step vs (in_set set i) i (members_from set (i + 1) (17 - (i + 1))))) w n q;
-        low = omega arith;
+        left = left_then _ 0 old new at _ s.left (cond (in_set set i) (vs i) []) _ new' at' (rw (e, ← add-one i) (views_step vs (in_set set i) i (members_from set (i + 1) (17 - (i + 1))))) w;
         high = omega arith;
       }
 
-  views_end : 17 ≤ i → new ≡ stored_from old 0 (flat_map vs (members set))
+  views_end : 16 < i → Wrote (flat_map vs (members set)) 0 old new at
   unfolding members_from flat_map
   views_end l =
       let e : 17 - i ≡ 0 = omega (arith, s.high) in
-      (left_end _ 0 old new at _ (47104 * (i - 1)) s.left (47104 * (i - 1)) (rw e) (omega arith)).bytes
+      left_end _ 0 old new at _ s.left (rw e)
 
 -- ---- the run's coins and table
 module _ {bs : List ℕ} {h : Header} (pl : Planned bs h) (inputs coins table : List ℕ) (given : Given (plan_of bs) inputs coins)
@@ -143,29 +136,29 @@ module _ {bs : List ℕ} {h : Header} (pl : Planned bs h) (inputs coins table : 
       }
 
   module _ (set : ℕ) (w : set < 2 ^ h.n) where
-    parties-only : All (λ i. (1 ≤ i) × (i ≤ party_count (plan_of bs))) (members set)
-    parties-only =
+    parties_only : All (λ i. (1 ≤ i) × (i ≤ party_count (plan_of bs))) (members set)
+    parties_only =
         all-members (λ i. (1 ≤ i) × (i ≤ party_count (plan_of bs))) (members set)
         (λ m q. ((member_in set m q).from, rw (plan_n pl) (member_within h.n set w m q)))
 
-    views-flat : flat_map (view_in (plan_of bs) h table (numbers inputs) (numbers coins)) (members set) ≡ flat_map (table_view_of (plan_of bs) (numbers inputs) (numbers coins) []) (members set)
-    views-flat =
+    views_flat : flat_map (view_in (plan_of bs) h table (numbers inputs) (numbers coins)) (members set) ≡ flat_map (table_view_of (plan_of bs) (numbers inputs) (numbers coins) []) (members set)
+    views_flat =
         flat_map-all (view_in (plan_of bs) h table (numbers inputs) (numbers coins)) (table_view_of (plan_of bs) (numbers inputs) (numbers coins) []) (members set)
         (all_map (λ i. (1 ≤ i) × (i ≤ party_count (plan_of bs))) (λ i. view_in (plan_of bs) h table (numbers inputs) (numbers coins) i ≡ table_view_of (plan_of bs) (numbers inputs) (numbers coins) [] i) (members set)
-        (λ i q. view-flat pl (numbers inputs) (numbers coins) table is full i q.0 q.1) parties-only)
+        (λ i q. view_flat pl (numbers inputs) (numbers coins) table is full i q.0 q.1) parties_only)
 
-    views-long : length (flat_map (table_view_of (plan_of bs) (numbers inputs) (numbers coins) []) (members set)) ≡ view_count (plan_of bs) (members set)
-    views-long =
+    views_long : length (flat_map (table_view_of (plan_of bs) (numbers inputs) (numbers coins) []) (members set)) ≡ view_count (plan_of bs) (members set)
+    views_long =
         let ok : Valid (plan_of bs) = valid bs pl.passes in
         let none : Tabled (plan_of bs) [] [] = tabled-none (plan_of bs) [] (plain_no_7 (plan_of bs) (plain bs pl.passes)) in
-        ap length (sym (views-table (plan_of bs) ok (numbers inputs) (numbers coins) [] [] full none (members set) parties-only))
-        ∙ view-count (plan_of bs) ok (numbers inputs) (numbers coins) [] [] full none (members set) parties-only
+        ap length (sym (views-table (plan_of bs) ok (numbers inputs) (numbers coins) [] [] full none (members set) parties_only))
+        ∙ view-count (plan_of bs) ok (numbers inputs) (numbers coins) [] [] full none (members set) parties_only
 
-    pub views-done :
-        (old new : List ℕ) (at i : ℕ) → length old ≡ width * view_count (plan_of bs) (members set) → Viewed (view_in (plan_of bs) h table (numbers inputs) (numbers coins)) set old new at i → 17 ≤ i
+    pub views_done :
+        (old new : List ℕ) (at i : ℕ) → length old ≡ width * view_count (plan_of bs) (members set) → Viewed (view_in (plan_of bs) h table (numbers inputs) (numbers coins)) set old new at i → 16 < i
         → new ≡ bytes_of (flat_map (table_view_of (plan_of bs) (numbers inputs) (numbers coins) []) (members set))
-    views-done old new at i room s l =
-        views_end _ set old new at i s l ∙ ap (stored_from old 0) views-flat
-        ∙ stored_from-whole old (flat_map (table_view_of (plan_of bs) (numbers inputs) (numbers coins) []) (members set)) (omega (arith, views-long))
+    views_done old new at i room s l =
+        wrote_whole _ old new at (wrote_as _ _ 0 at old new views_flat (views_end _ set old new at i s l)) (omega (arith, views_long))
 
-pub ruleset viewing = (rules, ran, views-none, views_near, views_next, views-done)
+-- As it is: answers name this set, since the check leaves their goals open by `using` alone.
+pub ruleset viewing = (rules, ran, views_all, views_next, views_done)

@@ -10,7 +10,7 @@ use Rattle.field.specs.Field.{Ready}
 use Rattle.plan.specs.declared.Gate.{Gate}
 use Rattle.plan.specs.declared.Gate.TheVariants.{Input, Add, Scale, Offset, Multiply, Random, Spend}
 use Rattle.plan.specs.declared.Header.{Header}
-use Rattle.plan.specs.Plans.{Plan, parties, point_of, input_wires, out_wires, coin_owners_at, coin_count, own_inputs, own_coins}
+use Rattle.plan.specs.Plans.{Plan, parties, point_of, input_wires, out_wires, coin_owners_at, coin_count, own_of, own_inputs, own_coins}
 use Rattle.run_dealings.specs.Rows.{powers}
 
 -- party i's share of wire w, of n parties
@@ -78,6 +78,23 @@ pub record Ran (plan : Plan) (h : Header) (cs table : List ℕ) : Type 0 where
   pub full : length cs ≡ coin_count plan
   pub below : all_below h.field.p cs ≡ true
   pub running : Running h table
+
+-- a gate of a plan with these contents that multiplies wires a and b: of `count` coins it has the 2t + 1 dealers' from number `from` on
+pub record Multiplies (h : Header) (a b from count : ℕ) : Type 0 where
+  pub majority : 2 * h.t < h.n
+  pub left : a < h.gates
+  pub right : b < h.gates
+  pub room : from + h.t * (h.t + h.t + 1) ≤ count
+
+-- among dealings of t coins each, whose coins have these owners, number k is party i's
+pub record Deals (t i : ℕ) (owners : List ℕ) (k : ℕ) : Type 0 where
+  pub room : t * k + t ≤ length owners
+  pub own : (xs : List ℕ) → length owners ≤ length xs → own_of i owners xs ≡ take t (drop (t * k) xs)
+
+-- what each gate puts, by the place at which what it takes of a list begins; that of the first gate begins at k
+unfoldable pub gathered : (Gate → ℕ → List ℕ) → (Gate → List ℕ) → ℕ → List Gate → List ℕ
+gathered f owners k [] = []
+gathered f owners k (x ∷ gs) = f x k ++ gathered f owners (k + length (owners x)) gs
 
 -- all mail to party i
 unfoldable pub mail_in : Plan → Header → List ℕ → List ℕ → ℕ → List ℕ

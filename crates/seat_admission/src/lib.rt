@@ -49,19 +49,12 @@ pub fn check_inputs(inputs: &[u8], count: usize, p: u64) -> Result<(), Refusal>
 }
 
 // Refusals 12 and 13.
-// As it is: the count is what the list has to hold, which its length is compared with.
+// As it is: the count is what the list has to hold, which its length is compared with; from the inputs' check it differs in its refusals alone, which
+// `check_list` takes.
 pub fn check_coins(coins: &[u8], count: usize, p: u64) -> Result<(), Refusal>
     ensures { result ≡ first_of (list_checks refusal.CoinCount refusal.CoinValue p count coins.now) }
 {
     check_list(coins, count, p, Refusal::CoinCount, Refusal::CoinValue)
-}
-
-// Refusals 17 and 18.
-// As it is: the count is what the list has to hold, which its length is compared with.
-fn check_mail_list(mail: &[u8], count: usize, p: u64) -> Result<(), Refusal>
-    ensures { result ≡ first_of (list_checks refusal.MailCount refusal.MailValue p count mail.now) }
-{
-    check_list(mail, count, p, Refusal::MailCount, Refusal::MailValue)
 }
 
 // Refusals 14 to 16, for a plan of so many gates, with this last call.
@@ -87,7 +80,7 @@ fn check_state(state: &[u8], gates: usize, last: usize, p: u64) -> Result<(), Re
 
 // ---- refusal 20
 
-// That of a party's own out j: the place is the first party whose share is off.
+// Refusal 20 of a party's own out j: its place is the first party whose share is off.
 #[tactic(auto, using(crate::proofs::CheckLaws::opening))]
 fn check_out(checker: &Checker, own: usize, j: usize, mail: &[u8]) -> Result<(), Refusal>
     requires points_len_bound { length checker.now.points.now ≤ 15 }
@@ -105,7 +98,7 @@ fn check_out(checker: &Checker, own: usize, j: usize, mail: &[u8]) -> Result<(),
     Ok(())
 }
 
-// That of the first of the party's own outs that breaks.
+// Refusal 20 of the first of the party's own outs that has a share that is off.
 #[tactic(auto, using(crate::proofs::CheckLaws::each))]
 fn check_outs(seat: &Seat, mail: &[u8]) -> Result<(), Refusal>
     requires mail_value { all_below seat.now.plan.now.header.field.p (numbers mail.now) ≡ true }
@@ -143,7 +136,9 @@ fn check_own(seat: &Seat, lists: &Lists) -> Result<(), Refusal>
 fn check_mail(seat: &Seat, k: usize, mail: &[u8], room: usize) -> Result<(), Refusal>
     ensures { result ≡ first_of (mail_checks (plan_of seat.now.plan.now.bytes.now) seat.now.party k mail.now room) }
 {
-    check_mail_list(mail, plan_sizes::mail_by(seat, k), seat.plan.header.field.p)?;
+    let count = plan_sizes::mail_by(seat, k);
+    let p = seat.plan.header.field.p;
+    check_list(mail, count, p, Refusal::MailCount, Refusal::MailValue)?;
     if room != numbers::WIDTH * plan_sizes::written_by(seat, k) {
         return Err(Refusal::BufferLength);
     }

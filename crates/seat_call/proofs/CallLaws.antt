@@ -244,7 +244,8 @@ below_here bs h pl xs b = rw (← plan_p pl) b
 pub shares_here : (bs : List ℕ) (h : Header) → Planned bs h → (s : List ℕ) → all_below (plan_of bs).p (drop 1 (numbers s)) ≡ true → all_below h.field.p (numbers (take (length s - width) (drop width s))) ≡ true
 shares_here bs h pl s b = part_below (plan_of bs).p h.field.p s (plan_p pl) b
 
-pub ruleset working = (rules, state-fresh, below_here, shares_here, lent_parts, state-learnt, bytes_sent, admitted-whole, learnt-whole, learnt-sendable, state-left, out-left)
+-- As it is: answers name this set, since the check leaves their goals open by `using` alone.
+pub ruleset working = (rules, advance_to, state-fresh, below_here, shares_here, lent_parts, state-learnt, bytes_sent, admitted-whole, learnt-whole, learnt-sendable, state-left, out-left)
 
 -- ---- the call
 module _ (bs : List ℕ) (i : ℕ) (inputs coins state mail : List ℕ) (room : ℕ) where
@@ -316,4 +317,4 @@ module _ {bs : List ℕ} {i : ℕ} {inputs coins state mail : List ℕ} {room : 
 pub refused-out : (bs : List ℕ) (i : ℕ) (inputs coins state mail out : List ℕ) (q : Refusal) → plan_check bs ≡ Err q → out ≡ out_after bs i inputs coins state mail out
 refused-out bs i inputs coins state mail out q e = refused-buffer bs i inputs coins state mail (length out) q e out refl
 
-pub ruleset calling = (rules, advance_to, admitted_by, refused-answer, refused-state, refused-out, judged, checked-answer, checked-state, checked-out, passed-answer, passed-state, passed-out)
+pub ruleset calling = (rules, admitted_by, refused-answer, refused-state, refused-out, judged, checked-answer, checked-state, checked-out, passed-answer, passed-state, passed-out)

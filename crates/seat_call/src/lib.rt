@@ -12,15 +12,6 @@ use plan::{PlanFile, Refusal};
 use plan_counts::Seat;
 use seat_messages::Lists;
 
-// Sets a state's first number, that of the next call.
-#[tactic(auto, using(crate::proofs::CallLaws::calling))]
-fn advance(state: &mut [u8], k: u64)
-    requires { Whole state.old }
-    ensures { state.new ≡ bytes_of (k ∷ drop 1 (numbers state.old)) }
-{
-    numbers::write(state, 0, k);
-}
-
 // What call number k learns from its mail and works, on the shares of a state.
 // As it is: k is the call's number and no kind; the first call has no step before it.
 #[tactic(auto, using(crate::proofs::CallLaws::working))]
@@ -57,11 +48,11 @@ fn work(seat: &Seat, lists: &Lists, state: &mut [u8], out: &mut [u8])
     let k = numbers::read(state, 0);
     learn(seat.plan, k as usize, lists.mail, state);
     send(seat, k as usize, lists, state, out);
-    advance(state, k + 1);
+    numbers::write(state, 0, k + 1);
 }
 
 // Party i's call on its own inputs and coins, its state and its mail; `out` takes its outgoing mail, or its results in the last call.
-// Answers the first refusal of 1 to 20 that falls on it, and then neither `state` nor `out` is written.
+// Answers the first refusal of 1 to 8, 25, 26 and 9 to 20 that falls on it, and then neither `state` nor `out` is written.
 #[tactic(auto, using(crate::proofs::CallLaws::calling))]
 pub fn call(
     plan: &[u8],

@@ -1,6 +1,6 @@
 -- What each way through the code of a call's learning says of its definition, with a ruleset for the needs of each function.
 --     working                        a gate worked on the shares
---     Worked, Going_on               the gates up to the next that takes rounds
+--     Worked, going_on               the gates up to the next that takes rounds
 --     learning_one                   a wire of a party's inputs
 --     Learning, learning_own         all wires of a party's inputs
 --     Gathered, gathering            the wires of all parties' inputs
@@ -13,7 +13,7 @@ use mathlib.Core.Logic.{◌⊎◌, inl, inr}
 use mathlib.Core.Bool.{Bool, true, false, cond}
 use mathlib.Core.List.{List, [], ◌∷◌, ◌++◌, flat_map}
 use Prim.Native.Nat.{ℕ, zero, suc, ◌+◌, ◌*◌, ◌<◌, ◌≤◌}
-use native.Mathlib.Nat.{mod-eq_of_lt}
+use native.Mathlib.Nat.{mod-eq_of_lt, mod-lt}
 use native.Mathlib.Numerals.{add-one}
 use native.Mathlib.Omega.{arith}
 use borrow.Author.Rules.{rules}
@@ -23,10 +23,10 @@ use mir.Val.{Fits}
 use lib.ListN.{length, get_or, take, drop, set, drop_of_length-le}
 use lib.Seq.{take-take, drop-cons, drop-drop, get_or-drop, set-get_or}
 use Rattle.numbers.specs.Tables.{tab, count_where}
-use Rattle.numbers.specs.Bytes.{numbers, stored, all_below}
+use Rattle.numbers.specs.Bytes.{limit, numbers, stored, all_below}
 use Rattle.numbers.proofs.Tables.{length-tab, get_or-tab, tab-ext}
 use Rattle.numbers.proofs.Bytes.{numbers-stored}
-use Rattle.numbers.proofs.Below.{all_below-set, all_below-tab, all_below-take}
+use Rattle.numbers.proofs.Below.{all_below-set, all_below-tab, all_below-take, all_below-drop}
 use Rattle.field.specs.Mod.{add, mul}
 use Rattle.field.specs.Field.{Is, Ready}
 use Rattle.sharing_laws.specs.Interp.{weights, dot, interpolate}
@@ -76,14 +76,15 @@ module _ (bs : List ℕ) (h : Header) (k : Planned bs h) where
 pub read_below : (p : ℕ) (s : List ℕ) (i x : ℕ) → Ready p → all_below p (numbers s) ≡ true → x ≡ get_or (numbers s) i 0 → x < p
 read_below p s i x r h e = omega (arith, entry_below p (numbers s) i r h)
 
--- an element is written
+-- a number is written
+pub written : (s d xs : List ℕ) (i v : ℕ) → v < limit → d ≡ stored s i v → set (numbers s) i v ≡ xs → numbers d ≡ xs
+written s d xs i v l e q = ap numbers e ∙ numbers-stored s i v l ∙ q
+
+-- and an element
 pub written_holds : (p : ℕ) (s d xs : List ℕ) (i v : ℕ) → Ready p → all_below p (numbers s) ≡ true → v < p → d ≡ stored s i v → set (numbers s) i v ≡ xs → Holds p xs d
 written_holds p s d xs i v r h l e q =
-    let w : numbers d ≡ set (numbers s) i v = ap numbers e ∙ numbers-stored s i v (omega (arith, r.small)) in
+    let w : numbers d ≡ set (numbers s) i v = written s d _ i v (omega (arith, r.small)) e refl in
     record { eq = w ∙ q; below = rw w (all_below-set p i v (numbers s) h l) }
-
-pub written_below : (p : ℕ) (s d : List ℕ) (i v : ℕ) → Ready p → all_below p (numbers s) ≡ true → v < p → d ≡ stored s i v → all_below p (numbers d) ≡ true
-written_below p s d i v r h l e = (written_holds p s d (set (numbers s) i v) i v r h l e refl).below
 
 -- ---- a gate
 -- the gates that are no sum, multiple or offset leave the shares as they are
@@ -113,7 +114,7 @@ module _ (p g : ℕ) (gate : Gate) (xs : List ℕ) (r : ℕ) where
   unfolding work_gate
   work_offset a c x e f q = rw (e, q, f)
 
-pub ruleset working = (rules, read_below, scale_constant, offset_constant, work_other, work-add, work-scale, work_offset, written_holds)
+pub ruleset working = (rules, read_below, scale_constant, offset_constant, work_other, work-add, work-scale, work_offset)
 
 -- ---- the gates up to the next that takes rounds
 -- the invariant at gate g: the shares are s, and were s₀; what is left to work gives what there is to work
@@ -136,21 +137,25 @@ module _ (bs : List ℕ) (h : Header) (from : ℕ) (s₀ : List ℕ) where
       unfolding work_from
       work-stop y = record { eq = rw (gates_from bs h pl g l, ← e, ← m, y) at w.rest; below = w.below }
 
-      pub work-next : (d : List ℕ) → t ≡ false → Holds h.field.p (work_gate h.field.p g gate (numbers s)) d → length d ≡ length s → Worked bs h.field.p from s₀ d (g + 1)
+      pub work_next : (d : List ℕ) (v : ℕ) → t ≡ false → set (numbers s) g v ≡ work_gate h.field.p g gate (numbers s) → v < h.field.p → d ≡ stored s g v → length d ≡ length s
+          → Worked bs h.field.p from s₀ d (g + 1)
       unfolding work_from
-      work-next d n k j = record { rest = rw (add-one, k.eq) (rw (gates_from bs h pl g l, ← e, ← m, n) at w.rest); below = k.below; long = j ∙ w.long }
+      work_next d v n q u o j =
+          let k = written_holds h.field.p s d _ g v (planned-ready bs h pl) w.below u o q in
+          record { rest = rw (add-one, k.eq) (rw (gates_from bs h pl g l, ← e, ← m, n) at w.rest); below = k.below; long = j ∙ w.long }
 
-pub ruleset Going_on = (rules, planned-ready, gate-kept, work-begin, work-end, work-stop, work-next)
+-- As it is: answers name this set, since the check leaves their goals open by `using` alone.
+pub ruleset going_on = (rules, gate-kept, work-begin, work-end, work-stop, work_next)
 
 -- ---- the wires of one party's inputs
 -- one gate
-module _ (p i g : ℕ) (gate : Gate) (mail s : List ℕ) (at : ℕ) (t : Bool) (e : t ≡ is_input_of i gate) (r : Ready p) (b : all_below p (numbers s) ≡ true) where
-  pub input-learnt : (x : ℕ) (d : List ℕ) → t ≡ true → all_below p (numbers mail) ≡ true → x ≡ get_or (numbers mail) at 0 → d ≡ stored s g x
-      → Holds p (cond (is_input_of i gate) (set (numbers s) g (get_or (numbers mail) at 0)) (numbers s)) d
-  input-learnt x d y m q w = written_holds p s d (cond (is_input_of i gate) (set (numbers s) g (get_or (numbers mail) at 0)) (numbers s)) g x r b (read_below p mail at x r m q) w (rw (← e, y, q))
+module _ (i g : ℕ) (gate : Gate) (mail s : List ℕ) (at : ℕ) (t : Bool) (e : t ≡ is_input_of i gate) where
+  pub input_learnt : (x : ℕ) (d : List ℕ) → t ≡ true → x ≡ get_or (numbers mail) at 0 → x < limit → d ≡ stored s g x
+      → numbers d ≡ cond (is_input_of i gate) (set (numbers s) g (get_or (numbers mail) at 0)) (numbers s)
+  input_learnt x d y q l w = written s d _ g x l w (rw (← e, y, q))
 
-  pub input_passed : t ≡ false → Holds p (cond (is_input_of i gate) (set (numbers s) g (get_or (numbers mail) at 0)) (numbers s)) s
-  input_passed n = record { eq = rw (← e, n); below = b }
+  pub input_passed : t ≡ false → numbers s ≡ cond (is_input_of i gate) (set (numbers s) g (get_or (numbers mail) at 0)) (numbers s)
+  input_passed n = rw (← e, n)
 
 pub one-learnt : (i at : ℕ) (gate : Gate) (t : Bool) → t ≡ is_input_of i gate → t ≡ true → at + 1 ≡ at + cond (is_input_of i gate) 1 0
 one-learnt i at gate t e y = rw (← e, y)
@@ -158,7 +163,7 @@ one-learnt i at gate t e y = rw (← e, y)
 pub none-learnt : (i at : ℕ) (gate : Gate) (t : Bool) → t ≡ is_input_of i gate → t ≡ false → at ≡ at + cond (is_input_of i gate) 1 0
 none-learnt i at gate t e n = rw (← e, n) (omega arith)
 
-pub ruleset learning_one = (rules, read_below, input-learnt, input_passed, one-learnt, none-learnt)
+pub ruleset learning_one = (rules, input_learnt, input_passed, one-learnt, none-learnt)
 
 set-cons : (xs ws vs : List ℕ) (g : ℕ) → set_all xs (g ∷ ws) vs ≡ set_all (set xs g (get_or vs 0 0)) ws (drop 1 vs)
 unfolding set_all
@@ -176,45 +181,44 @@ count_step true at n = omega arith
 count_step false at n = omega arith
 
 -- the invariant at gate g, when number `at` of the mail is the next
-pub record Learning (bs mail : List ℕ) (p i from : ℕ) (s₀ s : List ℕ) (at g : ℕ) : Type 0 where
+pub record Learning (bs mail : List ℕ) (i from : ℕ) (s₀ s : List ℕ) (at g : ℕ) : Type 0 where
   pub rest : set_all (numbers s) (wires_from (is_input_of i) g (drop g (plan_of bs).gates)) (drop at (numbers mail)) ≡ set_all (numbers s₀) (input_wires (plan_of bs) i) (drop from (numbers mail))
   pub next : at + count_where (is_input_of i) (drop g (plan_of bs).gates) ≡ from + length (input_wires (plan_of bs) i)
   pub few : at ≤ from + g
   pub within : g ≤ 1024
-  pub below : all_below p (numbers s) ≡ true
   pub long : length s ≡ length s₀
 
 module _ (bs mail : List ℕ) (h : Header) (i from : ℕ) (s₀ : List ℕ) where
-  pub learn-none : all_below h.field.p (numbers s₀) ≡ true → Learning bs mail h.field.p i from s₀ s₀ from 0
+  pub learn-none : Learning bs mail i from s₀ s₀ from 0
   unfolding input_wires
-  learn-none b = record { rest = refl; next = ap (λ (n : ℕ). from + n) (sym (length-input_wires (plan_of bs) i)); few = omega arith; within = omega arith; below = b; long = refl }
+  learn-none = record { rest = refl; next = ap (λ (n : ℕ). from + n) (sym (length-input_wires (plan_of bs) i)); few = omega arith; within = omega arith; long = refl }
 
-  module _ (s : List ℕ) (at g : ℕ) (w : Learning bs mail h.field.p i from s₀ s at g) (pl : Planned bs h) where
+  module _ (s : List ℕ) (at g : ℕ) (w : Learning bs mail i from s₀ s at g) (pl : Planned bs h) where
     pub learn-next : (gate : Gate) (d : List ℕ) (r : ℕ) → g < h.gates → gate ≡ gate_at bs g
-        → Holds h.field.p (cond (is_input_of i gate) (set (numbers s) g (get_or (numbers mail) at 0)) (numbers s)) d
-        → r ≡ at + cond (is_input_of i gate) 1 0 → r ≤ at + 1 → length d ≡ length s → Learning bs mail h.field.p i from s₀ d r (g + 1)
+        → numbers d ≡ cond (is_input_of i gate) (set (numbers s) g (get_or (numbers mail) at 0)) (numbers s)
+        → r ≡ at + cond (is_input_of i gate) 1 0 → r ≤ at + 1 → length d ≡ length s → Learning bs mail i from s₀ d r (g + 1)
     unfolding wires_from count_where
     learn-next gate d r l e k n m j = record {
-      rest = rw (add-one, k.eq, n) (set_step (is_input_of i gate) (numbers s) (wires_from (is_input_of i) (suc g) (drop (suc g) (plan_of bs).gates)) (numbers mail) g at ∙ rw (gates_from bs h pl g l, ← e) at w.rest);
+      rest = rw (add-one, k, n) (set_step (is_input_of i gate) (numbers s) (wires_from (is_input_of i) (suc g) (drop (suc g) (plan_of bs).gates)) (numbers mail) g at ∙ rw (gates_from bs h pl g l, ← e) at w.rest);
       next = rw (add-one, n) (count_step (is_input_of i gate) at (count_where (is_input_of i) (drop (suc g) (plan_of bs).gates)) ∙ rw (gates_from bs h pl g l, ← e) at w.next);
       few = omega (arith, w.few);
       within = omega (arith, pl.gates-high);
-      below = k.below;
       long = j ∙ w.long;
     }
 
     pub place_small : from ≤ 15360 → at ≤ 16384
     place_small l = omega (arith, w.few, w.within)
 
-    pub learn-end : h.gates ≤ g → Holds h.field.p (set_all (numbers s₀) (input_wires (plan_of bs) i) (drop from (numbers mail))) s
+    pub learn-end : h.gates ≤ g → numbers s ≡ set_all (numbers s₀) (input_wires (plan_of bs) i) (drop from (numbers mail))
     unfolding wires_from set_all
-    learn-end l = record { eq = rw (gates-past bs h pl g l) at w.rest; below = w.below }
+    learn-end l = rw (gates-past bs h pl g l) at w.rest
 
     pub learn-count : h.gates ≤ g → at ≡ from + length (input_wires (plan_of bs) i)
     unfolding count_where
     learn-count l = omega (arith, rw (gates-past bs h pl g l) at w.next)
 
-pub ruleset learning_own = (rules, planned-ready, learn-none, learn-next, place_small, learn-end, learn-count)
+-- As it is: answers name this set, since the check leaves their goals open by `using` alone.
+pub ruleset learning_own = (rules, learn-none, learn-next, place_small, learn-end, learn-count)
 
 -- ---- the wires of all parties' inputs
 -- wires set in two parts
@@ -227,19 +231,18 @@ set_all-append xs (w ∷ ws) us vs =
     ∙ ap (set_all (set_all (set xs w (get_or vs 0 0)) ws (drop 1 vs)) us) (drop-drop (length ws) 1 vs ∙ ap (λ (n : ℕ). drop n vs) e)
 
 -- the invariant after the first i parties, when number `at` of the mail is the next
-pub record Gathered (bs mail : List ℕ) (p : ℕ) (s₀ s : List ℕ) (at i : ℕ) : Type 0 where
+pub record Gathered (bs mail s₀ s : List ℕ) (at i : ℕ) : Type 0 where
   pub rest : set_all (numbers s) (flat_map (input_wires (plan_of bs)) (drop i (parties (plan_of bs)))) (drop at (numbers mail)) ≡ set_all (numbers s₀) (wires_by_party (plan_of bs)) (numbers mail)
   pub few : at ≤ 1024 * i
   pub within : i ≤ 15
-  pub below : all_below p (numbers s) ≡ true
   pub long : length s ≡ length s₀
 
 module _ (bs mail : List ℕ) (h : Header) (s₀ : List ℕ) where
-  pub gather_none : all_below h.field.p (numbers s₀) ≡ true → Gathered bs mail h.field.p s₀ s₀ 0 0
+  pub gather_none : Gathered bs mail s₀ s₀ 0 0
   unfolding wires_by_party
-  gather_none b = record { rest = refl; few = omega arith; within = omega arith; below = b; long = refl }
+  gather_none = record { rest = refl; few = omega arith; within = omega arith; long = refl }
 
-  module _ (s : List ℕ) (at i : ℕ) (w : Gathered bs mail h.field.p s₀ s at i) (pl : Planned bs h) where
+  module _ (s : List ℕ) (at i : ℕ) (w : Gathered bs mail s₀ s at i) (pl : Planned bs h) where
     joined : (l : i < h.n) → set_all (set_all (numbers s) (input_wires (plan_of bs) (i + 1)) (drop at (numbers mail))) (flat_map (input_wires (plan_of bs)) (drop (i + 1) (parties (plan_of bs)))) (drop (at + length (input_wires (plan_of bs) (i + 1))) (numbers mail))
         ≡ set_all (numbers s₀) (wires_by_party (plan_of bs)) (numbers mail)
     unfolding flat_map
@@ -247,23 +250,23 @@ module _ (bs mail : List ℕ) (h : Header) (s₀ : List ℕ) where
         rw (← drop-drop (length (input_wires (plan_of bs) (i + 1))) at (numbers mail), ← set_all-append (numbers s) (input_wires (plan_of bs) (i + 1)) (flat_map (input_wires (plan_of bs)) (drop (i + 1) (parties (plan_of bs)))) (drop at (numbers mail)))
         (rw (parties_from bs h pl i l) at w.rest)
 
-    pub gather_next : (d : List ℕ) (r : ℕ) → i < h.n → Holds h.field.p (set_all (numbers s) (input_wires (plan_of bs) (i + 1)) (drop at (numbers mail))) d
-        → r ≡ at + length (input_wires (plan_of bs) (i + 1)) → r ≤ at + 1024 → length d ≡ length s → Gathered bs mail h.field.p s₀ d r (i + 1)
+    pub gather_next : (d : List ℕ) (r : ℕ) → i < h.n → numbers d ≡ set_all (numbers s) (input_wires (plan_of bs) (i + 1)) (drop at (numbers mail))
+        → r ≡ at + length (input_wires (plan_of bs) (i + 1)) → r ≤ at + 1024 → length d ≡ length s → Gathered bs mail s₀ d r (i + 1)
     gather_next d r l k n m j = record {
-      rest = rw (k.eq, n) (joined l);
+      rest = rw (k, n) (joined l);
       few = omega (arith, w.few);
       within = omega (arith, pl.n-high);
-      below = k.below;
       long = j ∙ w.long;
     }
 
     pub begin-small : at ≤ 15360
     begin-small = omega (arith, w.few, w.within)
 
-    pub gather-end : h.n ≤ i → Holds h.field.p (set_all (numbers s₀) (wires_by_party (plan_of bs)) (numbers mail)) s
+    pub gather-end : h.n ≤ i → numbers s ≡ set_all (numbers s₀) (wires_by_party (plan_of bs)) (numbers mail)
     unfolding set_all flat_map
-    gather-end l = record { eq = rw (parties-past bs h pl i l) at w.rest; below = w.below }
+    gather-end l = rw (parties-past bs h pl i l) at w.rest
 
+-- As it is: answers name this set, since the check leaves their goals open by `using` alone.
 pub ruleset gathering = (rules, gather_none, gather_next, begin-small, gather-end)
 
 -- ---- the share of a product
@@ -335,10 +338,8 @@ module _ (bs : List ℕ) (h : Header) (k : Planned bs h) (two : 2 * h.t < h.n) w
     reduced-is r i = record { eq = i.eq ∙ same-opening; lt = i.lt }
 
 module _ (bs : List ℕ) (h : Header) (k : Planned bs h) where
-  pub product-set : (g v : ℕ) (mail s d : List ℕ) → Is h.field.p (reduced_from (plan_of bs) (numbers mail)) v → all_below h.field.p (numbers s) ≡ true → d ≡ stored s g v
-      → Holds h.field.p (set (numbers s) g (reduced_from (plan_of bs) (numbers mail))) d
-  product-set g v mail s d i b q =
-      written_holds h.field.p s d (set (numbers s) g (reduced_from (plan_of bs) (numbers mail))) g v (planned-ready bs h k) b i.lt q (rw i.eq)
+  pub product-set : (g v : ℕ) (mail s d : List ℕ) → Is h.field.p (reduced_from (plan_of bs) (numbers mail)) v → d ≡ stored s g v → numbers d ≡ set (numbers s) g (reduced_from (plan_of bs) (numbers mail))
+  product-set g v mail s d i q = written s d _ g v (omega (arith, i.lt, (planned-ready bs h k).small)) q (rw i.eq)
 
   -- a product's step has its majority
   pub product_majority : (step : Step) (g a b : ℕ) → Stepped (plan_of bs) step → step ≡ DealProduct g a b → 2 * h.t < h.n
@@ -347,6 +348,7 @@ module _ (bs : List ℕ) (h : Header) (k : Planned bs h) where
       let at : IsGate (plan_of bs) g (Multiply a b) = stepped-product (plan_of bs) step g a b i e in
       omega (arith, (valid bs k.passes).majority g at.within (ap multiplying at.is), plan_t k, plan_n k)
 
+-- As it is: answers name this set, since the check leaves their goals open by `using` alone.
 pub ruleset reducing = (rules, dealers_within, dealers_long, dealers_count, pieces-openable, reduced-is, product-set)
 
 -- ---- a step's mail
@@ -362,19 +364,19 @@ learnt_none plan (DealDraws g) xs mail is inputs product = absurd is
 learnt_none plan (OpenSpent g a b) xs mail is inputs product = absurd is
 learnt_none plan SendOuts xs mail is inputs product = refl
 
-module _ (plan : Plan) (p : ℕ) (step : Step) (xs mail d : List ℕ) where
-  pub learnt_inputs : step ≡ DealInputs → Holds p (set_all xs (wires_by_party plan) mail) d → Holds p (learnt plan step [] xs mail) d
+module _ (plan : Plan) (step : Step) (xs mail d : List ℕ) where
+  pub learnt_inputs : step ≡ DealInputs → d ≡ set_all xs (wires_by_party plan) mail → d ≡ learnt plan step [] xs mail
   unfolding learnt
   learnt_inputs e k = rw e k
 
-  pub learnt-product : (g a b : ℕ) → step ≡ DealProduct g a b → Holds p (set xs g (reduced_from plan mail)) d → Holds p (learnt plan step [] xs mail) d
+  pub learnt-product : (g a b : ℕ) → step ≡ DealProduct g a b → d ≡ set xs g (reduced_from plan mail) → d ≡ learnt plan step [] xs mail
   unfolding learnt reduced_from
   learnt-product g a b e k = rw e k
 
-pub learnt_other : (plan : Plan) (p : ℕ) (step : Step) (mail s : List ℕ) → all_below p (numbers s) ≡ true → Stepped plan step → (step ≡ DealInputs → ⊥) → ((g a b : ℕ) → step ≡ DealProduct g a b → ⊥)
-    → Holds p (learnt plan step [] (numbers s) mail) s
-learnt_other plan p step mail s b is inputs product = record { eq = sym (learnt_none plan step (numbers s) mail is inputs product); below = b }
+pub learnt_other : (plan : Plan) (step : Step) (xs mail : List ℕ) → Stepped plan step → (step ≡ DealInputs → ⊥) → ((g a b : ℕ) → step ≡ DealProduct g a b → ⊥) → xs ≡ learnt plan step [] xs mail
+learnt_other plan step xs mail is inputs product = sym (learnt_none plan step xs mail is inputs product)
 
+-- As it is: answers name this set, since the check leaves their goals open by `using` alone.
 pub ruleset learning_mail = (rules, product_majority, learnt_inputs, learnt-product, learnt_other)
 
 -- ---- where the work goes on
@@ -422,13 +424,44 @@ module _ (bs : List ℕ) (h : Header) (k : Planned bs h) (step : Step) where
   past_fits i g (inr (inr (inl e))) = absurd (subst (Stepped (plan_of bs)) e i)
   past_fits i g (inr (inr (inr (a, b, e)))) = absurd (subst (Stepped (plan_of bs)) e i)
 
+-- As it is: answers name this set, since the check leaves their goals open by `using` alone.
 pub ruleset resuming = (rules, resume_inputs, resume-product, resume-zero, resume_masked, resume_truncated, resume_draws, resume_spent, resume_outs, past_fits)
 
 -- ---- a step
+set_all_below : (p : ℕ) → Ready p → (xs ws vs : List ℕ) → all_below p xs ≡ true → all_below p vs ≡ true → all_below p (set_all xs ws vs) ≡ true
+unfolding set_all
+set_all_below p r xs [] vs b m = b
+set_all_below p r xs (w ∷ ws) vs b m =
+    set_all_below p r (set xs w (get_or vs 0 0)) ws (drop 1 vs) (all_below-set p w (get_or vs 0 0) xs b (entry_below p vs 0 r m)) (all_below-drop p 1 vs m)
+
+dot_below : (p : ℕ) → 0 < p → (ws vs : List ℕ) → dot p ws vs < p
+unfolding dot add
+dot_below p l [] vs = l
+dot_below p l (w ∷ ws) [] = l
+dot_below p l (w ∷ ws) (v ∷ vs) = mod-lt _ {m = p} l
+
+-- what a step's mail makes known is below the prime
+learnt_below : (plan : Plan) → Ready plan.p → (step : Step) (xs mail : List ℕ) → Stepped plan step → all_below plan.p xs ≡ true → all_below plan.p mail ≡ true → all_below plan.p (learnt plan step [] xs mail) ≡ true
+unfolding learnt Stepped
+learnt_below plan r DealInputs xs mail i b m = set_all_below plan.p r xs (wires_by_party plan) mail b m
+learnt_below plan r (DealProduct g a c) xs mail i b m = all_below-set plan.p g _ xs b (dot_below plan.p (omega (arith, r.prime.above)) _ mail)
+learnt_below plan r (DealZero g) xs mail i b m = b
+learnt_below plan r (DealMasked g a c) xs mail i b m = b
+learnt_below plan r (SendTruncated g) xs mail i b m = absurd i
+learnt_below plan r (DealDraws g) xs mail i b m = absurd i
+learnt_below plan r (OpenSpent g a c) xs mail i b m = absurd i
+learnt_below plan r SendOuts xs mail i b m = b
+
+pub shares_below : (bs : List ℕ) (h : Header) → Planned bs h → (step : Step) (xs mail d : List ℕ) → Stepped (plan_of bs) step → all_below h.field.p xs ≡ true → all_below h.field.p mail ≡ true
+    → d ≡ learnt (plan_of bs) step [] xs mail → all_below h.field.p d ≡ true
+shares_below bs h k step xs mail d i b m e =
+    let q = plan_p k in
+    ap (all_below h.field.p) e ∙ rw (← q) (learnt_below (plan_of bs) (rw q (planned-ready bs h k)) step xs mail i (rw q b) (rw q m))
+
 pub learnt_worked : (bs : List ℕ) (h : Header) (step : Step) (from : ℕ) (mail s d e : List ℕ) → Planned bs h → from ≡ resume_at (plan_of bs) step
-    → Holds h.field.p (learnt (plan_of bs) step [] (numbers s) mail) d → Holds h.field.p (work_from h.field.p from (drop from (plan_of bs).gates) (numbers d)) e
+    → numbers d ≡ learnt (plan_of bs) step [] (numbers s) mail → Holds h.field.p (work_from h.field.p from (drop from (plan_of bs).gates) (numbers d)) e
     → Holds h.field.p (learn_from (plan_of bs) step [] (numbers s) mail) e
 unfolding learn_from
-learnt_worked bs h step from mail s d e k q m n = record { eq = rw (n.eq, m.eq, q, plan_p k); below = n.below }
+learnt_worked bs h step from mail s d e k q m n = record { eq = rw (n.eq, m, q, plan_p k); below = n.below }
 
-pub ruleset learning = (rules, learnt_worked)
+pub ruleset learning = (rules, shares_below, learnt_worked)

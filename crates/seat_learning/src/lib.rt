@@ -1,6 +1,4 @@
 // What a call learns from its mail, and works on its shares.
-// As it is: that the shares are below the prime stands in each contract. They are written in place, so a struct would hold a `&mut`, and each
-// clause would name its list at the start and at the end of the call.
 #![tactic(auto)]
 
 ghost use Rattle.std.specs.Prelude.{◌≡◌, true, cond, [], ◌<◌, ◌≤◌, ◌+◌, ◌*◌, length, drop, get_or, set};
@@ -9,40 +7,38 @@ ghost use Rattle.field.specs.Field.{Is};
 ghost use Rattle.plan.specs.Plans.{is_input_of, input_wires};
 ghost use Rattle.plan.specs.File.{gate_ok, plan_of};
 ghost use Rattle.plan_counts.specs.Counts.{Stepped};
-ghost use Rattle.seat_learning.specs.Lent.{Holds, reduced_from};
+ghost use Rattle.seat_learning.specs.Lent.{Holds, reduced_from, Stepped-prop};
 ghost use Rattle.seat_messages.specs.Messages.{work_gate, work_from, set_all, wires_by_party, learnt, resume_at, learn_from};
 
 use plan::{Gate, Header, PlanFile, Step};
 
-// The share of wire g once gate g is worked. Those of the other kinds come from mail, and stay as they are.
-#[tactic(auto, using(crate::proofs::LearnLaws::working))]
-fn gate_share(h: Header, g: usize, gate: Gate, shares: &[u8]) -> u64
-    requires gate_value { gate_ok h.n h.field.p g gate ≡ true }
-    requires shares_value { all_below h.field.p (numbers shares.now) ≡ true }
-    ensures { record { eq : set (numbers shares.now) g result ≡ work_gate h.field.p g gate (numbers shares.now); lt : result < h.field.p } }
-{
-    let f = h.field;
-    match gate {
-        Gate::Add(a, b) => f.add(numbers::read(shares, a), numbers::read(shares, b)),
-        Gate::Scale(a, c) => f.mul(numbers::read(shares, a), c),
-        Gate::Offset(a, c) => f.add(numbers::read(shares, a), c),
-        _ => numbers::read(shares, g),
+// Shares that a gate reads: numbers below the prime.
+#[derive(Clone, Copy)]
+struct Shares<'a> {
+    header: Header,
+    bytes: &'a [u8],
+    ghost below: { all_below header.field.p (numbers bytes.now) ≡ true },
+}
+
+impl Shares<'_> {
+    // That of wire g once gate g is worked. Those of the other kinds come from mail, and stay as they are.
+    #[tactic(auto, using(crate::proofs::LearnLaws::working))]
+    fn worked(&self, g: usize, gate: Gate) -> u64
+        requires { gate_ok self.now.header.n self.now.header.field.p g gate ≡ true }
+        ensures { record { eq : set (numbers self.now.bytes.now) g result ≡ work_gate self.now.header.field.p g gate (numbers self.now.bytes.now); lt : result < self.now.header.field.p } }
+    {
+        let f = self.header.field;
+        match gate {
+            Gate::Add(a, b) => f.add(numbers::read(self.bytes, a), numbers::read(self.bytes, b)),
+            Gate::Scale(a, c) => f.mul(numbers::read(self.bytes, a), c),
+            Gate::Offset(a, c) => f.add(numbers::read(self.bytes, a), c),
+            _ => numbers::read(self.bytes, g),
+        }
     }
 }
 
-// Works gate g.
-#[tactic(auto, using(crate::proofs::LearnLaws::working))]
-fn work_gate(h: Header, g: usize, gate: Gate, shares: &mut [u8])
-    requires gate_value { gate_ok h.n h.field.p g gate ≡ true }
-    requires shares_value { all_below h.field.p (numbers shares.old) ≡ true }
-    ensures { Holds h.field.p (work_gate h.field.p g gate (numbers shares.old)) shares.new }
-{
-    let share = gate_share(h, g, gate, shares);
-    numbers::write(shares, g, share);
-}
-
 // Works the gates from one on up to the next that takes rounds, or all that are left.
-#[tactic(auto, using(crate::proofs::LearnLaws::Going_on))]
+#[tactic(auto, using(crate::proofs::LearnLaws::going_on))]
 fn work_from(plan: &PlanFile, from: usize, shares: &mut [u8])
     requires shares_value { all_below plan.now.header.field.p (numbers shares.old) ≡ true }
     ensures { Holds plan.now.header.field.p (work_from plan.now.header.field.p from (drop from (plan_of plan.now.bytes.now).gates) (numbers shares.old)) shares.new }
@@ -52,17 +48,25 @@ fn work_from(plan: &PlanFile, from: usize, shares: &mut [u8])
         if plan_counts::takes_rounds(gate) {
             return;
         }
-        work_gate(plan.header, g, gate, shares);
+        let header = plan.header;
+        let share = Shares {
+            header,
+            bytes: shares,
+        }
+        .worked(g, gate);
+        numbers::write(shares, g, share);
     }
 }
 
 // ---- the mail
 
-// The mail that a step brings: numbers below the plan's prime.
+// The mail that a step of the plan brings: numbers below the plan's prime.
 #[derive(Clone, Copy)]
 struct Mail<'a> {
     plan: &'a PlanFile<'a>,
+    step: Step,
     bytes: &'a [u8],
+    ghost stepped: { Stepped (plan_of plan.now.bytes.now) step } by { Stepped-prop (plan_of plan.now.bytes.now) step },
     ghost below: { all_below plan.now.header.field.p (numbers bytes.now) ≡ true },
 }
 
@@ -71,9 +75,8 @@ impl Mail<'_> {
     #[tactic(auto, using(crate::proofs::LearnLaws::learning_one))]
     fn learn_input(&self, i: usize, g: usize, gate: Gate, at: usize, shares: &mut [u8]) -> usize
         requires at_bound { at ≤ 16384 }
-        requires shares_value { all_below self.now.plan.now.header.field.p (numbers shares.old) ≡ true }
         ensures { record {
-          shares : Holds self.now.plan.now.header.field.p (cond (is_input_of i gate) (set (numbers shares.entry.now) g (get_or (numbers self.now.bytes.now) at 0)) (numbers shares.entry.now)) shares.exit.now;
+          shares : numbers shares.exit.now ≡ cond (is_input_of i gate) (set (numbers shares.entry.now) g (get_or (numbers self.now.bytes.now) at 0)) (numbers shares.entry.now);
           next : result ≡ at + cond (is_input_of i gate) 1 0;
           most : result ≤ at + 1;
         } }
@@ -89,9 +92,8 @@ impl Mail<'_> {
     #[tactic(auto, using(crate::proofs::LearnLaws::learning_own))]
     fn learn_inputs_of(&self, i: usize, from: usize, shares: &mut [u8]) -> usize
         requires from_bound { from ≤ 15360 }
-        requires shares_value { all_below self.now.plan.now.header.field.p (numbers shares.old) ≡ true }
         ensures { record {
-          shares : Holds self.now.plan.now.header.field.p (set_all (numbers shares.entry.now) (input_wires (plan_of self.now.plan.now.bytes.now) i) (drop from (numbers self.now.bytes.now))) shares.exit.now;
+          shares : numbers shares.exit.now ≡ set_all (numbers shares.entry.now) (input_wires (plan_of self.now.plan.now.bytes.now) i) (drop from (numbers self.now.bytes.now));
           next : result ≡ from + length (input_wires (plan_of self.now.plan.now.bytes.now) i);
           most : result ≤ from + 1024;
         } }
@@ -106,8 +108,7 @@ impl Mail<'_> {
     // Learns all input wires from round 0's mail, in its order: by party, then by gate.
     #[tactic(auto, using(crate::proofs::LearnLaws::gathering))]
     fn learn_inputs(&self, shares: &mut [u8])
-        requires shares_value { all_below self.now.plan.now.header.field.p (numbers shares.old) ≡ true }
-        ensures { Holds self.now.plan.now.header.field.p (set_all (numbers shares.old) (wires_by_party (plan_of self.now.plan.now.bytes.now)) (numbers self.now.bytes.now)) shares.new }
+        ensures { numbers shares.new ≡ set_all (numbers shares.old) (wires_by_party (plan_of self.now.plan.now.bytes.now)) (numbers self.now.bytes.now) }
     {
         let mut at = 0;
         for i in 0..self.plan.header.n {
@@ -132,47 +133,44 @@ impl Mail<'_> {
     #[tactic(auto, using(crate::proofs::LearnLaws::reducing))]
     fn learn_product(&self, g: usize, shares: &mut [u8])
         requires t_bound { 2 * self.now.plan.now.header.t < self.now.plan.now.header.n }
-        requires shares_value { all_below self.now.plan.now.header.field.p (numbers shares.old) ≡ true }
-        ensures { Holds self.now.plan.now.header.field.p (set (numbers shares.old) g (reduced_from (plan_of self.now.plan.now.bytes.now) (numbers self.now.bytes.now))) shares.new }
+        ensures { numbers shares.new ≡ set (numbers shares.old) g (reduced_from (plan_of self.now.plan.now.bytes.now) (numbers self.now.bytes.now)) }
     {
         numbers::write(shares, g, self.reduced());
     }
 
-    // Learns the shares that the mail of a step makes known.
-    // As it is: the steps are a closed enum, and the contract goes by its cases.
+    // Learns the shares that the step's mail makes known.
+    // As it is: the plan's file names the step, so one `match` has to choose. A closure for a step would be made in that `match`, and its contract
+    // would be the step's case of `learnt` once more.
     #[tactic(auto, using(crate::proofs::LearnLaws::learning_mail))]
-    fn learn(&self, step: Step, shares: &mut [u8])
-        requires stepped { Stepped (plan_of self.now.plan.now.bytes.now) step }
-        requires shares_value { all_below self.now.plan.now.header.field.p (numbers shares.old) ≡ true }
-        ensures { Holds self.now.plan.now.header.field.p (learnt (plan_of self.now.plan.now.bytes.now) step [] (numbers shares.old) (numbers self.now.bytes.now)) shares.new }
+    fn learn(&self, shares: &mut [u8])
+        ensures { numbers shares.new ≡ learnt (plan_of self.now.plan.now.bytes.now) self.now.step [] (numbers shares.old) (numbers self.now.bytes.now) }
     {
-        match step {
+        match self.step {
             Step::DealInputs => self.learn_inputs(shares),
             Step::DealProduct(g, _, _) => self.learn_product(g, shares),
             _ => {}
         }
     }
+
+    // The gate from which the work goes on after the mail.
+    // As it is: no step is run here; the answer is a number that is read off the step's case.
+    #[tactic(auto, using(crate::proofs::LearnLaws::resuming))]
+    fn resume_at(&self) -> usize
+        ensures { result ≡ resume_at (plan_of self.now.plan.now.bytes.now) self.now.step }
+    {
+        match self.step {
+            Step::DealInputs => 0,
+            Step::DealZero(g) | Step::DealMasked(g, _, _) => g,
+            Step::DealProduct(g, _, _)
+            | Step::SendTruncated(g)
+            | Step::DealDraws(g)
+            | Step::OpenSpent(g, _, _) => g + 1,
+            Step::SendOuts => self.plan.header.gates,
+        }
+    }
 }
 
 // ---- a step
-
-// The gate from which the work goes on after a step's mail.
-// As it is: the steps are a closed enum, and the contract goes by its cases.
-#[tactic(auto, using(crate::proofs::LearnLaws::resuming))]
-fn resume_at(plan: &PlanFile, step: Step) -> usize
-    requires stepped { Stepped (plan_of plan.now.bytes.now) step }
-    ensures { result ≡ resume_at (plan_of plan.now.bytes.now) step }
-{
-    match step {
-        Step::DealInputs => 0,
-        Step::DealZero(g) | Step::DealMasked(g, _, _) => g,
-        Step::DealProduct(g, _, _)
-        | Step::SendTruncated(g)
-        | Step::DealDraws(g)
-        | Step::OpenSpent(g, _, _) => g + 1,
-        Step::SendOuts => plan.header.gates,
-    }
-}
 
 // What a call learns from the mail of the step before it, and works on the shares.
 #[tactic(auto, using(crate::proofs::LearnLaws::learning))]
@@ -182,6 +180,11 @@ pub fn learn(plan: &PlanFile, step: Step, mail: &[u8], shares: &mut [u8])
     requires shares_value { all_below plan.now.header.field.p (numbers shares.old) ≡ true }
     ensures { Holds plan.now.header.field.p (learn_from (plan_of plan.now.bytes.now) step [] (numbers shares.old) (numbers mail.now)) shares.new }
 {
-    Mail { plan, bytes: mail }.learn(step, shares);
-    work_from(plan, resume_at(plan, step), shares);
+    let mail = Mail {
+        plan,
+        step,
+        bytes: mail,
+    };
+    mail.learn(shares);
+    work_from(plan, mail.resume_at(), shares);
 }

@@ -76,4 +76,5 @@ module _ (bs : List ℕ) (h : Header) (k : Planned bs h) where
     pub points-at : (j : ℕ) → j < h.n → get_or xs j 0 ≡ get_or (plan_of bs).points j 0
     points-at j l = sym (get_or-take h.n xs j 0 l) ∙ ap (λ (ys : List ℕ). get_or ys j 0) e
 
+-- As it is: answers name this set, since the check leaves their goals open by `using` alone.
 pub ruleset pointing = (rules, point-none, point_place, point_next, points_read)

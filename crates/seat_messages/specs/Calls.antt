@@ -43,7 +43,7 @@ party_checks plan i inputs coins state mail room =
     ∷ opening_check plan i (get_or (numbers state) 0 0) (numbers mail)
     ∷ []
 
--- refusals 1 to 20
+-- refusals 1 to 8, 25, 26 and 9 to 20
 unfoldable pub call_checks : List ℕ → ℕ → List ℕ → List ℕ → List ℕ → List ℕ → ℕ → List Checked
 call_checks bs i inputs coins state mail room = plan_checks bs ++ party_checks (plan_of bs) i inputs coins state mail room
 

@@ -15,6 +15,7 @@ pub struct Lists<'a> {
 }
 
 // The points of a plan's parties, n of them; what stands after them plays no part.
+// As it is: an array, since there is no heap, and without a count, since the plan that callers have says it.
 #[tactic(auto, using(crate::proofs::PointLaws::pointing))]
 pub fn points_of(plan: &PlanFile) -> [u64; 15]
     ensures { take plan.now.header.n result ≡ (plan_of plan.now.bytes.now).points }

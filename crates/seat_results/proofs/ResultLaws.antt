@@ -66,6 +66,7 @@ module _ (n own j : ℕ) (mail : List ℕ) where
     pub copy-place : own ≤ 65536 → n ≤ 15 → j < own → own * i + j < 2 ^ 64
     copy-place m few l = omega (arith, near m few)
 
+-- As it is: answers name this set, since the check leaves their goals open by `using` alone.
 pub ruleset copying = (rules, copy-none, copy_next, copied, copy-fits, copy-place)
 
 -- ---- an opening
@@ -120,6 +121,7 @@ module _ (p : ℕ) (ws : List ℕ) (n own : ℕ) (mail : List ℕ) where
   open_done d₀ d j h l e =
       numbered-all (λ j. dot p ws (from_each n own j mail)) own d₀ d j h.is l (omega arith) ∙ ap (λ (m : ℕ). opened_by p ws n m mail) e
 
+-- As it is: answers name this set, since the check leaves their goals open by `using` alone.
 pub ruleset opening_all = (rules, open_none, open_next, open_done)
 
 -- ---- by the weights of the first t + 1 points
@@ -178,4 +180,5 @@ module _ (bs : List ℕ) (h : Header) (w : Planned bs h) (pts : List ℕ) (e : t
         (ap (λ (n : ℕ). tab (λ j. dot (plan_of bs).p (weights (plan_of bs).p 0 (take ((plan_of bs).t + 1) (plan_of bs).points)) (from_each n own j mail)) own) (plan_n w)
         ∙ ap₂ (λ (p t : ℕ). tab (λ j. dot p (weights p 0 (take (t + 1) (plan_of bs).points)) (from_each h.n own j mail)) own) (plan_p w) (plan_t w))
 
+-- As it is: answers name this set, since the check leaves their goals open by `using` alone.
 pub ruleset resulting = (rules, firsts_in, firsts_long, firsts_below, zero_below, room_long, room_sized, weights-in, weights-long, weights-open, results-are)

@@ -12,6 +12,7 @@ ghost use Rattle.seat_results.specs.Opened.{Openings, opened_by, opened_outs};
 use plan::{Header, PlanFile};
 
 // Of mail in which each of n parties sent `own` numbers, number j of each.
+// As it is: an array, since there is no heap, and without a count, since the caller gives n.
 #[tactic(auto, using(crate::proofs::ResultLaws::copying))]
 pub fn from_each(n: usize, own: usize, j: usize, mail: &[u8]) -> [u64; 15]
     requires n_bound { n ≤ 15 }

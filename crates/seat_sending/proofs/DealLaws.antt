@@ -44,6 +44,7 @@ module _ (s : ℕ) (cs : List ℕ) (at t : ℕ) (d : List ℕ) (j : ℕ) (h : Be
   pub begun : t ≤ j → take (t + 1) d ≡ s ∷ coins_from t at cs
   begun l = let e : j ≡ t = omega (arith, h.within) in ap (λ (n : ℕ). take (n + 1) d) (sym e) ∙ h.front ∙ ap (λ (n : ℕ). s ∷ coins_from n at cs) e
 
+-- As it is: answers name this set, since the check leaves their goals open by `using` alone.
 pub ruleset beginning = (rules, begin_secret, begin_coin, begun)
 
 -- ---- a share

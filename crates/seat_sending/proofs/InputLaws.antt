@@ -1,5 +1,4 @@
 -- Laws of the dealings of a party's own inputs.
---     input_sending        one gate
 --     Inputting, inputting the loop over the gates that writes a share of each
 -- Assumes nothing.
 use mathlib.Core.Path.{◌≡◌, refl, sym, ap, ap₂, ◌∙◌}
@@ -44,14 +43,12 @@ use Rattle.seat_sending.proofs.DealLaws.{coins_from_part}
 -- ---- one gate
 -- a share is written where the gate is an own input
 module _ (t b : Bool) (e : t ≡ b) (v at : ℕ) (old : List ℕ) where
-  pub gate_unless : not t ≡ true → Sent (cond b (v ∷ []) []) at old old at
+  gate_unless : not t ≡ true → Sent (cond b (v ∷ []) []) at old old at
   gate_unless f = sent_unless b v at old (sym e ∙ not-true t f)
 
-  pub gate_where : (w p : ℕ) (new : List ℕ) → not t ≡ false → Is p v w → Ready p → new ≡ stored old at w → Sent (cond b (v ∷ []) []) at old new (at + 1)
+  gate_where : (w p : ℕ) (new : List ℕ) → not t ≡ false → Is p v w → Ready p → new ≡ stored old at w → Sent (cond b (v ∷ []) []) at old new (at + 1)
   gate_where w p new f is r to =
       rw (← is.eq) (sent_where b w at old new (sym e ∙ not-false t f) to (omega (arith, is.lt, r.small)))
-
-pub ruleset input_sending = (rules, gate_unless, gate_where)
 
 -- ---- the wires of a list of gates, and the shares of the dealings there
 module _ (f : Gate → Bool) where
@@ -177,7 +174,7 @@ module _ (bs : List ℕ) (i : ℕ) (inputs coins : List ℕ) (x at : ℕ) where
         (one-share (is_input_of i (get_or (plan_of bs).gates g (Input 0))) coins-here
         ∙ rw (← es, ← e, plan_p w))
 
-    pub inputs_next : (gate : Gate) (s b next : ℕ) (d' : List ℕ) → gate ≡ gate_at bs g → s ≡ get_or (numbers inputs) (place - at) 0
+    inputs_next : (gate : Gate) (s b next : ℕ) (d' : List ℕ) → gate ≡ gate_at bs g → s ≡ get_or (numbers inputs) (place - at) 0
         → Sent (cond (is_input_of i gate) (eval h.field.p (s ∷ coins_from h.t k (numbers coins)) x ∷ []) []) place d d' next
         → b ≡ count_where (eqb i) (coin_owners_at (plan_of bs) gate) → b ≤ 14
         → Inputting bs i inputs coins x at d₀ d' next (k + b) (g + 1)
@@ -187,6 +184,15 @@ module _ (bs : List ℕ) (i : ℕ) (inputs coins : List ℕ) (x at : ℕ) where
       passed = coin-next bs i (length (plan_of bs).gates) h k g w (omega (arith, plan_gates w)) v.passed below-gates gate b eg eb few;
       sent = rw (shares-next gate s eg es) (sent_more _ _ d₀ d d' at place next v.sent to);
     }
+
+    pub inputs_passed : (gate : Gate) (b : ℕ) (t : Bool) → gate ≡ gate_at bs g → t ≡ is_input_of i gate → not t ≡ true
+        → b ≡ count_where (eqb i) (coin_owners_at (plan_of bs) gate) → b ≤ 14 → Inputting bs i inputs coins x at d₀ d place (k + b) (g + 1)
+    inputs_passed gate b t eg et n eb few = inputs_next gate _ b place d eg refl (gate_unless t _ et _ place d n) eb few
+
+    pub inputs_written : (gate : Gate) (b : ℕ) (t : Bool) (s r : ℕ) (d' : List ℕ) → gate ≡ gate_at bs g → t ≡ is_input_of i gate → not t ≡ false → s ≡ get_or (numbers inputs) (place - at) 0
+        → Is h.field.p (eval h.field.p (s ∷ coins_from h.t k (numbers coins)) x) r → d' ≡ stored d place r
+        → b ≡ count_where (eqb i) (coin_owners_at (plan_of bs) gate) → b ≤ 14 → Inputting bs i inputs coins x at d₀ d' (place + 1) (k + b) (g + 1)
+    inputs_written gate b t s r d' eg et n es is to eb few = inputs_next gate s b (place + 1) d' eg es (gate_where t _ et _ place d r _ d' n is (planned-ready _ _ w) to) eb few
 
     pub inputs-dealing : (s : ℕ) → s ≡ get_or (numbers inputs) (place - at) 0 → Dealing h.field.p h.t s (numbers coins) k
     inputs-dealing s es = record {
@@ -201,7 +207,8 @@ module _ (bs : List ℕ) (i : ℕ) (inputs coins : List ℕ) (x at : ℕ) where
   unfolding input_wires
   inputs_done h d₀ d place k g w v l = rw (take_all g (plan_of bs).gates (rw (plan_gates w) l)) at v.sent
 
-pub ruleset inputting = (rules, inputs-none, inputs_next, inputs-dealing, inputs-near, inputs_done)
+-- As it is: answers name this set, since the check leaves their goals open by `using` alone.
+pub ruleset inputting = (rules, inputs-none, inputs_passed, inputs_written, inputs-dealing, inputs-near, inputs_done)
 
 -- ---- the loop over the receiving parties, by their points
 -- what is sent to each point
@@ -229,4 +236,5 @@ module _ (bs : List ℕ) (h : Header) (w : Planned bs h) (xs : List ℕ) (e : xs
         = rows-length (λ j. row (get_or xs j 0)) (length (input_wires (plan_of bs) i)) (length xs) (λ j. inputs_long (get_or xs j 0)) in
         rows_all (λ j. row (get_or xs j 0)) 1024 (length xs) d₀ d at j r l (q ∙ rw (k, e)) ∙ ap flat (sym (by_points row xs) ∙ ap (map row) e)
 
+-- As it is: answers name this set, since the check leaves their goals open by `using` alone.
 pub ruleset receiving = (rules, points-within, points-count, point_below, inputs_few, rows_none, rows_next, inputs-sent)

@@ -90,7 +90,8 @@ module _ (bs : List ℕ) (party : ℕ) (shares : List ℕ) (at : ℕ) where
     unfolding out_wires
     outs_done l = rw (take_all o (plan_of bs).outs (rw (plan_outs w) l)) at v.sent
 
-pub ruleset outing = (rules, outs-none, outs_next, outs_done)
+-- As it is: answers name this set, since the check leaves their goals open by `using` alone.
+pub ruleset outing = (rules, out_other, out_own, outs-none, outs_next, outs_done)
 
 -- ---- the loop over the parties
 -- 1 where a party is one of the parties 1 to n
@@ -180,4 +181,5 @@ module _ (bs : List ℕ) (h : Header) (w : Planned bs h) (shares : List ℕ) whe
   outs_sent d₀ d at j r l e =
       rows_all (λ j. out_shares shares (out_wires (plan_of bs) (j + 1))) 64 h.n d₀ d at j r l (e ∙ rw outs-total) ∙ sym (ap flat by_receiver)
 
+-- As it is: answers name this set, since the check leaves their goals open by `using` alone.
 pub ruleset gathering = (rules, outs_few, rows_none, rows_next, outs_sent)

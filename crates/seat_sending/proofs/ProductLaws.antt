@@ -75,6 +75,7 @@ unfolding deal
 deal_done p s cs pts d₀ d j v l q =
     numbered-all (λ k. eval p (s ∷ cs) (get_or pts k 0)) (length pts) d₀ d j v.is l (omega arith) ∙ sym (by_points (eval p (s ∷ cs)) pts)
 
+-- As it is: answers name this set, since the check leaves their goals open by `using` alone.
 pub ruleset dealing_out = (rules, all_below_at, deal-none, deal_next, deal_done, coefficients_long, dealing_below)
 
 -- ---- what is sent, in one list
@@ -151,4 +152,5 @@ module _ (bs : List ℕ) (h : Header) (w : Planned bs h) (i g a b : ℕ) where
             ∙ ap (λ (v : ℕ). flat (map (λ x. eval h.field.p (v ∷ coins_from h.t k (numbers coins)) x ∷ []) (plan_of bs).points)) (sym es.eq)
             ∙ flat_ones (eval h.field.p (s ∷ coins_from h.t k (numbers coins))) (plan_of bs).points))
 
+-- As it is: answers name this set, since the check leaves their goals open by `using` alone.
 pub ruleset product_sending = (rules, product-none, product_shares, product-points, points-within, points-count, product_dealing, product-gate, product-room, product-done)

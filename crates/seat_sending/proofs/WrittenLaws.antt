@@ -72,6 +72,7 @@ pub room_outs : (bs : List ℕ) (h : Header) (i : ℕ) (step : Step) (inputs coi
 unfolding sent_by
 room_outs bs h i step inputs coins shares out w s e = s.room ∙ ap (λ (r : Step). width * sent_by (plan_of bs) i r) e ∙ rw (plan_outs w)
 
+-- As it is: answers name this set, since the check leaves their goals open by `using` alone.
 pub ruleset stepping =
     (rules, stepped-product, step-coins, room-inputs, room-product, room_outs, sent-inputs, sent-product, sent-outs, sent-other)
 
@@ -111,4 +112,5 @@ module _ (bs : List ℕ) (h : Header) (w : Planned bs h) (i k : ℕ) (inputs coi
         let many : length out / width ≡ own_out_count (plan_of bs) i = omega (arith, own-many) in
         q ∙ ap (λ (n : ℕ). opened_outs (plan_of bs) n (numbers mail)) many ∙ sym (rw (eq-eqb k (last_call (plan_of bs)) (omega arith)))
 
+-- As it is: answers name this set, since the check leaves their goals open by `using` alone.
 pub ruleset calling = (rules, call-sendable, call-sent, call-room, call-opened)

@@ -18,7 +18,7 @@ ghost use Rattle.seat_messages.specs.Messages.{call_with, send_at};
 ghost use Rattle.seat_sending.specs.Sending.{Sent, Dealing, Coined, Own, Lent, Sendable, coins_from, input_shares, out_shares};
 
 use field::Field;
-use plan::{Gate, Output, PlanFile, Step};
+use plan::{Gate, PlanFile, Step};
 use plan_counts::Seat;
 use seat_messages::Lists;
 
@@ -75,21 +75,8 @@ impl Dealt<'_> {
 
 // ---- the party's own inputs
 
-// Writes the share at x of a gate that is an input of party i; answers the next place.
-#[tactic(auto, using(crate::proofs::InputLaws::input_sending))]
-fn send_input(dealt: &Dealt, i: usize, gate: Gate, x: u64, place: usize, out: &mut [u8]) -> usize
-    requires x_lt_p { x < dealt.now.field.p }
-    requires place_bound { place ≤ 65536 }
-    ensures { Sent (cond (is_input_of i gate) (eval dealt.now.field.p (dealt.now.secret ∷ coins_from dealt.now.t dealt.now.at (numbers dealt.now.coins.now)) x ∷ []) []) place out.old out.new result }
-{
-    if !plan_counts::is_input_of(i, gate) {
-        return place;
-    }
-    numbers::write(out, place, dealt.share(x));
-    place + 1
-}
-
 // Writes the shares at x of the party's inputs from a place on; answers the next place.
+// As it is: the place is handed in and answered; of a struct that holds it with the list each clause would have to say too that the list is the same one.
 #[tactic(auto, using(crate::proofs::InputLaws::inputting))]
 fn send_inputs_to(seat: &Seat, lists: &Lists, x: u64, at: usize, out: &mut [u8]) -> usize
     requires own { Own (plan_of seat.now.plan.now.bytes.now) seat.now.party lists.now.inputs.now lists.now.coins.now }
@@ -102,15 +89,20 @@ fn send_inputs_to(seat: &Seat, lists: &Lists, x: u64, at: usize, out: &mut [u8])
     let mut k: usize = 0;
     for g in 0..plan.header.gates {
         let gate = plan.gate(g);
+        let first = k;
+        k += plan_counts::own_coins_at(plan, seat.party, gate);
+        if !plan_counts::is_input_of(seat.party, gate) {
+            continue;
+        }
         let dealt = Dealt {
             field: plan.header.field,
             t: plan.header.t,
             secret: numbers::read(lists.inputs, place - at),
             coins: lists.coins,
-            at: k,
+            at: first,
         };
-        place = send_input(&dealt, seat.party, gate, x, place, out);
-        k += plan_counts::own_coins_at(plan, seat.party, gate);
+        numbers::write(out, place, dealt.share(x));
+        place += 1;
     }
     place
 }
@@ -176,20 +168,8 @@ fn send_product(
 
 // ---- the shares of the outs
 
-// Writes the share of an out that is the party's; answers the next place.
-#[tactic(auto, using(crate::proofs::OutLaws::out_sending))]
-fn send_out(party: usize, output: Output, shares: &[u8], place: usize, out: &mut [u8]) -> usize
-    requires { place ≤ 65536 }
-    ensures { Sent (cond (eqb party output.party) (get_or (numbers shares.now) output.wire 0 ∷ []) []) place out.old out.new result }
-{
-    if party != output.party {
-        return place;
-    }
-    numbers::write(out, place, numbers::read(shares, output.wire));
-    place + 1
-}
-
 // Writes the shares of a party's outs from a place on; answers the next place.
+// As it is: the place is handed in and answered, for the same reason as in `send_inputs_to`.
 #[tactic(auto, using(crate::proofs::OutLaws::outing))]
 fn send_outs_to(plan: &PlanFile, party: usize, shares: &[u8], at: usize, out: &mut [u8]) -> usize
     requires at_bound { at ≤ 15360 }
@@ -197,7 +177,12 @@ fn send_outs_to(plan: &PlanFile, party: usize, shares: &[u8], at: usize, out: &m
 {
     let mut place = at;
     for o in 0..plan.header.outs {
-        place = send_out(party, plan::out_at(plan.bytes, o), shares, place, out);
+        let output = plan::out_at(plan.bytes, o);
+        if party != output.party {
+            continue;
+        }
+        numbers::write(out, place, numbers::read(shares, output.wire));
+        place += 1;
     }
     place
 }
@@ -217,7 +202,8 @@ fn send_outs(plan: &PlanFile, shares: &[u8], out: &mut [u8])
 // ---- the call
 
 // Writes what the party sends in a step. A plan file has no other steps than these three.
-// As it is: the steps are a closed enum, and the contract goes by its cases.
+// As it is: the plan's file names the step, so one `match` has to choose. A closure for a step would be made in that `match`, and its contract
+// would be the step's case of `send_at` once more. Seat, lists and shares go together from `send` to here; none of the three steps takes all three.
 #[tactic(auto, using(crate::proofs::WrittenLaws::stepping))]
 fn send_step(seat: &Seat, step: Step, lists: &Lists, shares: &[u8], out: &mut [u8])
     requires stepped { Stepped (plan_of seat.now.plan.now.bytes.now) step }

@@ -21,10 +21,10 @@ use Rattle.numbers.specs.Bytes.{all_below}
 use Rattle.numbers.proofs.Below.{all_below_at}
 use Rattle.numbers.proofs.Fills.{Filled, filling, filled}
 use Rattle.field.specs.Mod.{add, mul}
-use Rattle.field.specs.Field.{Below2, Is, kept, sum_bound, reciprocal, Reducible, Ready}
+use Rattle.field.specs.Field.{Below2, Is, kept, sum_bound, Ready}
 use Rattle.field.proofs.Solve.{Canon, zero_canon, Same, same, turn, ◌⨾◌, plus, mul_same, add_same, mod_canon, add_canon, canon_same, mod_same}
 use Rattle.field.proofs.Products.{word}
-use Rattle.field.proofs.Sums.{kept_same, kept-bound, bound-low, bound-more}
+use Rattle.field.proofs.SumLaws.{kept_same, kept-bound, bound-low, bound-more}
 use Rattle.sharing_laws.specs.Poly.{eval}
 use Rattle.sharing_laws.specs.Interp.{dot, plain_sum}
 use Rattle.sharing_laws.specs.Sharing.{deal}
@@ -93,6 +93,7 @@ pub dealt : (p s : ℕ) (coins xs : List ℕ) → map (eval p (s ∷ coins)) xs 
 unfolding deal
 dealt p s coins xs = refl
 
+-- As it is: answers name this set, since the check leaves their goals open by `using` alone.
 pub ruleset dealing = (filling, filled-map, entry_below)
 
 -- ---- the weighted sum
@@ -153,14 +154,14 @@ module _ (p : ℕ) (ws vs : List ℕ) where
         let all : Same p (sum + 0) (plain_sum ws vs) = rw (drop_of_length-le ws {i = i} l) at s.whole in
         (same {b = sum + 0} (omega arith) ⨾ all).rest ∙ plain-dot p ws vs
 
--- a sum of at most 16 products
-pub sum-reducible : (p m sum n : ℕ) → Ready p → m ≡ reciprocal p → sum ≤ sum_bound p n → n ≤ 16 → Reducible p m sum
-sum-reducible p m sum n r e s le = record { by = e; sum = omega (arith, s, bound-more p r.small n 16 le) }
-
 pub is_by : (p v w r : ℕ) → v ≡ w → Is p v r → Is p w r
 is_by p v w r e h = record { eq = h.eq ∙ e; lt = h.lt }
 
 pub ready_positive : (p : ℕ) → Ready p → 0 < p
 ready_positive p r = omega (arith, r.prime.above)
 
-pub ruleset summing = (rules, ready_positive, sum-none, sum_low, term-below, sum_more, sum-small, sum-whole, sum-reducible, is_by)
+-- a sum of at most 16 products
+pub bound_sixteen : (p n : ℕ) → Ready p → n ≤ 16 → sum_bound p n ≤ sum_bound p 16
+bound_sixteen p n r le = bound-more p r.small n 16 le
+
+pub ruleset summing = (rules, ready_positive, sum-none, sum_low, term-below, sum_more, sum-small, sum-whole, bound_sixteen, is_by)

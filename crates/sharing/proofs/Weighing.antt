@@ -124,4 +124,5 @@ pub filled-weights : (p z : ℕ) (xs d₀ d : List ℕ) (i : ℕ) → length d�
 unfolding weights
 filled-weights p z xs d₀ d i e l h = filled-map (weight p z xs) xs d₀ d i e l h
 
+-- As it is: answers name this set, since the check leaves their goals open by `using` alone.
 pub ruleset weightings = (filling, filled-weights)

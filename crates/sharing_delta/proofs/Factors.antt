@@ -85,6 +85,7 @@ module _ (p b : ℕ) (d₀ : List ℕ) (r : Ready p) where
     pub product_fits : b < p → b * before < 2 ^ 64
     product_fits l = omega (arith, word b before (omega (arith, r.small)) (omega (arith, r.small, h.small)))
 
+-- As it is: answers name this set, since the check leaves their goals open by `using` alone.
 pub ruleset carrying = (rules, carry-none, carry-more, carry-whole, carry-fits, product_fits)
 
 -- ---- what one factor does to a polynomial with room above it

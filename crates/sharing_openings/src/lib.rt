@@ -11,6 +11,8 @@ ghost use Rattle.sharing_openings.specs.Openable.{Openable, Checkable};
 use field::Field;
 
 // The weights with which each party's share is found from the first t + 1 shares, a row for each party.
+// As it is: field, t and points go together into this function, `first_off` and `opened` too; no caller keeps the three beyond one call, so a struct of
+// them would be made for each call alone. `Checker` is for who keeps them.
 #[tactic(auto, using(crate::proofs::Rows::writing))]
 pub fn opening_rows(f: Field, t: usize, points: &[u64], rows: &mut [u64])
     requires points_value { all_below f.p points.now ≡ true }

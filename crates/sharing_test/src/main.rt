@@ -43,6 +43,7 @@ struct Counts {
 }
 
 // Whether every number is below p.
+// As it is: `all` with a closure was tried, and its `ensures` speaks of the iterator's turns, from which neither tactic found the definition.
 fn all_below(p: u64, xs: &[u64]) -> bool
     ensures { result ≡ all_below p xs.now }
 {
@@ -66,20 +67,19 @@ fn chance(p: u64, seed: u64, out: &mut [u64])
 }
 
 // step, 2 step, 3 step, .. modulo p.
-fn multiples(p: u64, step: u64, out: &mut [u64])
-    requires { (0 < p) × (p < 2147483648) × (step < 2147483648) }
+fn multiples(f: Field, step: u64, out: &mut [u64])
+    requires { step < 2147483648 }
 {
     let mut at: u64 = 0;
     for x in out.iter_mut() {
-        at = (at + step) % p;
+        at = (at + step) % f.p;
         *x = at;
     }
 }
 
 // The value of a polynomial by powers of x.
-fn by_powers(p: u64, coefficients: &[u64], x: u64) -> u64
-    requires { (1 < p) × (p < 2147483648) }
-{
+fn by_powers(f: Field, coefficients: &[u64], x: u64) -> u64 {
+    let p = f.p;
     let y = x % p;
     let mut sum: u64 = 0;
     let mut power: u64 = 1;
@@ -91,24 +91,26 @@ fn by_powers(p: u64, coefficients: &[u64], x: u64) -> u64
 }
 
 // The shares of a polynomial, each compared with its value by powers.
-fn values(p: u64, polynomial: &[u64], points: &[u64], shares: &[u64], count: &mut Count)
-    requires { (1 < p) × (p < 2147483648) }
-{
+// As it is: field, polynomial and points go together into three tests of a dealing and one of a vanishing polynomial. A struct of them would be made for
+// two calls in `scenario` and one in `vanishings`, beside the shares, which one of them writes.
+fn values(f: Field, polynomial: &[u64], points: &[u64], shares: &[u64], count: &mut Count) {
     for (x, share) in points.iter().zip(shares) {
-        count.note(by_powers(p, polynomial, *x) == *share);
+        count.note(by_powers(f, polynomial, *x) == *share);
     }
 }
 
 fn dealings(f: Field, polynomial: &[u64], points: &[u64], shares: &mut [u64], count: &mut Count) {
     if all_below(f.p, polynomial) && all_below(f.p, points) && shares.len() == points.len() {
         sharing::deal(f, polynomial, points, shares);
-        values(f.p, polynomial, points, shares, count);
+        values(f, polynomial, points, shares, count);
     } else {
         count.note(false);
     }
 }
 
 // Whether a value can be opened, and the check be made.
+// As it is: field, t, points and shares go together here and below, but shares are made wrong and right again between the tests, so a struct that lends
+// them would be made anew for each.
 fn openable(f: Field, t: usize, points: &[u64], shares: &[u64]) -> bool
     ensures { result ≡ true → Openable f.p t points.now shares.now }
 {
@@ -164,7 +166,7 @@ fn interpolation(
 ) {
     if all_below(f.p, points) && z < f.p && room.len() == points.len() {
         sharing::weights(f, z, points, room);
-        count.note(weighed(f, room, shares) == Some(by_powers(f.p, polynomial, z)));
+        count.note(weighed(f, room, shares) == Some(by_powers(f, polynomial, z)));
     } else {
         count.note(false);
     }
@@ -183,12 +185,10 @@ fn weighed(f: Field, weights: &[u64], shares: &[u64]) -> Option<u64> {
 }
 
 // The values of a polynomial, which are to be 1 at 0, and 0 at just the first m points; and its coefficients, which are to be 0 past the first m + 1.
-fn vanishes(p: u64, polynomial: &[u64], points: &[u64], m: usize, count: &mut Count)
-    requires { (1 < p) × (p < 2147483648) }
-{
-    count.note(by_powers(p, polynomial, 0) == 1);
+fn vanishes(f: Field, polynomial: &[u64], points: &[u64], m: usize, count: &mut Count) {
+    count.note(by_powers(f, polynomial, 0) == 1);
     for (i, x) in points.iter().enumerate() {
-        count.note((i < m) == (by_powers(p, polynomial, *x) == 0));
+        count.note((i < m) == (by_powers(f, polynomial, *x) == 0));
     }
     for (i, a) in polynomial.iter().enumerate() {
         if m < i {
@@ -201,7 +201,7 @@ fn vanishes(p: u64, polynomial: &[u64], points: &[u64], m: usize, count: &mut Co
 fn vanishings(f: Field, m: usize, points: &[u64], room: &mut [u64], count: &mut Count) {
     if m <= points.len() && m < room.len() && all_below(f.p, &points[..m]) {
         sharing_delta::vanishing(f, &points[..m], room);
-        vanishes(f.p, room, points, m, count);
+        vanishes(f, room, points, m, count);
     } else {
         count.note(false);
     }
@@ -218,7 +218,7 @@ fn scenario(
     wide: &mut [u64],
     counts: &mut Counts,
 ) {
-    multiples(f.p, 1 + f.p % 16, points);
+    multiples(f, 1 + f.p % 16, points);
     chance(f.p, f.p, polynomial);
     let secret = polynomial.first().copied().unwrap_or(0);
     dealings(f, polynomial, points, shares, &mut counts.values);

@@ -2,7 +2,7 @@
 --     sheet-wired, file-checks     after 27 and 24 only 3 to 6, 8 and 25 can fall
 --     measuring, compiling         what closes the needs of the functions
 -- Assumes nothing.
-use Rattle.std.proofs.Common.{Option, Some, None, Result, Ok, Err}
+use Rattle.std.proofs.Common.{Option, Some, None, Result, Ok, Err, ok_or}
 use Prim.Native.Nat.{ℕ, zero, suc, ◌+◌, ◌*◌, ◌<◌, ◌≤◌}
 use mathlib.Core.Path.{◌≡◌, refl, sym, ap, ap₂, subst, ◌∙◌}
 use mathlib.Core.Bool.{Bool, true, false, cond, ◌&&◌}
@@ -23,6 +23,7 @@ use Rattle.plan.specs.declared.Output.{Output}
 use Rattle.plan.specs.Refusals.{and_then, first_of, need, unless_found}
 use Rattle.plan.specs.File.{between, out_ok, parties_ok, threshold_ok, modulus_ok, majority_check, plan_check}
 use Rattle.plan.proofs.Refusals.{first_of-append, and_then_assoc, and_then_passed, and_then_refused, passed_both, passed-need}
+use Rattle.plan.proofs.Ranges.{contains_is}
 use Rattle.plan.proofs.Planned.{between-true, modulus_prime, modulus_small}
 use Rattle.plan_file.specs.Bodies.{file_size, version_for, file_of_plan, content_checks, out_made}
 use Rattle.plan_file.proofs.Files.{Wired, file_check_outs, file_majority}
@@ -166,6 +167,7 @@ module _ (text : List ℕ) (n t p i inputs gates : ℕ) (w : Compilable text n t
     unfolding sheet_file sheet_bodies
     majority-is ys c kept is e = room-majority size room long few ys kept c (file_of_plan n t p (tree_bodies p i (sheet_tree n p text))) is e
 
+-- As it is: answers name this set, since the check leaves their goals open by `using` alone.
 pub ruleset majorities = (rules, fresh, majority-fits, majority-passed, majority-parties, majority-gates, majority-wrong, majority-again, majority-room, majority-is, rooms)
 
 -- ---- 3 to 6, 8 and 25
@@ -214,13 +216,26 @@ module _ (n t p i inputs gates : ℕ) (text : List ℕ) (w : Counted text n p in
             → d ≡ and_then (and_then (first_of (content_checks n t p gates 1)) (need (refusal.OutputRule 0) (between 1 n i))) (majority_check (sheet_file n t p i text))
         plan-further d is = is ∙ sym (and_then_passed _ _ first)
 
-pub ruleset checking_plan = (rules, not-true, not-false, plan-refused, plan-no-party, plan-made, plan-further)
+pub ruleset checking_plan = (rules, not-true, not-false, contains_is, plan-refused, plan-no-party, plan-made, plan-further)
+
+-- ---- what `ok_or` answers
+pub some_of : (m : Result Counts Refusal) (r : Option Counts) (x : Refusal) (c : Counts) → m ≡ ok_or r x → m ≡ Ok c → r ≡ Some c
+some_of m (Some d) x c k e = cc
+some_of m None x c k e = absurd (let z : ◌≡◌ {A = ℕ} 0 1 = cc in omega arith)
+
+none_of : (r : Option Counts) (x q : Refusal) → ok_or r x ≡ Err q → (r ≡ None) × (q ≡ x)
+none_of (Some d) x q e = absurd (let z : ◌≡◌ {A = ℕ} 0 1 = cc in omega arith)
+none_of None x q e = (refl, cc)
 
 -- ---- the first pass
 module _ (n t p i : ℕ) (text : List ℕ) (r : Option Counts) (names : List ℕ) (h : Surveyed n p text r names) where
   pub measure-wrong : r ≡ None → MeasuredAs text n t p i (Err refusal.SheetText) names
   unfolding text_checks first_of and_then need refusal_of Ready SurveyIs
   measure-wrong e = let k : sheet_ok n p text ≡ false = rw e at h.is in record { told = rw k; ready = tt; long = h.long }
+
+  module _ (m : Result Counts Refusal) (em : m ≡ ok_or r refusal.SheetText) where
+    pub measure-none : (q : Refusal) → m ≡ Err q → MeasuredAs text n t p i (Err q) names
+    measure-none q e = let k = none_of r refusal.SheetText q (sym em ∙ e) in rw k.1 (measure-wrong k.0)
 
   module _ (c : Counts) (e : r ≡ Some c) where
     record Told : Type 0 where
@@ -281,7 +296,7 @@ module _ (n t p i : ℕ) (text : List ℕ) (r : Option Counts) (names : List ℕ
         unfolding refusal_of Ready
         measure-refused y q s z = rw z (record { told = sym s ∙ told; ready = tt; long = h.long })
 
-pub ruleset measuring = (rules, measure-wrong, measure-large, measure-counted, measure-counts, measure-refused)
+pub ruleset measuring = (rules, measure-large, measure-counted, measure-counts, measure-refused)
 
 -- ---- the call
 file_size_lem : (text : List ℕ) (n t p i inputs gates : ℕ) (names : List ℕ) → Compilable text n t p i inputs gates names → length (sheet_file n t p i text) ≡ file_size (version_for p) n gates 1
@@ -364,4 +379,5 @@ module _ (text : List ℕ) (n t p i : ℕ) (m : Result Counts Refusal) (names : 
         unfolding unless_refused sheet_file sheet_bodies
         sheet-written new e = e ∙ sym (after out (Ok tt) (sym sheet-passed))
 
+-- As it is: answers name this set, since the check leaves their goals open by `using` alone.
 pub ruleset compiling = (rules, fresh, measured-sized, sheet-refused, sheet-kept, counts-text, gates_small, counts-parties, counts-room, sheet-length, sheet-left, sheet-passed, sheet-written)

@@ -16,6 +16,8 @@ use plan::Refusal;
 use sheet_write::{Counts, Sheet};
 
 // Refusal 25 of the file that would be written, which is written in a room of its own where 2t is not below n.
+// As it is: import_call has such a function of a circuit. One that takes a closure to write the file would be no plainer: what `write` asks and gives, which
+// here its contract says, would stand where each closure is made.
 #[tactic(auto, using(crate::proofs::Calls::majorities))]
 fn check_majority(sheet: &Sheet, counts: Counts) -> Result<(), Refusal>
     requires { Compilable sheet.now.text.now sheet.now.n sheet.now.t sheet.now.p sheet.now.seat counts.inputs counts.gates (table_of 1025 (names_of (sheet_tree sheet.now.n sheet.now.p sheet.now.text.now))) }
@@ -43,7 +45,7 @@ fn check_plan(sheet: &Sheet, counts: Counts) -> Result<(), Refusal>
 {
     let Sheet { n, t, p, seat, .. } = *sheet;
     plan_file::check(n, t, p, counts.gates, 1)?;
-    if !plan_reading::is_between(1, n as usize, seat as usize) {
+    if !(1..=n).contains(&seat) {
         return Err(Refusal::OutputRule(0));
     }
     check_majority(sheet, counts)
@@ -56,9 +58,7 @@ fn measure_in(sheet: &Sheet, names: &mut [usize]) -> Result<Counts, Refusal>
     requires { names.old ≡ table_of 1025 [] }
     ensures { MeasuredAs sheet.now.text.now sheet.now.n sheet.now.t sheet.now.p sheet.now.seat result names.new }
 {
-    let Some(counts) = sheet.survey(names) else {
-        return Err(Refusal::SheetText);
-    };
+    let counts = sheet.survey(names).ok_or(Refusal::SheetText)?;
     if 1024 < counts.gates {
         return Err(Refusal::TooLarge);
     }

@@ -1,55 +1,45 @@
--- The table of names: what the search keeps.
+-- The table of names: where a name stands, or the first free place.
 --     holding     what closes the needs of the functions
 -- Assumes nothing.
-use Prim.Native.Nat.{ℕ, suc, ◌+◌, ◌<◌, ◌≤◌}
-use mathlib.Core.Path.{◌≡◌, sym, ◌∙◌}
+use Rattle.std.proofs.Common.{Option, Some, None, nat_eq, nat_lt}
+use Prim.Native.Nat.{ℕ, suc, ◌+◌, ◌≤◌}
+use mathlib.Core.Path.{◌≡◌, refl, sym, ◌∙◌}
+use mathlib.Core.Bool.{Bool, true, false, cond, not, ◌||◌}
 use mathlib.Core.List.{List}
 use native.Mathlib.Omega.{arith}
-use native.Mathlib.Numerals.{add-one}
 use borrow.Author.Rules.{rules}
-use borrow.Author.Tests.{eq-eqb, ne_eqb}
-use lib.ListN.{length, get_or, set, drop}
-use lib.Seq.{drop-cons, drop-length, set_out}
+use borrow.Author.Tests.{ltb-false}
+use lib.ListN.{length, set}
+use lib.Seq.{set_out}
+use Rattle.std.specs.List.{position, position_or_len}
+use Rattle.std.specs.Option.{unwrap_or}
+use Rattle.std.proofs.lemmas.List.Sums.{prefix_len-le-length}
+use Rattle.std.proofs.lemmas.List.Recursion.{is_position_or_len}
 use Rattle.sheet_read.specs.Working.{free_or}
 
--- the search stands at i
-pub record Seeking (x : ℕ) (names : List ℕ) (i : ℕ) : Type 0 where
-  pub within : i ≤ length names
-  pub rest : i + free_or x (drop i names) ≡ free_or x names
+free_is : (x : ℕ) (names : List ℕ) → free_or x names ≡ position_or_len (λ y. nat_eq y x || nat_eq y 0) names
+unfolding free_or
+free_is x names = is_position_or_len (free_or x) (λ y. nat_eq y x || nat_eq y 0) refl (λ y ys. by (nat_eq y x) (nat_eq y 0) (free_or x ys)) names
+  where
+    by : (a b : Bool) (n : ℕ) → cond a 0 (cond b 0 (suc n)) ≡ cond (a || b) 0 (1 + n)
+    by true b n = refl
+    by false true n = refl
+    by false false n = omega arith
 
-pub seek_begin : (x : ℕ) (names : List ℕ) → Seeking x names 0
-seek_begin x names = record { within = omega arith; rest = omega arith }
+abbrev first : ℕ → List ℕ → ℕ
+first x names = position_or_len (λ y. nat_eq y x || nat_eq y 0) names
 
-module _ (x : ℕ) (names : List ℕ) (i : ℕ) (h : Seeking x names i) where
-  pub seek_found : i < length names → get_or names i 0 ≡ x → i ≡ free_or x names
-  unfolding free_or
-  seek_found l e = sym (sym h.rest ∙ rw (drop-cons names i 0 l, eq-eqb (get_or names i 0) x e) (omega arith))
+pub found_or_past : (x i : ℕ) (names : List ℕ) (r : Option ℕ) → r ≡ position (λ y. nat_eq y x || nat_eq y 0) names → i ≡ unwrap_or r (length names) → i ≡ free_or x names
+found_or_past x i names r e j = j ∙ rw e (by (nat_lt (first x names) (length names)) refl)
+  where
+    by : (b : Bool) → nat_lt (first x names) (length names) ≡ b → unwrap_or (cond b (Some (first x names)) None) (length names) ≡ free_or x names
+    by true h = sym (free_is x names)
+    by false h = omega (arith, free_is x names, ltb-false (first x names) (length names) h, prefix_len-le-length (λ y. not (nat_eq y x || nat_eq y 0)) names)
 
-  module _ (l : i < length names) (n : get_or names i 0 ≡ x → ⊥) where
-    pub seek-free : get_or names i 0 ≡ 0 → i ≡ free_or x names
-    unfolding free_or
-    seek-free e = sym (sym h.rest ∙ rw (drop-cons names i 0 l, ne_eqb (get_or names i 0) x n, eq-eqb (get_or names i 0) 0 e) (omega arith))
-
-    pub seek-on : (get_or names i 0 ≡ 0 → ⊥) → Seeking x names (i + 1)
-    unfolding free_or
-    seek-on m = record {
-      within = omega arith;
-      rest = rw (add-one i) (next ∙ h.rest);
-    }
-      where
-        next : suc i + free_or x (drop (suc i) names) ≡ i + free_or x (drop i names)
-        next = rw (drop-cons names i 0 l, ne_eqb (get_or names i 0) x n, ne_eqb (get_or names i 0) 0 m) (omega arith)
-
-  pub seek_end : length names ≤ i → i ≡ free_or x names
-  unfolding free_or
-  seek_end l =
-      let e : i ≡ length names = omega (arith, h.within) in
-      sym (sym h.rest ∙ rw (e, drop-length names) (omega arith))
-
-pub hold-past : (names : List ℕ) (i x : ℕ) → length names ≤ i → i ≡ free_or x names → names ≡ set names (free_or x names) x
-hold-past names i x l e = rw (← e) (sym (set_out names i x l))
+pub hold_past : (names : List ℕ) (i x : ℕ) → length names ≤ i → i ≡ free_or x names → names ≡ set names (free_or x names) x
+hold_past names i x l e = rw (← e) (sym (set_out names i x l))
 
 pub hold_in : (names : List ℕ) (i x : ℕ) → i ≡ free_or x names → set names i x ≡ set names (free_or x names) x
 hold_in names i x e = rw e
 
-pub ruleset holding = (rules, seek_begin, seek_found, seek-free, seek-on, seek_end, hold-past, hold_in)
+pub ruleset holding = (rules, found_or_past, hold_past, hold_in)

@@ -1,11 +1,13 @@
 -- What the readers of a sheet answer, where the definition reads a tree.
 use Rattle.std.specs.Prelude.{Option, Some, None, ℕ, suc, ◌+◌, ◌*◌, ◌<◌, ◌≤◌, ◌≡◌, cond, List, eqb, length, get_or, set}
 use Rattle.text_decimals.specs.Reading.{blanks_end, decimal_at}
-use Rattle.sheet_text.specs.Sheets.{Parsed, is_letter, name_from, number_from}
+use Rattle.sheet_text.specs.Sheets.{Parsed, is_letter, name_from, number_from, atom_at, product_at, sum_at}
 use Rattle.sheet_read.specs.declared.Part.{Part}
 use Rattle.sheet_read.specs.declared.Operator.{Operator}
 use Rattle.sheet_read.specs.declared.Operator.TheVariants as operator
-use Rattle.sheet_read.specs.Working.{free_or, capped_next, number_out, join_out, join_wire, work}
+use Rattle.sheet_read.specs.declared.Level.{Level}
+use Rattle.sheet_read.specs.declared.Level.TheVariants as level
+use Rattle.sheet_read.specs.Working.{free_or, capped_next, number_out, join_wire, work}
 
 -- ---- a tree that was read, worked through
 abbrev pub made : ℕ → ℕ → ℕ → Part
@@ -74,14 +76,22 @@ times_operator b = cond (eqb b 42) (Some operator.Times) None
 unfoldable pub term_operator : ℕ → Option Operator
 term_operator b = cond (eqb b 43) (Some operator.Plus) (cond (eqb b 45) (Some operator.Minus) None)
 
--- a side joined to the left one, if there is one: the operator between them, and the wire that holds the left one's value
-unfoldable pub joined_part : Option (Operator × ℕ) → Part → Part
-joined_part (Some (o, l)) r = made (join_wire o r.gates) (capped_next (join_wire o r.gates)) r.at
-joined_part None r = r
+abbrev pub level_operator : Level → ℕ → Option Operator
+level_operator level.Sum = term_operator
+level_operator level.Product = times_operator
 
-unfoldable pub joined_file : Option (Operator × ℕ) → ℕ → List ℕ → Part → List ℕ
-joined_file (Some (o, l)) p out r = join_out o p l r.wire r.gates out
-joined_file None p out r = out
+-- a right side that an operator joined to the left one
+abbrev pub joined_side : Operator → Part → Part
+joined_side o r = made (join_wire o r.gates) (capped_next (join_wire o r.gates)) r.at
+
+-- a part, and all parts, where k more brackets may be opened
+abbrev pub part_at : Level → ℕ → ℕ → ℕ → List ℕ → ℕ → Parsed
+part_at level.Sum = product_at
+part_at level.Product = atom_at
+
+abbrev pub chain_at : Level → ℕ → ℕ → ℕ → List ℕ → ℕ → Parsed
+chain_at level.Sum = sum_at
+chain_at level.Product = product_at
 
 -- ---- what the functions take
 -- a place in the text, and brackets open

@@ -3,10 +3,12 @@
 #![tactic(auto)]
 
 ghost use Rattle.std.specs.Prelude.{◌≡◌, Some, None, suc, ◌+◌, ◌*◌, ◌<◌, ◌≤◌, ◌-◌, length, get_or, set};
+ghost use Rattle.std.specs.Prelude.{◌||◌, nat_eq};
+ghost use Rattle.std.specs.List.{position};
 ghost use Rattle.text_decimals.specs.Reading.{blanks_end, decimal_at, Within};
-ghost use Rattle.sheet_text.specs.Sheets.{is_letter, atom_at, product_at, sum_at, sheet_at};
+ghost use Rattle.sheet_text.specs.Sheets.{is_letter, atom_at, sheet_at};
 ghost use Rattle.sheet_read.specs.Working.{free_or, capped_next, join_wire, join_out};
-ghost use Rattle.sheet_read.specs.Reading.{Ahead, Reads, Sheet, Place, Inside, Letter, Leaf, leaf_at, number_part, number_file, name_part, name_table, closed_part, times_operator, term_operator, joined_part, joined_file};
+ghost use Rattle.sheet_read.specs.Reading.{Ahead, Reads, Sheet, Place, Inside, Letter, Leaf, leaf_at, number_part, number_file, name_part, name_table, closed_part, level_operator, part_at, chain_at, joined_side};
 
 use plan::Gate;
 
@@ -34,21 +36,30 @@ pub enum Operator {
     Minus,
 }
 
-// ---- names: a table of numbers, each one more than a name's; 0 where there is none
-// As it is: the table is a slice that the caller lends, and no map, since there is no heap. A struct round it would be no plainer: each contract
-// says which names the table holds, so the struct would carry no fact of its own.
+// What is read part by part: a sum's parts are products, a product's are brackets.
+#[derive(Clone, Copy)]
+enum Level {
+    Sum,
+    Product,
+}
 
-// The place of a name, or the first free one; past the end where there is neither.
+// ---- names: a table of numbers, each one more than a name's; 0 where there is none
+// As it is: the table is a slice that the caller lends, and no map, since there is no heap. It holds numbers and no `Option`: two tables of 1,025
+// `Option<usize>` and the room for a plan, which stand together in a compilation, take 43,324 bytes, and pool.h states 40,960 of stack.
+
+// The place of a name, or the first free one.
+fn place(names: &[usize], x: usize) -> Option<usize>
+    ensures { result ≡ position (λ y. nat_eq y x || nat_eq y 0) names.now }
+{
+    names.iter().position(|y| *y == x || *y == 0)
+}
+
+// The same; past the end where there is neither.
 #[tactic(auto, using(crate::proofs::Names::holding))]
 pub fn find(names: &[usize], x: usize) -> usize
     ensures { result ≡ free_or x names.now }
 {
-    for i in 0..names.len() {
-        if names[i] == x || names[i] == 0 {
-            return i;
-        }
-    }
-    names.len()
+    place(names, x).unwrap_or(names.len())
 }
 
 // Holds a name in the table: its place.
@@ -71,7 +82,7 @@ fn hold(names: &mut [usize], x: usize) -> usize
 fn next(g: usize) -> usize
     ensures { result ≡ capped_next g }
 {
-    if g <= 1024 { g + 1 } else { 1025 }
+    g.min(1024) + 1
 }
 
 // The gates that join a left side, whose value wire l holds, to a right side: the wire of their value.
@@ -101,15 +112,12 @@ fn operate(operator: Operator, p: u32, l: usize, r: Part, out: &mut [u8]) -> usi
     }
 }
 
-// A side joined to the left one, if there is one: its operator and the wire that holds its value.
+// A right side joined to the left one, whose value wire l holds.
 #[tactic(auto, using(crate::proofs::Gates::joining))]
-fn join(left: Option<(Operator, usize)>, p: u32, r: Part, out: &mut [u8]) -> Part
-    ensures part { result ≡ joined_part left r }
-    ensures file { out.new ≡ joined_file left p out.old r }
+fn join(operator: Operator, p: u32, l: usize, r: Part, out: &mut [u8]) -> Part
+    ensures part { result ≡ joined_side operator r }
+    ensures file { out.new ≡ join_out operator p l r.wire r.gates out.old }
 {
-    let Some((operator, l)) = left else {
-        return r;
-    };
     let wire = operate(operator, p, l, r, out);
     let gates = next(wire);
     Part {
@@ -121,39 +129,29 @@ fn join(left: Option<(Operator, usize)>, p: u32, r: Part, out: &mut [u8]) -> Par
 
 // ---- names and numbers
 
-#[tactic(auto, using(crate::proofs::Leaves::leaving))]
+// As it is: no `u8::is_ascii_lowercase`. The byte is the u64 of `numbers::byte`, and in a name's number it is added as one.
+#[tactic(auto, unfolding(sheet_text::specs::Sheets::is_letter))]
 fn is_letter(b: u64) -> bool
     ensures { result ≡ is_letter b }
 {
-    97 <= b && b <= 122
+    (97..=122).contains(&b)
 }
 
 // ---- the readers
 
-// The * at a place.
-#[tactic(auto, using(crate::proofs::Gates::joining))]
-fn times(s: &[u8], at: usize) -> Option<Operator>
-    ensures { result ≡ times_operator (get_or s.now at 0) }
-{
-    if numbers::byte(s, at) == 42 {
-        return Some(Operator::Times);
+impl Level {
+    // The operator between two parts, at a place.
+    #[tactic(auto, using(crate::proofs::Gates::joining))]
+    fn operator(self, s: &[u8], at: usize) -> Option<Operator>
+        ensures { result ≡ level_operator self (get_or s.now at 0) }
+    {
+        match (self, numbers::byte(s, at)) {
+            (Level::Product, 42) => Some(Operator::Times),
+            (Level::Sum, 43) => Some(Operator::Plus),
+            (Level::Sum, 45) => Some(Operator::Minus),
+            _ => None,
+        }
     }
-    None
-}
-
-// The + or - at a place.
-#[tactic(auto, using(crate::proofs::Gates::joining))]
-fn term(s: &[u8], at: usize) -> Option<Operator>
-    ensures { result ≡ term_operator (get_or s.now at 0) }
-{
-    let b = numbers::byte(s, at);
-    if b == 43 {
-        return Some(Operator::Plus);
-    }
-    if b == 45 {
-        return Some(Operator::Minus);
-    }
-    None
 }
 
 // The place past a byte and the blanks after it.
@@ -182,6 +180,9 @@ fn close(s: &[u8], at: usize, r: Part) -> Option<Part>
     })
 }
 
+// As it is: the gates so far, the table and the file go from reader to reader as three parameters. A struct that borrows table and file would be no
+// plainer: each reader's contract would say besides that it still borrows the same two. `Place` stands in three contracts: that a place is within the text
+// is a fact of the text too, which a struct of place and depth would not have.
 impl Formula<'_> {
     // A number below p.
     #[tactic(auto, using(crate::proofs::Leaves::leaving))]
@@ -232,7 +233,7 @@ impl Formula<'_> {
 
     // A name, a number, or a sum in brackets, nested to a depth of 16.
     #[tactic(auto, using(crate::proofs::Readers::reading))]
-    #[cycle(bracket_product_sum)]
+    #[cycle(bracket_part_chain)]
     fn bracket(
         &self,
         at: usize,
@@ -252,17 +253,17 @@ impl Formula<'_> {
             return None;
         }
         let from = after(self.text, at);
-        let inner = self.sum(from, depth + 1, g, names, out)?;
+        let inner = self.chain(Level::Sum, from, depth + 1, g, names, out)?;
         close(self.text, at, inner)
     }
 
-    // An atom, and as long as there is a *, one more.
-    // As it is: product and sum are two readers. One reader with a level would be no plainer: it needs a third function in the cycle, which chooses
-    // between a bracket and a product.
+    // A part of a sum or of a product.
+    // As it is: a match on the level, and no closure that reads a part: the measure of the three readers, which call each other, goes by depth and level.
     #[tactic(auto, using(crate::proofs::Readers::reading))]
-    #[cycle(bracket_product_sum)]
-    fn product(
+    #[cycle(bracket_part_chain)]
+    fn part(
         &self,
+        level: Level,
         at: usize,
         depth: usize,
         g: usize,
@@ -270,28 +271,21 @@ impl Formula<'_> {
         out: &mut [u8],
     ) -> Option<Part>
         requires { Place self.now.text.now at depth }
-        ensures { Reads self.now.text.now at (product_at (16 - depth) self.now.n self.now.p self.now.text.now at) self.now.p g names.old out.old result names.new out.new }
+        ensures { Reads self.now.text.now at (part_at level (16 - depth) self.now.n self.now.p self.now.text.now at) self.now.p g names.old out.old result names.new out.new }
     {
-        let mut left: Option<(Operator, usize)> = None;
-        let mut made: usize = g;
-        let mut from: usize = at;
-        loop {
-            let right = self.bracket(from, depth, made, names, out)?;
-            let part = join(left, self.p, right, out);
-            let Some(operator) = times(self.text, part.at) else {
-                return Some(part);
-            };
-            left = Some((operator, part.wire));
-            made = part.gates;
-            from = after(self.text, part.at);
+        match level {
+            Level::Sum => self.chain(Level::Product, at, depth, g, names, out),
+            Level::Product => self.bracket(at, depth, g, names, out),
         }
     }
 
-    // A product, and as long as there is a + or a -, one more.
+    // A sum or a product: a part, and as long as an operator follows, one more.
+    // As it is: a `while let`, and no `for`, since no index is counted: the loop ends where no operator follows.
     #[tactic(auto, using(crate::proofs::Readers::reading))]
-    #[cycle(bracket_product_sum)]
-    fn sum(
+    #[cycle(bracket_part_chain)]
+    fn chain(
         &self,
+        level: Level,
         at: usize,
         depth: usize,
         g: usize,
@@ -299,21 +293,15 @@ impl Formula<'_> {
         out: &mut [u8],
     ) -> Option<Part>
         requires { Place self.now.text.now at depth }
-        ensures { Reads self.now.text.now at (sum_at (16 - depth) self.now.n self.now.p self.now.text.now at) self.now.p g names.old out.old result names.new out.new }
+        ensures { Reads self.now.text.now at (chain_at level (16 - depth) self.now.n self.now.p self.now.text.now at) self.now.p g names.old out.old result names.new out.new }
     {
-        let mut left: Option<(Operator, usize)> = None;
-        let mut made: usize = g;
-        let mut from: usize = at;
-        loop {
-            let right = self.product(from, depth, made, names, out)?;
-            let part = join(left, self.p, right, out);
-            let Some(operator) = term(self.text, part.at) else {
-                return Some(part);
-            };
-            left = Some((operator, part.wire));
-            made = part.gates;
-            from = after(self.text, part.at);
+        let mut left = self.part(level, at, depth, g, names, out)?;
+        while let Some(operator) = level.operator(self.text, left.at) {
+            let from = after(self.text, left.at);
+            let right = self.part(level, from, depth, left.gates, names, out)?;
+            left = join(operator, self.p, left.wire, right, out);
         }
+        Some(left)
     }
 }
 
@@ -331,7 +319,7 @@ pub fn read_sheet(
 {
     let formula = Formula { text: s, n, p };
     let from = text_decimals::blanks(s, 0);
-    let part = formula.sum(from, 0, g, names, out)?;
+    let part = formula.chain(Level::Sum, from, 0, g, names, out)?;
     if part.at != s.len() {
         return None;
     }

@@ -5,21 +5,22 @@ use Rattle.std.proofs.Common.{Option, Some, None}
 use Prim.Native.Nat.{ℕ, suc, ◌+◌, ◌-◌, ◌/◌, ◌<◌, ◌≤◌}
 use mathlib.Core.Path.{◌≡◌, refl, sym, ap, ap₂, ◌∙◌}
 use mathlib.Core.Bool.{Bool, true, false, cond}
-use mathlib.Core.List.{List, [], ◌∷◌, flat_map, append-nil}
+use mathlib.Core.List.{List, [], ◌∷◌, ◌++◌, flat_map, append-nil}
 use native.Mathlib.Omega.{arith}
 use borrow.Author.Rules.{rules}
 use borrow.Author.Tests.{eq-eqb, ne_eqb, leb-true, leb-false}
-use lib.Dec.{leb, ltb}
-use lib.ListN.{length, get_or, replicate, get_or-eq_default}
+use lib.Dec.{leb}
+use lib.ListN.{length, get_or, take, replicate}
+use Rattle.std.proofs.lemmas.List.{length-take-le, get_or-take}
 use Rattle.numbers.specs.Tables.{tab}
-use Rattle.numbers.proofs.Tables.{tab-zero, tab-next, length-tab}
+use Rattle.numbers.proofs.Tables.{tab-zero, tab-next, tab-ext, length-tab}
 use Rattle.plan.specs.declared.Gate.{Gate}
 use Rattle.plan.specs.declared.Gate.TheVariants.{Input}
 use Rattle.plan.specs.declared.Output.{Output}
 use Rattle.plan.specs.Plans.{party_count}
 use Rattle.plan_file.specs.Bodies.{Bodies, plan_with, written, gate_bytes, gates_bytes, out_bytes, points_bytes, place_in, out_start, contents, file_size, file_as, version_for, file_of_plan, field_limit}
 use Rattle.plan_file.proofs.Files as files
-use Rattle.plan_file.proofs.Writing.{written-whole, length-written, fits_for}
+use Rattle.plan_file.proofs.Writing.{written-whole, length-written, fits_for, version_low}
 use Rattle.plan_file.proofs.Rows.{gates_then, one_put, written_none, none_bytes, file_put}
 use Rattle.sheet_text.specs.Trees.{Tree, names_from, names_of, Emitted, input_gates, gate_count}
 use Rattle.sheet_text.specs.Sheets.{Parsed, sheet_at}
@@ -33,17 +34,8 @@ use Rattle.sheet_read.specs.Reading.{Left, Sheet}
 use Rattle.sheet_read.proofs.Readers.{made_read, wrong_read}
 use Rattle.sheet_write.specs.declared.Counts.{Counts}
 use Rattle.sheet_write.specs.Passes.{table_of, inputs_in, up_to, SurveyIs, Surveyed, Compilable}
-use Rattle.sheet_write.proofs.Tables.{fresh-table, long-table, table_count, table_inputs}
-use Rattle.sheet_write.proofs.Works.{work_names, work_gates, filed, worked, work-emits}
-
--- ---- the version
-version_low : (p : ℕ) → version_for p < 256
-unfolding version_for
-version_low p = by (ltb p 65536)
-  where
-    by : (x : Bool) → cond x 1 3 < 256
-    by true = omega arith
-    by false = omega arith
+use Rattle.sheet_write.proofs.Tables.{fresh_table, long_table, table_count, table_inputs}
+use Rattle.sheet_write.proofs.Works.{work_names, work_gates, filed, worked, work_emits}
 
 -- ---- counts
 pub up_few : (k : ℕ) → up_to k ≤ 1025
@@ -105,11 +97,11 @@ unfolding sheet_tree tree_of
 read_tree n p s x e i = rw i
 
 pub fresh : (names : List ℕ) → names ≡ replicate 1025 0 → names ≡ table_of 1025 []
-fresh names e = e ∙ fresh-table 1025
+fresh names e = e ∙ fresh_table 1025
 
 module _ (n p : ℕ) (s names none : List ℕ) (x : Option Part) (names' none' : List ℕ) (empty : names ≡ table_of 1025 []) (h : Sheet (sheet_at n p s) p 0 names none x names' none') where
   long : length names' ≡ 1025
-  long = h.long_names ∙ ap length empty ∙ long-table 1025 []
+  long = h.long_names ∙ ap length empty ∙ long_table 1025 []
 
   pub survey_broken : (y : Option Counts) → x ≡ None → y ≡ None → Surveyed n p s y names'
   unfolding SurveyIs
@@ -126,76 +118,75 @@ module _ (n p : ℕ) (s names none : List ℕ) (x : Option Part) (names' none' :
     unfolding names_of
     table_is = from.table ∙ ap (λ (l : List ℕ). (work p from.tree l none 0).names) empty ∙ work_names p 1025 from.tree [] none 0 ∙ ap (λ (x : Tree). table_of 1025 (names_from [] x)) (sym tree_is)
 
-    gates-is : r.gates ≡ up_to (gate_count (sheet_tree n p s))
-    gates-is =
+    gates_is : r.gates ≡ up_to (gate_count (sheet_tree n p s))
+    gates_is =
         let z : up_to 0 ≡ 0 = unfold up_to in refl in
         let y : 0 + gate_count from.tree ≡ gate_count from.tree = omega arith in
         from.gates ∙ ap (λ (k : ℕ). (work p from.tree names none k).gates) (sym z) ∙ work_gates p from.tree names none 0 ∙ ap up_to y
         ∙ ap (λ (x : Tree). up_to (gate_count x)) (sym tree_is)
 
     module _ (k : ℕ) (ek : k ≡ free_or 0 names') where
-      inputs-is : k ≡ up_to (length (names_of (sheet_tree n p s)))
-      inputs-is = ek ∙ ap (free_or 0) table_is ∙ table_count (names_of (sheet_tree n p s))
+      inputs_is : k ≡ up_to (length (names_of (sheet_tree n p s)))
+      inputs_is = ek ∙ ap (free_or 0) table_is ∙ table_count (names_of (sheet_tree n p s))
 
-      pub survey-nameless : k ≡ 0 → Surveyed n p s None names'
+      pub survey_nameless : k ≡ 0 → Surveyed n p s None names'
       unfolding SurveyIs
-      survey-nameless z = record { is = not_ok n p s (sym (up_is (length (names_of (sheet_tree n p s))) (omega (arith, inputs-is))) ∙ sym inputs-is ∙ z); long = long }
+      survey_nameless z = record { is = not_ok n p s (sym (up_is (length (names_of (sheet_tree n p s))) (omega (arith, inputs_is))) ∙ sym inputs_is ∙ z); long = long }
 
-      pub survey-fits : k + r.gates < 18446744073709551616
-      survey-fits = omega (arith, inputs-is, gates-is, up_few (length (names_of (sheet_tree n p s))), up_few (gate_count (sheet_tree n p s)))
+      pub survey_fits : k + r.gates < 18446744073709551616
+      survey_fits = omega (arith, inputs_is, gates_is, up_few (length (names_of (sheet_tree n p s))), up_few (gate_count (sheet_tree n p s)))
 
-      pub survey-counts : (k ≡ 0 → ⊥) → Surveyed n p s (Some (record { inputs = k; gates = k + r.gates })) names'
+      pub survey_counts : (k ≡ 0 → ⊥) → Surveyed n p s (Some (record { inputs = k; gates = k + r.gates })) names'
       unfolding SurveyIs
-      survey-counts z = record {
+      survey_counts z = record {
         is = record {
-          ok = is_ok n p s (λ y. z (omega (arith, inputs-is, up_le (length (names_of (sheet_tree n p s))), y)));
-          inputs_are = inputs-is;
-          gates_are = ap (λ (m : ℕ). k + m) gates-is;
+          ok = is_ok n p s (λ y. z (omega (arith, inputs_is, up_le (length (names_of (sheet_tree n p s))), y)));
+          inputs_are = inputs_is;
+          gates_are = ap (λ (m : ℕ). k + m) gates_is;
           table = table_is;
         };
         long = long;
       }
 
-pub ruleset surveying = (rules, fresh, survey_broken, survey-nameless, survey-fits, survey-counts)
+pub ruleset surveying = (rules, fresh, survey_broken, survey_nameless, survey_fits, survey_counts)
 
 -- ---- the input gates
-pub party-past : (names : List ℕ) (i : ℕ) → length names ≤ i → 0 ≡ (get_or names i 0 - 1) / 256
-party-past names i l = rw (get_or-eq_default names 0 l)
+abbrev input_of : List ℕ → ℕ → Gate
+input_of names i = Input ((get_or names i 0 - 1) / 256)
 
-pub input_put : (names out new : List ℕ) (version i k : ℕ) → k ≡ (get_or names i 0 - 1) / 256 → new ≡ written out (place_in version i) (gate_bytes version (Input k))
-    → new ≡ written out (place_in version i) (gate_bytes version (Input ((get_or names i 0 - 1) / 256)))
-input_put names out new version i k ek e = e ∙ ap (λ (m : ℕ). written out (place_in version i) (gate_bytes version (Input m))) ek
+next_input : (names : List ℕ) (i : ℕ) → inputs_in (i + 1) names ≡ inputs_in i names ++ (input_of names i ∷ [])
+unfolding inputs_in
+next_input names i = tab-next (input_of names) i
 
-pub record Listing (version count : ℕ) (names out₀ : List ℕ) (i : ℕ) (out : List ℕ) : Type 0 where
-  pub within : i ≤ count
+so_many : (names : List ℕ) (i : ℕ) → length (inputs_in i names) ≡ i
+unfolding inputs_in
+so_many names i = length-tab (input_of names) i
+
+pub record Listing (version : ℕ) (names out₀ : List ℕ) (i : ℕ) (out : List ℕ) : Type 0 where
   pub long : length out ≡ length out₀
   pub done : out ≡ written out₀ (place_in version 0) (gates_bytes version (inputs_in i names))
 
-module _ (version count : ℕ) (names out₀ : List ℕ) where
-  pub list_begin : Listing version count names out₀ 0 out₀
+module _ (version : ℕ) (names out₀ : List ℕ) where
+  pub list_begin : Listing version names out₀ 0 out₀
   unfolding inputs_in
-  list_begin = record { within = omega arith; long = refl; done = rw (tab-zero (λ i. Input ((get_or names i 0 - 1) / 256)), none_bytes version) (sym (written_none out₀ (place_in version 0))) }
+  list_begin = record { long = refl; done = rw (tab-zero (input_of names), none_bytes version) (sym (written_none out₀ (place_in version 0))) }
 
-  module _ (i : ℕ) (out : List ℕ) (h : Listing version count names out₀ i out) where
-    pub list_on : (new : List ℕ) → new ≡ written out (place_in version i) (gate_bytes version (Input ((get_or names i 0 - 1) / 256))) → i < count → Listing version count names out₀ (i + 1) new
-    list_on new e l = record {
-      within = omega arith;
-      long = ap length e ∙ length-written out (place_in version i) (gate_bytes version (Input ((get_or names i 0 - 1) / 256))) ∙ h.long;
-      done = unfold inputs_in in rw (tab-next (λ j. Input ((get_or names j 0 - 1) / 256)) i)
-          (gates_then version out₀ out new 0 i (tab (λ j. Input ((get_or names j 0 - 1) / 256)) i) (Input ((get_or names i 0 - 1) / 256) ∷ []) (unfold inputs_in in h.done)
-          (one_put version out new i (Input ((get_or names i 0 - 1) / 256)) e) (omega (arith, length-tab (λ j. Input ((get_or names j 0 - 1) / 256)) i)));
-    }
+  module _ (i : ℕ) (out : List ℕ) (h : Listing version names out₀ i out) where
+    pub list_on : (name k : ℕ) (new : List ℕ) → name ≡ get_or names i 0 → k ≡ (name - 1) / 256 → new ≡ written out (place_in version i) (gate_bytes version (Input k)) → Listing version names out₀ (i + 1) new
+    list_on name k new en ek e =
+        let put : new ≡ written out (place_in version i) (gate_bytes version (input_of names i)) = e ∙ rw (ek, en) in
+        record {
+          long = ap length put ∙ length-written out (place_in version i) (gate_bytes version (input_of names i)) ∙ h.long;
+          done = rw (next_input names i) (gates_then version out₀ out new 0 i (inputs_in i names) (input_of names i ∷ []) h.done (one_put version out new i (input_of names i) put) (omega (arith, so_many names i)));
+        }
 
-    pub list-fits : count ≤ 1024 → i < count → i + 1 < 18446744073709551616
-    list-fits c l = omega arith
+    pub list_long : length out ≡ length out₀
+    list_long = h.long
 
-    pub list-long : length out ≡ length out₀
-    list-long = h.long
+    pub list_end : length names ≤ i → i ≤ length names → out ≡ written out₀ (place_in version 0) (gates_bytes version (inputs_in (length names) names))
+    list_end l m = let e : i ≡ length names = omega arith in rw (← e) h.done
 
-    pub list-end : count ≤ i → out ≡ written out₀ (place_in version 0) (gates_bytes version (inputs_in count names))
-    list-end l = let e : i ≡ count = omega (arith, h.within) in rw (← e) h.done
-
-pub ruleset listing = (rules, party-past, input_put, list_begin, list_on, list-fits, list-long, list-end)
+pub ruleset listing = (rules, list_begin, list_on, list_long, list_end)
 
 -- ---- the end of the file
 pub end_put : (s s1 s2 : List ℕ) (version gates points : ℕ) (x : Output) (ps : List ℕ) → s1 ≡ written s (out_start version gates 0) (out_bytes x)
@@ -210,22 +201,28 @@ module _ (s : List ℕ) (n t p seat inputs gates : ℕ) (names : List ℕ) (h : 
   pub inputs_few : inputs ≤ 1024
   inputs_few = omega (arith, h.inputs_are, h.gates_are, made_long p (sheet_tree n p s), h.few)
 
+  pub inputs_inside : inputs ≤ length names
+  inputs_inside = omega (arith, inputs_few, ap length h.table, long_table 1025 (names_of (sheet_tree n p s)))
+
+  pub first_few : length (take inputs names) ≤ 1024
+  first_few = omega (arith, inputs_few, length-take-le inputs names inputs_inside)
+
   pub low_version : (version : ℕ) → version ≡ version_for p → version < 256
   low_version version ev = rw ev (version_low p)
 
   pub prime_fits : (version : ℕ) → version ≡ version_for p → p < field_limit version
   prime_fits version ev = rw ev (fits_for p (omega (arith, h.small)))
 
-  pub few-parties : n < 256
-  few-parties = omega (arith, h.parties)
+  pub few_parties : n < 256
+  few_parties = omega (arith, h.parties)
 
   no_name : sheet_ok n p s ≡ true → length (names_of (sheet_tree n p s)) ≡ 0 → ⊥
   no_name k e = absurd (let z : ◌≡◌ {A = Bool} true false = sym k ∙ not_ok n p s e in (let y : ◌≡◌ {A = ℕ} 0 1 = cc in omega arith))
 
   module _ (version : ℕ) (ev : version ≡ version_for p) (o o1 o2 : List ℕ) (answer : Option Part) (names' o3 : List ℕ)
-      (put1 : o1 ≡ written o 0 (contents version n t p gates 1)) (put2 : o2 ≡ written o1 (place_in version 0) (gates_bytes version (inputs_in inputs names))) (sheet : Sheet (sheet_at n p s) p inputs names o2 answer names' o3) where
-    pub write-broken : (new : List ℕ) → answer ≡ None → new ≡ file_of_plan n t p (tree_bodies p seat (sheet_tree n p s))
-    write-broken new e = absurd (no_name h.ok (wrong_tree n p s (wrong_read p inputs names o2 (sheet_at n p s) (sym e ∙ sheet.eq))))
+      (put1 : o1 ≡ written o 0 (contents version n t p gates 1)) (put2 : o2 ≡ written o1 (place_in version 0) (gates_bytes version (inputs_in (length (take inputs names)) (take inputs names)))) (sheet : Sheet (sheet_at n p s) p inputs names o2 answer names' o3) where
+    pub write_broken : (new : List ℕ) → answer ≡ None → new ≡ file_of_plan n t p (tree_bodies p seat (sheet_tree n p s))
+    write_broken new e = absurd (no_name h.ok (wrong_tree n p s (wrong_read p inputs names o2 (sheet_at n p s) (sym e ∙ sheet.eq))))
 
     module _ (r : Part) (q : answer ≡ Some r) where
       abbrev x : Tree
@@ -243,44 +240,51 @@ module _ (s : List ℕ) (n t p seat inputs gates : ℕ) (names : List ℕ) (h : 
       few : length ns + gate_count x ≤ 1024
       few = omega (arith, h.gates_are, made_long p x, h.few)
 
-      inputs-filed : o2 ≡ filed p o1 (input_gates ns)
+      first_inputs : inputs_in (length (take inputs names)) (take inputs names) ≡ inputs_in inputs names
+      unfolding inputs_in
+      first_inputs =
+          rw (length-take-le inputs names inputs_inside)
+          (tab-ext (input_of (take inputs names)) (input_of names) inputs (λ i l. ap (λ m. Input ((m - 1) / 256)) (get_or-take inputs names i 0 l)))
+
+      inputs_filed : o2 ≡ filed p o1 (input_gates ns)
       unfolding filed
-      inputs-filed =
-          put2
+      inputs_filed =
+          put2 ∙ ap (λ (gs : List Gate). written o1 (place_in version 0) (gates_bytes version gs)) first_inputs
           ∙ ap₂ (λ (v : ℕ) (gs : List Gate). written o1 (place_in v 0) (gates_bytes v gs)) ev (ap₂ inputs_in h.inputs_are h.table ∙ table_inputs 1025 ns (omega (arith, few)))
 
-      work-is : work p got.tree names o2 inputs ≡ worked p 1025 ns o1 made
+      work_is : work p got.tree names o2 inputs ≡ worked p 1025 ns o1 made
       unfolding tree_made
-      work-is =
+      work_is =
           ap (λ (y : Tree). work p y names o2 inputs) (sym (read_tree n p s got.tree r.at got.is))
           ∙ ap (λ (l : List ℕ). work p x l o2 inputs) h.table
-          ∙ ap₂ (work p x (table_of 1025 ns)) inputs-filed (h.inputs_are ∙ sym (inputs_long ns))
-          ∙ work-emits p 1025 ns o1 (omega (arith, few)) x (input_gates ns) (tree_proper n p x (sheet_below n p s (omega (arith, h.prime)))) (omega (arith, few, inputs_long ns))
+          ∙ ap₂ (work p x (table_of 1025 ns)) inputs_filed (h.inputs_are ∙ sym (inputs_long ns))
+          ∙ work_emits p 1025 ns o1 (omega (arith, few)) x (input_gates ns) (tree_proper n p x (sheet_below n p s (omega (arith, h.prime)))) (omega (arith, few, inputs_long ns))
 
-      gates-put : o3 ≡ written o1 (place_in version 0) (gates_bytes version made.gates)
-      gates-put =
-          got.file ∙ ap (λ (w : Work). w.out) work-is
+      gates_put : o3 ≡ written o1 (place_in version 0) (gates_bytes version made.gates)
+      gates_put =
+          got.file ∙ ap (λ (w : Work). w.out) work_is
           ∙ (unfold worked in unfold filed in ap (λ (v : ℕ). written o1 (place_in v 0) (gates_bytes v made.gates)) (sym ev))
 
-      wire-is : r.wire ≡ made.wire
-      wire-is = got.wire ∙ ap (λ (w : Work). w.wire) work-is ∙ (unfold worked in refl)
+      wire_is : r.wire ≡ made.wire
+      wire_is = got.wire ∙ ap (λ (w : Work). w.wire) work_is ∙ (unfold worked in refl)
 
-      outs-bytes : flat_map out_bytes (record { party = seat; wire = made.wire } ∷ []) ≡ out_bytes (record { party = seat; wire = made.wire })
+      outs_bytes : flat_map out_bytes (record { party = seat; wire = made.wire } ∷ []) ≡ out_bytes (record { party = seat; wire = made.wire })
       unfolding flat_map
-      outs-bytes = append-nil (out_bytes (record { party = seat; wire = made.wire }))
+      outs_bytes = append-nil (out_bytes (record { party = seat; wire = made.wire }))
 
-      pub write-whole : (new : List ℕ) → length o ≡ file_size (version_for p) n gates 1
+      pub write_whole : (new : List ℕ) → length o ≡ file_size (version_for p) n gates 1
           → new ≡ written (written o3 (out_start version gates 0) (out_bytes (record { party = seat; wire = r.wire }))) (out_start version gates 1) (points_bytes version (tab suc n))
           → new ≡ file_of_plan n t p (tree_bodies p seat (sheet_tree n p s))
       unfolding tree_bodies bodies_with file_of_plan plan_with party_count
-      write-whole new room last =
+      write_whole new room last =
           let o4 : List ℕ = written o3 (out_start version gates 0) (out_bytes (record { party = seat; wire = r.wire })) in
           let b : Bodies = record { gates = made.gates; outs = record { party = seat; wire = made.wire } ∷ [] } in
           let head : o1 ≡ written o 0 (contents version (length (tab suc n)) t p (length made.gates) 1) = put1 ∙ rw (length-tab suc n, ← h.gates_are) in
-          let outs : o4 ≡ written o3 (out_start version (length made.gates) 0) (flat_map out_bytes b.outs) = rw (wire-is, outs-bytes, ← h.gates_are) in
+          let outs : o4 ≡ written o3 (out_start version (length made.gates) 0) (flat_map out_bytes b.outs) = rw (wire_is, outs_bytes, ← h.gates_are) in
           let ends : new ≡ written o4 (out_start version (length made.gates) 1) (points_bytes version (tab suc n)) = last ∙ rw (← h.gates_are) in
-          let all : new ≡ written o 0 (file_as version (plan_with n t p b)) = file_put version (plan_with n t p b) o o1 o3 o4 new head gates-put outs ends in
+          let all : new ≡ written o 0 (file_as version (plan_with n t p b)) = file_put version (plan_with n t p b) o o1 o3 o4 new head gates_put outs ends in
           let file : new ≡ written o 0 (file_of_plan n t p b) = all ∙ ap (λ (v : ℕ). written o 0 (file_as v (plan_with n t p b))) ev in
           file ∙ written-whole o (file_of_plan n t p b) (files.made_long n t p b ∙ rw (← h.gates_are) (sym room))
 
-pub ruleset compiling = (rules, inputs_few, low_version, prime_fits, few-parties, write-broken, write-whole)
+-- As it is: answers name this set, since the check leaves their goals open by `using` alone.
+pub ruleset compiling = (rules, inputs_inside, first_few, low_version, prime_fits, few_parties, write_broken, write_whole)

@@ -1,5 +1,5 @@
 -- The table of names.
---     fresh-table, long-table          an empty one, and its length
+--     fresh_table, long_table          an empty one, and its length
 --     table_hold, table_place          a name held, and found
 --     table_count, table_inputs        how many, and their input gates
 -- Assumes nothing.
@@ -8,8 +8,8 @@ use mathlib.Core.Path.{◌≡◌, refl, sym, ap, ◌∙◌}
 use mathlib.Core.Bool.{Bool, true, false, cond}
 use mathlib.Core.List.{List, [], ◌∷◌}
 use native.Mathlib.Omega.{arith}
-use borrow.Author.Tests.{eq-eqb, ne_eqb, eqb-true, eqb-false, leb-true, leb-false}
-use lib.Dec.{eqb, leb}
+use borrow.Author.Tests.{ne_eqb, eqb-true, leb-true, leb-false}
+use lib.Dec.{eqb, leb, eqb-suc-suc}
 use lib.ListN.{length, get_or, set, replicate}
 use Rattle.numbers.proofs.Tables.{is-tab}
 use Rattle.plan.specs.declared.Gate.TheVariants.{Input}
@@ -18,20 +18,16 @@ use Rattle.sheet_text.proofs.Formula.{inputs_long}
 use Rattle.sheet_read.specs.Working.{free_or}
 use Rattle.sheet_write.specs.Passes.{table_of, inputs_in, up_to}
 
-pub fresh-table : (m : ℕ) → replicate m 0 ≡ table_of m []
+pub fresh_table : (m : ℕ) → replicate m 0 ≡ table_of m []
 unfolding table_of
-fresh-table zero = refl
-fresh-table (suc m) = ap (λ (l : List ℕ). 0 ∷ l) (fresh-table m)
+fresh_table zero = refl
+fresh_table (suc m) = ap (λ (l : List ℕ). 0 ∷ l) (fresh_table m)
 
-pub long-table : (m : ℕ) (ns : List ℕ) → length (table_of m ns) ≡ m
+pub long_table : (m : ℕ) (ns : List ℕ) → length (table_of m ns) ≡ m
 unfolding table_of
-long-table zero ns = refl
-long-table (suc m) [] = ap suc (long-table m [])
-long-table (suc m) (x ∷ ns) = ap suc (long-table m ns)
-
-suc-eqb : (x y : ℕ) (t : Bool) → eqb x y ≡ t → eqb (suc x) (suc y) ≡ t
-suc-eqb x y true e = eq-eqb (suc x) (suc y) (ap suc (eqb-true x y e))
-suc-eqb x y false e = ne_eqb (suc x) (suc y) (λ q. eqb-false x y e (omega (arith, q)))
+long_table zero ns = refl
+long_table (suc m) [] = ap suc (long_table m [])
+long_table (suc m) (x ∷ ns) = ap suc (long_table m ns)
 
 -- a name held in the table is a name with which the list goes on
 pub table_hold : (m x : ℕ) (ns : List ℕ) → set (table_of m ns) (free_or (suc x) (table_of m ns)) (suc x) ≡ table_of m (with_name x ns)
@@ -42,8 +38,8 @@ table_hold (suc m) x (y ∷ ns) = by (eqb y x) refl (table_hold m x ns)
   where
     by : (t : Bool) → eqb y x ≡ t → set (table_of m ns) (free_or (suc x) (table_of m ns)) (suc x) ≡ table_of m (with_name x ns)
         → set (suc y ∷ table_of m ns) (cond (eqb (suc y) (suc x)) 0 (cond (eqb (suc y) 0) 0 (suc (free_or (suc x) (table_of m ns))))) (suc x) ≡ suc y ∷ table_of m (cond t ns (with_name x ns))
-    by true e h = rw (suc-eqb y x true e) (ap (λ (k : ℕ). suc k ∷ table_of m ns) (sym (eqb-true y x e)))
-    by false e h = rw (suc-eqb y x false e, ne_eqb (suc y) 0 (λ q. omega (arith, q))) (ap (λ (l : List ℕ). suc y ∷ l) h)
+    by true e h = rw (eqb-suc-suc y x, e) (ap (λ (k : ℕ). suc k ∷ table_of m ns) (sym (eqb-true y x e)))
+    by false e h = rw (eqb-suc-suc y x, e, ne_eqb (suc y) 0 (λ q. omega (arith, q))) (ap (λ (l : List ℕ). suc y ∷ l) h)
 
 -- a name that is there is found, and holding it changes nothing
 pub table_place : (m x : ℕ) (ns : List ℕ) → name_index x ns < length ns → length ns ≤ m → free_or (suc x) (table_of m ns) ≡ name_index x ns
@@ -54,8 +50,8 @@ table_place (suc m) x (y ∷ ns) h l = by (eqb y x) refl h (λ i. table_place m 
   where
     by : (t : Bool) → eqb y x ≡ t → cond t 0 (suc (name_index x ns)) < suc (length ns) → (name_index x ns < length ns → free_or (suc x) (table_of m ns) ≡ name_index x ns)
         → cond (eqb (suc y) (suc x)) 0 (cond (eqb (suc y) 0) 0 (suc (free_or (suc x) (table_of m ns)))) ≡ cond t 0 (suc (name_index x ns))
-    by true e i f = rw (suc-eqb y x true e)
-    by false e i f = rw (suc-eqb y x false e, ne_eqb (suc y) 0 (λ q. omega (arith, q))) (ap suc (f (omega arith)))
+    by true e i f = rw (eqb-suc-suc y x, e)
+    by false e i f = rw (eqb-suc-suc y x, e, ne_eqb (suc y) 0 (λ q. omega (arith, q))) (ap suc (f (omega arith)))
 
 pub with_same : (x : ℕ) (ns : List ℕ) → name_index x ns < length ns → with_name x ns ≡ ns
 unfolding name_index with_name

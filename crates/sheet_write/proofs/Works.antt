@@ -1,6 +1,6 @@
 -- A tree worked through as the readers do it makes the names and the gates of the definition.
 --     work_names, work_gates     the first pass: the table of names, and the count
---     work-emits                 the second pass: the gates, after those that the file has
+--     work_emits                 the second pass: the gates, after those that the file has
 -- Assumes nothing.
 use Prim.Native.Nat.{ℕ, suc, ◌+◌, ◌-◌, ◌<◌, ◌≤◌}
 use mathlib.Core.Path.{◌≡◌, refl, sym, ap, ◌∙◌}
@@ -81,9 +81,9 @@ filed p o gs = written o (place_in (version_for p) 0) (gates_bytes (version_for 
 one_long : (gs : List Gate) (g : Gate) → length (gs ++ (g ∷ [])) ≡ suc (length gs)
 one_long gs g = length-append gs (g ∷ []) ∙ omega arith
 
-file-one : (p : ℕ) (o : List ℕ) (gs : List Gate) (x : Gate) → put_gate p (filed p o gs) (length gs) x ≡ filed p o (gs ++ (x ∷ []))
+file_one : (p : ℕ) (o : List ℕ) (gs : List Gate) (x : Gate) → put_gate p (filed p o gs) (length gs) x ≡ filed p o (gs ++ (x ∷ []))
 unfolding put_gate filed
-file-one p o gs x =
+file_one p o gs x =
     gates_then (version_for p) o (written o (place_in (version_for p) 0) (gates_bytes (version_for p) gs)) _ 0 (length gs) gs (x ∷ []) refl
     (one_put (version_for p) (written o (place_in (version_for p) 0) (gates_bytes (version_for p) gs)) _ (length gs) x refl) (omega arith)
 
@@ -97,34 +97,34 @@ worked p m ns o e = record { names = table_of m ns; out = filed p o e.gates; gat
 
 module _ (p m : ℕ) (ns o : List ℕ) (room : length ns ≤ m) where
   -- two sides joined by one gate
-  join-plus : (l : ℕ) (r : Emitted) → length r.gates < 1025 → join_by operator.Plus p l (worked p m ns o r) ≡ worked p m ns o (ending r.gates (Add l r.wire))
+  join_plus : (l : ℕ) (r : Emitted) → length r.gates < 1025 → join_by operator.Plus p l (worked p m ns o r) ≡ worked p m ns o (ending r.gates (Add l r.wire))
   unfolding join_by join_out join_wire worked ending
-  join-plus l r s = rw (file-one p o r.gates (Add l r.wire), next_one r.gates (Add l r.wire) (omega (arith, one_long r.gates (Add l r.wire))))
+  join_plus l r s = rw (file_one p o r.gates (Add l r.wire), next_one r.gates (Add l r.wire) (omega (arith, one_long r.gates (Add l r.wire))))
 
-  join-times : (l : ℕ) (r : Emitted) → length r.gates < 1025 → join_by operator.Times p l (worked p m ns o r) ≡ worked p m ns o (ending r.gates (Multiply l r.wire))
+  join_times : (l : ℕ) (r : Emitted) → length r.gates < 1025 → join_by operator.Times p l (worked p m ns o r) ≡ worked p m ns o (ending r.gates (Multiply l r.wire))
   unfolding join_by join_out join_wire worked ending
-  join-times l r s = rw (file-one p o r.gates (Multiply l r.wire), next_one r.gates (Multiply l r.wire) (omega (arith, one_long r.gates (Multiply l r.wire))))
+  join_times l r s = rw (file_one p o r.gates (Multiply l r.wire), next_one r.gates (Multiply l r.wire) (omega (arith, one_long r.gates (Multiply l r.wire))))
 
-  join-minus : (l : ℕ) (r : Emitted) → length r.gates < 1024
+  join_minus : (l : ℕ) (r : Emitted) → length r.gates < 1024
       → join_by operator.Minus p l (worked p m ns o r) ≡ worked p m ns o (ending (r.gates ++ (Scale r.wire (p - 1) ∷ [])) (Add l (length r.gates)))
   unfolding join_by join_out join_wire worked ending
-  join-minus l r s =
+  join_minus l r s =
       let neg : Gate = Scale r.wire (p - 1) in
       let k = one_long r.gates neg in
       let j = one_long (r.gates ++ (neg ∷ [])) (Add l (length r.gates)) in
-      rw (next_one r.gates neg (omega (arith, k)), file-one p o r.gates neg, file-one p o (r.gates ++ (neg ∷ [])) (Add l (length r.gates)), next_one (r.gates ++ (neg ∷ [])) (Add l (length r.gates)) (omega (arith, k, j)))
+      rw (next_one r.gates neg (omega (arith, k)), file_one p o r.gates neg, file_one p o (r.gates ++ (neg ∷ [])) (Add l (length r.gates)), next_one (r.gates ++ (neg ∷ [])) (Add l (length r.gates)) (omega (arith, k, j)))
 
-  number-work : (v : ℕ) (gs : List Gate) → length gs < 1024 → work p (Tree.Number v) (table_of m ns) (filed p o gs) (length gs) ≡ worked p m ns o (emit_number gs v)
+  number_work : (v : ℕ) (gs : List Gate) → length gs < 1024 → work p (Tree.Number v) (table_of m ns) (filed p o gs) (length gs) ≡ worked p m ns o (emit_number gs v)
   unfolding work number_out worked emit_number ending
-  number-work v gs s =
+  number_work v gs s =
       let nought : Gate = Scale 0 0 in
       let k = one_long gs nought in
       let j = one_long (gs ++ (nought ∷ [])) (Offset (length gs) v) in
-      rw (next_one gs nought (omega (arith, k)), file-one p o gs nought, file-one p o (gs ++ (nought ∷ [])) (Offset (length gs) v), next_one (gs ++ (nought ∷ [])) (Offset (length gs) v) (omega (arith, k, j)))
+      rw (next_one gs nought (omega (arith, k)), file_one p o gs nought, file_one p o (gs ++ (nought ∷ [])) (Offset (length gs) v), next_one (gs ++ (nought ∷ [])) (Offset (length gs) v) (omega (arith, k, j)))
 
-  name-work : (x : ℕ) (gs : List Gate) → name_index x ns < length ns → work p (Tree.Name x) (table_of m ns) (filed p o gs) (length gs) ≡ worked p m ns o (record { gates = gs; wire = name_index x ns })
+  name_work : (x : ℕ) (gs : List Gate) → name_index x ns < length ns → work p (Tree.Name x) (table_of m ns) (filed p o gs) (length gs) ≡ worked p m ns o (record { gates = gs; wire = name_index x ns })
   unfolding work worked
-  name-work x gs h = rw (table_hold m x ns, with_same x ns h, table_place m x ns h room)
+  name_work x gs h = rw (table_hold m x ns, with_same x ns h, table_place m x ns h room)
 
   -- two sides, each worked as it is emitted
   sides : (c : Operator) (l r : Tree) (gs : List Gate) → work p l (table_of m ns) (filed p o gs) (length gs) ≡ worked p m ns o (emit p ns l gs)
@@ -133,22 +133,22 @@ module _ (p m : ℕ) (ns o : List ℕ) (room : length ns ≤ m) where
   unfolding after_left worked
   sides c l r gs a b = rw a (ap (join_by c p (emit p ns l gs).wire) b)
 
-  pub work-emits : (x : Tree) (gs : List Gate) → Proper p ns x → length gs + gate_count x ≤ 1024 → work p x (table_of m ns) (filed p o gs) (length gs) ≡ worked p m ns o (emit p ns x gs)
+  pub work_emits : (x : Tree) (gs : List Gate) → Proper p ns x → length gs + gate_count x ≤ 1024 → work p x (table_of m ns) (filed p o gs) (length gs) ≡ worked p m ns o (emit p ns x gs)
   unfolding work emit right_after emit_plus emit_times emit_minus Proper gate_count
-  work-emits (Tree.Number v) gs h s = number-work v gs (omega arith)
-  work-emits (Tree.Name x) gs h s = name-work x gs h
-  work-emits (Tree.Plus l r) gs h s =
+  work_emits (Tree.Number v) gs h s = number_work v gs (omega arith)
+  work_emits (Tree.Name x) gs h s = name_work x gs h
+  work_emits (Tree.Plus l r) gs h s =
       let a = emit_long p ns l gs in
       let b = emit_long p ns r (emit p ns l gs).gates in
-      sides operator.Plus l r gs (work-emits l gs h.0 (omega arith)) (work-emits r (emit p ns l gs).gates h.1 (omega (arith, a)))
-      ∙ join-plus (emit p ns l gs).wire (emit p ns r (emit p ns l gs).gates) (omega (arith, a, b))
-  work-emits (Tree.Times l r) gs h s =
+      sides operator.Plus l r gs (work_emits l gs h.0 (omega arith)) (work_emits r (emit p ns l gs).gates h.1 (omega (arith, a)))
+      ∙ join_plus (emit p ns l gs).wire (emit p ns r (emit p ns l gs).gates) (omega (arith, a, b))
+  work_emits (Tree.Times l r) gs h s =
       let a = emit_long p ns l gs in
       let b = emit_long p ns r (emit p ns l gs).gates in
-      sides operator.Times l r gs (work-emits l gs h.0 (omega arith)) (work-emits r (emit p ns l gs).gates h.1 (omega (arith, a)))
-      ∙ join-times (emit p ns l gs).wire (emit p ns r (emit p ns l gs).gates) (omega (arith, a, b))
-  work-emits (Tree.Minus l r) gs h s =
+      sides operator.Times l r gs (work_emits l gs h.0 (omega arith)) (work_emits r (emit p ns l gs).gates h.1 (omega (arith, a)))
+      ∙ join_times (emit p ns l gs).wire (emit p ns r (emit p ns l gs).gates) (omega (arith, a, b))
+  work_emits (Tree.Minus l r) gs h s =
       let a = emit_long p ns l gs in
       let b = emit_long p ns r (emit p ns l gs).gates in
-      sides operator.Minus l r gs (work-emits l gs h.0 (omega arith)) (work-emits r (emit p ns l gs).gates h.1 (omega (arith, a)))
-      ∙ join-minus (emit p ns l gs).wire (emit p ns r (emit p ns l gs).gates) (omega (arith, a, b))
+      sides operator.Minus l r gs (work_emits l gs h.0 (omega arith)) (work_emits r (emit p ns l gs).gates h.1 (omega (arith, a)))
+      ∙ join_minus (emit p ns l gs).wire (emit p ns r (emit p ns l gs).gates) (omega (arith, a, b))

@@ -61,7 +61,7 @@ impl Sheet<'_> {
         let version = plan_file::version_for(p);
         let Counts { inputs, gates } = counts;
         plan_file::put_contents(out, version, n, t, p, gates, 1);
-        put_inputs(names, inputs, version, out);
+        put_inputs(&names[..inputs], version, out);
         let Some(part) = sheet_read::read_sheet(text, n, p, inputs, names, out) else {
             return;
         };
@@ -69,34 +69,14 @@ impl Sheet<'_> {
     }
 }
 
-// The party of a name in the table.
+// The input gates, one for each name.
 #[tactic(auto, using(crate::proofs::Passing::listing))]
-fn party_at(names: &[usize], i: usize) -> usize
-    ensures { result ≡ (get_or names.now i 0 - 1) / 256 }
+fn put_inputs(names: &[usize], version: usize, out: &mut [u8])
+    requires { length names.now ≤ 1024 }
+    ensures { out.new ≡ written out.old (place_in version 0) (gates_bytes version (inputs_in (length names.now) names.now)) }
 {
-    if i < names.len() {
-        names[i].saturating_sub(1) / 256
-    } else {
-        0
-    }
-}
-
-// The input gate of a name in the table.
-#[tactic(auto, using(crate::proofs::Passing::listing))]
-fn put_input(names: &[usize], i: usize, version: usize, out: &mut [u8])
-    ensures { out.new ≡ written out.old (place_in version i) (gate_bytes version (Input ((get_or names.now i 0 - 1) / 256))) }
-{
-    plan_file::put_gate(out, version, i, Gate::Input(party_at(names, i)));
-}
-
-// The input gates, one for each of so many names.
-#[tactic(auto, using(crate::proofs::Passing::listing))]
-fn put_inputs(names: &[usize], count: usize, version: usize, out: &mut [u8])
-    requires { count ≤ 1024 }
-    ensures { out.new ≡ written out.old (place_in version 0) (gates_bytes version (inputs_in count names.now)) }
-{
-    for i in 0..count {
-        put_input(names, i, version, out);
+    for (i, name) in names.iter().enumerate() {
+        plan_file::put_gate(out, version, i, Gate::Input(name.saturating_sub(1) / 256));
     }
 }
 

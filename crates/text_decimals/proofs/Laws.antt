@@ -1,4 +1,5 @@
 -- Blanks and decimal numbers: what the loops keep, and where the readers stop.
+--     inside_of     a byte that isn't 0 stands in the text
 -- Assumes nothing.
 use Rattle.std.proofs.Common.{Option, Some, None}
 use Prim.Native.Nat.{ℕ, zero, suc, ◌+◌, ◌-◌, ◌*◌, ◌<◌, ◌≤◌, max}
@@ -57,14 +58,6 @@ count_begin limit s at = record { small = omega arith; rest = refl }
 digit_range : (b : ℕ) → is_digit b ≡ true → (48 ≤ b) × (b ≤ 57)
 unfolding is_digit
 digit_range b e = let h = both_true (leb 48 b) (leb b 57) e in (leb-true 48 b h.0, leb-true b 57 h.1)
-
-pub digit_low : (b : ℕ) → b < 48 → leb 48 b ≡ is_digit b
-unfolding is_digit
-digit_low b l = rw (lt-leb 48 b l)
-
-pub digit_is : (b : ℕ) → 48 ≤ b → leb b 57 ≡ is_digit b
-unfolding is_digit
-digit_is b l = rw (le-leb 48 b l)
 
 no_digit : {A : Type 0} (b : ℕ) (x y : A) → is_digit b ≡ false → cond (ltb b 48) x (cond (ltb 57 b) x y) ≡ x
 unfolding is_digit
@@ -133,28 +126,15 @@ later (suc m) limit s at v l h =
     split_later s limit at v w (digits_from m limit s (suc (suc at)) w) (ltb (get_or s (suc at) 0) 48) (ltb 57 (get_or s (suc at) 0)) (leb limit w)
     (omega arith) h (λ e. later m limit s (suc at) w (omega arith) (leb-false limit w e))
 
--- ---- a digit
-digit_inside : (s : List ℕ) (at b : ℕ) → b ≡ get_or s at 0 → 48 ≤ b → at < length s
-digit_inside s at b e d = by (ltb at (length s)) refl
+-- ---- a byte that isn't 0 stands in the text
+pub inside_of : (s : List ℕ) (at b : ℕ) → b ≡ get_or s at 0 → 0 < b → at < length s
+inside_of s at b e d = by (ltb at (length s)) refl
   where
     by : (x : Bool) → ltb at (length s) ≡ x → at < length s
     by true h = ltb-true at (length s) h
     by false h = absurd (omega (arith, e, byte-none s at (ltb-false at (length s) h)))
 
 -- ---- a 0
-module _ (limit : ℕ) (s : List ℕ) (at : ℕ) where
-  pub zero_more : (b : ℕ) (d : Bool) → b ≡ get_or s (at + 1) 0 → d ≡ is_digit b → d ≡ true → None ≡ zero_at limit s at
-  unfolding zero_at
-  zero_more b d e i t = rw (← add-one at, ← e, ← i, t)
-
-  pub zero-none : (b : ℕ) (d : Bool) → b ≡ get_or s (at + 1) 0 → d ≡ is_digit b → d ≡ false → limit ≡ 0 → None ≡ zero_at limit s at
-  unfolding zero_at
-  zero-none b d e i t z = rw (← add-one at, ← e, ← i, t, eq-eqb limit 0 z)
-
-  pub zero_is : (b : ℕ) (d : Bool) → b ≡ get_or s (at + 1) 0 → d ≡ is_digit b → d ≡ false → (limit ≡ 0 → ⊥) → Some (0, (at + 1)) ≡ zero_at limit s at
-  unfolding zero_at
-  zero_is b d e i t z = rw (← add-one at, ← e, ← i, t, ne_eqb limit 0 z)
-
 zero_split : (s : List ℕ) (limit at : ℕ) (x y : Bool) → at < length s → eqb limit 0 ≡ y → Ahead s at limit (cond x None (cond y None (Some (0, (suc at)))))
 unfolding Ahead
 zero_split s limit at true y l e = tt
@@ -168,21 +148,36 @@ zero_split s limit at false false l e =
 
 -- ---- the number at a place
 module _ (s : List ℕ) (at limit b : ℕ) (is : b ≡ get_or s at 0) where
-  pub zero_inside : b ≡ 48 → at < length s
-  zero_inside e = digit_inside s at b is (omega arith)
-
-  pub number_zero : (r : Option (ℕ × ℕ)) → b ≡ 48 → r ≡ zero_at limit s at → Placed s at limit (decimal_at limit s at) r
+  zero_ahead : (r : Option (ℕ × ℕ)) → b ≡ 48 → r ≡ zero_at limit s at → Placed s at limit (decimal_at limit s at) r
   unfolding decimal_at zero_at is_digit
-  number_zero r e q =
+  zero_ahead r e q =
       let k : get_or s at 0 ≡ 48 = sym is ∙ e in
       record {
         eq = rw k q;
-        ahead = rw q (zero_split s limit at (is_digit (get_or s (suc at) 0)) (eqb limit 0) (zero_inside e) refl);
+        ahead = rw q (zero_split s limit at (is_digit (get_or s (suc at) 0)) (eqb limit 0) (inside_of s at b is (omega arith)) refl);
       }
+
+  pub zero_unlimited : b ≡ 48 → limit ≡ 0 → Placed s at limit (decimal_at limit s at) None
+  unfolding zero_at
+  zero_unlimited e z = zero_ahead None e (rw (eq-eqb limit 0 z) (sym (neither (is_digit (get_or s (suc at) 0)))))
+    where
+      neither : (x : Bool) → cond {A = Option (ℕ × ℕ)} x None None ≡ None
+      neither true = refl
+      neither false = refl
+
+  -- the byte after the 0
+  module _ (c : ℕ) (d : Bool) (e : b ≡ 48) (next : c ≡ get_or s (at + 1) 0) (i : d ≡ is_digit c) where
+    pub zero_more : d ≡ true → Placed s at limit (decimal_at limit s at) None
+    unfolding zero_at
+    zero_more t = zero_ahead None e (rw (← add-one at, ← next, ← i, t))
+
+    pub zero_is : d ≡ false → (limit ≡ 0 → ⊥) → Placed s at limit (decimal_at limit s at) (Some (0, at + 1))
+    unfolding zero_at
+    zero_is t z = zero_ahead (Some (0, at + 1)) e (rw (← add-one at, ← next, ← i, t, ne_eqb limit 0 z))
 
   module _ (d : Bool) (q : d ≡ is_digit b) where
     pub number_inside : d ≡ true → at < length s
-    number_inside t = digit_inside s at b is (digit_range b (sym q ∙ t)).0
+    number_inside t = inside_of s at b is (omega (arith, (digit_range b (sym q ∙ t)).0))
 
     digits_ahead : d ≡ true → (c : ℕ) → get_or s at 0 ≡ c → 48 ≤ c → c ≤ 57 → Ahead s at limit (digits_at limit s at)
     unfolding digits_at digits_from Ahead
@@ -210,6 +205,7 @@ module _ (s : List ℕ) (at limit b : ℕ) (is : b ≡ get_or s at 0) where
     unfolding decimal_at Ahead
     number_none t = let e : is_digit (get_or s at 0) ≡ false = ap is_digit (sym is) ∙ (sym q ∙ t) in record { eq = rw e; ahead = tt }
 
-pub ruleset reading = (rules, skip_begin, skip_stop, skip_on, skip_end, count_begin, count_stop, count_over, count_on, count_from, count_end, digit_low, digit_is, zero_more, zero-none, zero_is)
+pub ruleset reading = (rules, skip_begin, skip_stop, skip_on, skip_end, count_begin, count_stop, count_over, count_on, count_from, count_end)
 
-pub ruleset placing = (rules, zero_inside, number_zero, number_inside, number_digits, number_none)
+-- As it is: answers name this set, since the check leaves their goals open by `using` alone.
+pub ruleset placing = (rules, zero_unlimited, zero_more, zero_is, number_inside, number_digits, number_none)

@@ -1,5 +1,5 @@
-use Rattle.charge_parts.proofs.Loops.{Seeking}
+use Rattle.charge_parts.proofs.Loops.{rests_in, Seeking}
 use Rattle.charge_parts.proofs.greatest.Given as goal
 
 abbrev pub invariant-loop-i : goal.invariant-loop-i
-invariant-loop-i l = Seeking l.rests l.b l.i
+invariant-loop-i l = Seeking (rests_in l.portions) l.b l.i

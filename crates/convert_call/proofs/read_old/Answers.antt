@@ -1,11 +1,10 @@
-use Rattle.std.proofs.lemmas.Result.{err_from_is_err_and}
+use Rattle.plan.proofs.Handed.{handed_on}
 use Rattle.convert_call.proofs.Reading.{old-refused, old-passes}
 use Rattle.convert_call.proofs.read_old.Goals as goal
 
 pub returns-in_err-plan-clause-refused : goal.returns-in_err-plan-clause-refused
 returns-in_err-plan-clause-refused c =
-    let p = err_from_is_err_and c.from_residual.result c.from_residual.ensures.1 in
-    rw (p.1, p.2) (old-refused _ _ c.is_third.ensures _ c.if-is_third.false c.in_err-plan.ensures.refused)
+    rw (handed_on _ _ c.from_residual.ensures.1) (old-refused _ _ c.is_third.ensures _ c.if-is_third.false c.in_err-plan.ensures.refused)
 
 pub returns-clause-passed : goal.returns-clause-passed
 returns-clause-passed c = old-passes _ _ c.is_third.ensures _ _ c.if-is_third.false c.in_ok-plan.plan.planned c.in_ok-plan.ensures.passed

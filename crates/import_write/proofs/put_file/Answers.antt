@@ -1,4 +1,4 @@
-use Rattle.import_write.proofs.Whole.{filing}
+use Rattle.import_write.proofs.Whole.{filing, file_written}
 use Rattle.import_write.proofs.put_file.Goals as goal
 
 pub put_contents-requires : goal.put_contents-requires
@@ -17,4 +17,6 @@ pub out_start-points-requires : goal.out_start-points-requires
 out_start-points-requires c = search filing
 
 pub returns : goal.returns
-returns c = search filing
+returns c =
+    file_written _ _ _ _ _ _ _ c.requires _ c.version_for-version.ensures _ _ _ _ _ _ _ c.put_contents.ensures (c.put_all.ensures.held, c.put_all.ensures.out) c.put_outs.ensures
+    c.out_start-points.ensures c.put_first_points.ensures

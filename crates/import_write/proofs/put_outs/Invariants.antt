@@ -2,4 +2,4 @@ use Rattle.import_write.proofs.Bytes.{Outing}
 use Rattle.import_write.proofs.put_outs.Given as goal
 
 abbrev pub invariant-loop-o : goal.invariant-loop-o
-invariant-loop-o l = Outing l.version l.gates l.held l.w l.count l.initial.out l.o l.out
+invariant-loop-o l = Outing l.version l.gates l.wires l.initial.out l.o l.out

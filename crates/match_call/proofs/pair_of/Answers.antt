@@ -1,10 +1,10 @@
-use Rattle.std.proofs.lemmas.Result.{err_from_is_err_and}
+use Rattle.plan.proofs.Handed.{handed_on}
 use Rattle.match_call.proofs.PairLaws.{pairing_up}
 use Rattle.match_call.proofs.pair_of.Goals as goal
 
 pub returns-in_err-check-clause-answer : goal.returns-in_err-check-clause-answer
 returns-in_err-check-clause-answer c =
-    let p = err_from_is_err_and c.from_residual.result c.from_residual.ensures.1 in rw (p.1, p.2) (search (pairing_up, c.in_err-check.was))
+    rw (handed_on _ _ c.from_residual.ensures.1) (search (pairing_up, c.in_err-check.was))
 
 pub returns-in_err-check-clause-coins : goal.returns-in_err-check-clause-coins
 returns-in_err-check-clause-coins c = search (pairing_up, c.in_err-check.was)

@@ -3,7 +3,4 @@ use Rattle.plan_reading.proofs.Reading.{gates}
 use Rattle.plan_reading.proofs.first_bad_gate.Goals as goal
 
 pub returns : goal.returns
-returns c = rw (← c.field-2.ensures.eq) (c.first_failing.ensures (gate_kept c.args.plan.now) (λ i t l q. search gates))
-
-pub first_failing-requires : goal.first_failing-requires
-first_failing-requires c = search gates
+returns c = rw (← c.new-gates.ensures.count) (c.first_failing.ensures (gate_kept c.args.plan.now) (λ i t l q. search gates))

@@ -1,9 +1,9 @@
-use Rattle.std.proofs.lemmas.Result.{err_from_is_err_and}
+use Rattle.plan.proofs.Handed.{handed_on}
 use Rattle.record_read.proofs.Readers.{reading_seat}
 use Rattle.record_read.proofs.read_seat_on.Goals as goal
 
 pub returns-in_err-check_seat-clause-answer : goal.returns-in_err-check_seat-clause-answer
-returns-in_err-check_seat-clause-answer c = let p = err_from_is_err_and c.from_residual.result c.from_residual.ensures.1 in rw (p.1, p.2) (search (reading_seat, c.in_err-check_seat.was))
+returns-in_err-check_seat-clause-answer c = rw (handed_on _ _ c.from_residual.ensures.1) (search (reading_seat, c.in_err-check_seat.was))
 
 pub returns-in_err-check_seat-clause-out : goal.returns-in_err-check_seat-clause-out
 returns-in_err-check_seat-clause-out c = search (reading_seat, c.in_err-check_seat.was)

@@ -1,9 +1,9 @@
-use Rattle.std.proofs.lemmas.Result.{err_from_is_err_and}
+use Rattle.plan.proofs.Handed.{handed_on}
 use Rattle.record_write.proofs.Recording.{recording}
 use Rattle.record_write.proofs.record_on.Goals as goal
 
 pub returns-in_err-check_given-clause-answer : goal.returns-in_err-check_given-clause-answer
-returns-in_err-check_given-clause-answer c = let p = err_from_is_err_and c.from_residual.result c.from_residual.ensures.1 in rw (p.1, p.2) (search (recording, c.in_err-check_given.was))
+returns-in_err-check_given-clause-answer c = rw (handed_on _ _ c.from_residual.ensures.1) (search (recording, c.in_err-check_given.was))
 
 pub returns-in_err-check_given-clause-out : goal.returns-in_err-check_given-clause-out
 returns-in_err-check_given-clause-out c = search (recording, c.in_err-check_given.was)

@@ -1,5 +1,5 @@
 use Rattle.std.proofs.Common.{inl, inr}
-use Rattle.std.proofs.lemmas.Result.{err_from_is_err_and}
+use Rattle.plan.proofs.Handed.{handed_on}
 use Rattle.seat_admission.proofs.CheckLaws.{owning, own-outside}
 use Rattle.seat_admission.proofs.check_own.Goals.{then-seat-lt1-via-then-seat-lt1, then-seat-lt1-via-else-seat-lt1+then-h-seat}
 use Rattle.seat_admission.proofs.check_own.Goals as goal
@@ -11,7 +11,7 @@ returns-then-seat-lt1 c = elim c.then-seat-lt1.branch [
 ]
 
 pub returns-in_err-check_inputs : goal.returns-in_err-check_inputs
-returns-in_err-check_inputs c = let p = err_from_is_err_and c.from_residual.result c.from_residual.ensures.1 in rw (p.1, p.2) (search (owning, c.in_err-check_inputs.was))
+returns-in_err-check_inputs c = rw (handed_on _ _ c.from_residual.ensures.1) (search (owning, c.in_err-check_inputs.was))
 
 pub returns : goal.returns
 returns c = search (owning, c.in_ok-check_inputs.was)

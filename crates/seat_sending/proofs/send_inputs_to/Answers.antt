@@ -12,3 +12,6 @@ loop-g-preserved c = search inputting
 
 pub returns : goal.returns
 returns c = search inputting
+
+pub loop-g-preserved-then-not-is_input_of : goal.loop-g-preserved-then-not-is_input_of
+loop-g-preserved-then-not-is_input_of c = search inputting

@@ -9,3 +9,6 @@ loop-o-preserved c = search outing
 
 pub returns : goal.returns
 returns c = search outing
+
+pub loop-o-preserved-then-party-output : goal.loop-o-preserved-then-party-output
+loop-o-preserved-then-party-output c = search outing

@@ -7,8 +7,5 @@ returns-then-t-seat c = search product_sending
 pub coins_below-requires : goal.coins_below-requires
 coins_below-requires c = search product_sending
 
-pub send-requires-clause-points_value : goal.send-requires-clause-points_value
-send-requires-clause-points_value c = search product_sending
-
 pub send-requires-clause-out_len : goal.send-requires-clause-out_len
 send-requires-clause-out_len c = search product_sending

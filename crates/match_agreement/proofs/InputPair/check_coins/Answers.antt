@@ -1,5 +1,6 @@
+use Rattle.plan.proofs.Handed.{handed_on}
 use Rattle.match_agreement.proofs.AgreeLaws.{coining}
 use Rattle.match_agreement.proofs.InputPair.check_coins.Goals as goal
 
-pub returns-then-not-count_is : goal.returns-then-not-count_is
-returns-then-not-count_is c = search coining
+pub returns-in_err-check_coins : goal.returns-in_err-check_coins
+returns-in_err-check_coins c = rw (handed_on _ _ c.from_residual.ensures.1) (search (coining, c.in_err-check_coins.was))

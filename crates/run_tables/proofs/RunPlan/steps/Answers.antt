@@ -4,9 +4,6 @@ use Rattle.run_tables.proofs.RunPlan.steps.Goals as goal
 pub loop-g-init : goal.loop-g-init
 loop-g-init c = search filling_table
 
-pub step-requires-clause-inputs_value : goal.step-requires-clause-inputs_value
-step-requires-clause-inputs_value c = search filling_table
-
 pub step-requires-clause-taking : goal.step-requires-clause-taking
 step-requires-clause-taking c = search filling_table
 

@@ -6,3 +6,6 @@ loop-g-init c = search learning_own
 
 pub loop-g-preserved : goal.loop-g-preserved
 loop-g-preserved c = search learning_own
+
+pub returns : goal.returns
+returns c = search learning_own

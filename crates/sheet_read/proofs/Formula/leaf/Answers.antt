@@ -1,9 +1,6 @@
 use Rattle.sheet_read.proofs.Leaves.{leaving}
 use Rattle.sheet_read.proofs.Formula.leaf.Goals as goal
 
-pub name-requires : goal.name-requires
-name-requires c = search leaving
-
 pub returns-then-is_letter : goal.returns-then-is_letter
 returns-then-is_letter c = search leaving
 

@@ -12,3 +12,9 @@ returns-in_default c = search compiling
 
 pub returns : goal.returns
 returns c = search compiling
+
+pub slice_bounds-put_inputs-end : goal.slice_bounds-put_inputs-end
+slice_bounds-put_inputs-end c = search compiling
+
+pub slice_bounds-put_inputs-end-2 : goal.slice_bounds-put_inputs-end-2
+slice_bounds-put_inputs-end-2 c = search compiling

@@ -1,5 +1,0 @@
-use Rattle.import_call.proofs.Calls.{majorities}
-use Rattle.import_call.proofs.check_majority.Goals as goal
-
-pub returns : goal.returns
-returns c = search majorities

@@ -1,8 +1,0 @@
-use Prim.Native.Nat.{◌+◌, ◌*◌}
-use lib.ListN.{get_or}
-use Rattle.field.specs.Mod.{mul}
-use Rattle.run_dealings.proofs.RowLaws.{Making}
-use Rattle.run_tables.proofs.scale_row.Given as goal
-
-abbrev pub invariant-loop-j : goal.invariant-loop-j
-invariant-loop-j l = Making (λ k. mul l.f.p (get_or l.table (l.n * l.a + k) 0) l.c) l.n l.row l.j

@@ -1,0 +1,22 @@
+use mathlib.Core.Path.{◌∙◌}
+use Rattle.run_views.proofs.ViewLaws.{gathering}
+use Rattle.run_views.proofs.Run.put_gates.Goals as goal
+
+pub loop-g-init : goal.loop-g-init
+loop-g-init g c = record { placed = search gathering; put = λ f k. search gathering }
+
+pub put-requires : goal.put-requires
+put-requires g c = search (gathering, c.requires)
+
+pub overflow_add-from : goal.overflow_add-from
+overflow_add-from g c = search gathering
+
+pub loop-g-preserved : goal.loop-g-preserved
+loop-g-preserved g c =
+    record {
+      placed = search gathering;
+      put = λ f k. let w = c.loop-g.invariant.put f k in let v = k c.loop-g.g c.loop-g.from _ _ c.loop-g-test.true c.put.ensures in (v.same ∙ w.0, search (gathering, w.1, v.wrote));
+    }
+
+pub returns : goal.returns
+returns g c = λ f k. let w = c.loop-g.invariant.put f k in search (gathering, w.0, w.1)

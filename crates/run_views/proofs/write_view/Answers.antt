@@ -1,5 +1,0 @@
-use Rattle.run_views.proofs.JoinLaws.{joining}
-use Rattle.run_views.proofs.write_view.Goals as goal
-
-pub returns : goal.returns
-returns c = search joining
