@@ -23,6 +23,7 @@ use Rattle.field.specs.Mod.{mul}
 use Rattle.field.specs.Field.{Is, is_wide, Ready}
 use Rattle.field.proofs.Solve.{canon-lt, mul_canon}
 use Rattle.field.proofs.Inverse.{pos}
+use Rattle.field.proofs.Elements.{ready_positive}
 use Rattle.sharing_laws.specs.Poly.{eval, padded}
 use Rattle.sharing_laws.specs.Interp.{dot, weights}
 use Rattle.sharing_laws.specs.Sharing.{rows_of}
@@ -333,9 +334,6 @@ module _ (p t m : ℕ) (points ws : List ℕ) (h : Dealers t points m) (w : Weig
   pub dealers_elements : (q : ℕ) → q ≡ p → Ready p → all_below q (take m ws) ≡ true
   dealers_elements q e r = rw (e, dealers_weights) (weights_below r.prime 0 (take (t + t + 1) points))
 
-pub ready_above : (p : ℕ) → Ready p → 0 < p
-ready_above p r = pos r.prime
-
-pub ruleset preparing = (rules, ready_above, powers_fit, powers-within, powers-long, powers-count, powered, powers-kept, dealers_count, dealers_below, dealers_in, weights-in, weights-count, weights-long, weighted, weights-kept)
+pub ruleset preparing = (rules, ready_positive, powers_fit, powers-within, powers-long, powers-count, powered, powers-kept, dealers_count, dealers_below, dealers_in, weights-in, weights-count, weights-long, weighted, weights-kept)
 
 pub ruleset made_ready = (rules, dealers_in, powered_for, dealers_counted, dealers_elements)

@@ -3,6 +3,3 @@ use Rattle.run_dealings.proofs.Dealings.dealing.Goals as goal
 
 pub loop-j-preserved : goal.loop-j-preserved
 loop-j-preserved c = search dealing
-
-pub returns : goal.returns
-returns c = search dealing

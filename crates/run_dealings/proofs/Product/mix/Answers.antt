@@ -3,6 +3,3 @@ use Rattle.run_dealings.proofs.Product.mix.Goals as goal
 
 pub loop-i-init : goal.loop-i-init
 loop-i-init c = search filling_mixture
-
-pub returns : goal.returns
-returns c = search filling_mixture
