@@ -36,6 +36,9 @@ static void draw_gate(FILE *to, const struct plan *plan, size_t wire)
     case MULTIPLY:
         fprintf(to, "times");
         break;
+    case RANDOM:
+        fprintf(to, "random");
+        break;
     default:
         fprintf(to, "kind %u", g.kind);
     }
@@ -45,7 +48,7 @@ static void draw_gate(FILE *to, const struct plan *plan, size_t wire)
 static void draw_edges(FILE *to, const struct plan *plan, size_t wire)
 {
     struct gate g = plan->gates[wire];
-    if (g.kind == INPUT)
+    if (g.kind == INPUT || g.kind == RANDOM)
         return;
     fprintf(to, "    w%u -> w%zu;\n", g.a, wire);
     if (g.kind == ADD || g.kind == MULTIPLY)

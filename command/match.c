@@ -43,7 +43,7 @@ static void print_figures(FILE *to, const struct plan *plan, struct bytes first,
     for (size_t k = 0; k < plan->figure_count; k++) {
         fprintf(to, "%6zu  seat %-3u", k, plan->figures[k].seat);
         put_numbers(to, plan, get_number(first, k), get_number(second, k));
-        fputc('\n', to);
+        fprintf(to, "%s\n", is_draw(plan, k) ? "  drawn" : "");
     }
 }
 
@@ -110,7 +110,7 @@ const struct command match_command = {
             "by side.\n"
             "\n"
             "  --set SEATS          the seats that put their views together, as 1,3; at most the threshold\n"
-            "  --first FILE|LIST    all figures of the first run, in the plan's order\n"
+            "  --first FILE|LIST    all figures of the first run, in the plan's order, draws among them\n"
             "  --second FILE|LIST   all figures of the matched run\n"
             "  --coins FILE|LIST    all coins of the first run\n"
             "  -o, --output FILE    write the matched coins there, too, one a line\n",

@@ -37,24 +37,32 @@ static void *fresh(size_t count, size_t size)
     return fresh_bytes(count * size).at;
 }
 
-/* Gates stand one after the other: the kind, a zero byte, a and b. A product's wire waits for a round of its own; a gate that a seat works
- * alone, for the last product before it. */
+/* Adds the figures of gate g's wire. */
+static void add_figures(struct plan *plan, size_t g)
+{
+    struct gate gate = plan->gates[g];
+    for (unsigned seat = 1; seat <= plan->seats; seat++)
+        if (gate.kind == RANDOM || (gate.kind == INPUT && gate.a == seat))
+            plan->figures[plan->figure_count++] = (struct figure){seat, g};
+}
+
+/* Gates stand one after the other: the kind, a zero byte, a and b. The wire of a product, or of draws, waits for a round of its own; a gate that a
+ * seat works alone, for the last such round before it. */
 static void read_gates(struct plan *plan, const struct layout *l)
 {
     size_t at = field(plan, l->gates_at, l->width);
-    unsigned products = 0;
+    unsigned rounds = 0;
     plan->gate_count = field(plan, l->gates, l->width);
     plan->gates = fresh(plan->gate_count, sizeof *plan->gates);
-    plan->figures = fresh(plan->gate_count, sizeof *plan->figures);
+    plan->figures = fresh(plan->gate_count * plan->seats, sizeof *plan->figures);
     for (size_t g = 0; g < plan->gate_count; g++, at += GATE_HEAD + 2 * l->width) {
         struct gate *gate = plan->gates + g;
         gate->kind = plan->file.at[at];
         gate->a = field(plan, at + GATE_HEAD, l->width);
         gate->b = field(plan, at + GATE_HEAD + l->width, l->width);
-        products += gate->kind == MULTIPLY;
-        gate->round = gate->kind == INPUT ? 0 : products;
-        if (gate->kind == INPUT)
-            plan->figures[plan->figure_count++] = (struct figure){gate->a, g};
+        rounds += gate->kind == MULTIPLY || gate->kind == RANDOM;
+        gate->round = gate->kind == INPUT ? 0 : rounds;
+        add_figures(plan, g);
     }
 }
 
@@ -155,6 +163,46 @@ void close_plan(struct plan *plan)
     free(plan->writes);
 }
 
+/* ---- figures */
+
+bool is_draw(const struct plan *plan, size_t figure)
+{
+    return plan->gates[plan->figures[figure].wire].kind == RANDOM;
+}
+
+static bool is_of(const struct plan *plan, size_t figure, unsigned seat)
+{
+    return !seat || plan->figures[figure].seat == seat;
+}
+
+size_t draws_of(const struct plan *plan, unsigned seat)
+{
+    size_t count = 0;
+    for (size_t k = 0; k < plan->figure_count; k++)
+        count += is_of(plan, k, seat) && is_draw(plan, k);
+    return count;
+}
+
+size_t inputs_of(const struct plan *plan, unsigned seat)
+{
+    size_t count = 0;
+    for (size_t k = 0; k < plan->figure_count; k++)
+        count += is_of(plan, k, seat) && !is_draw(plan, k);
+    return count;
+}
+
+struct bytes figures_of(const struct plan *plan, unsigned seat, struct bytes inputs, struct bytes draws)
+{
+    struct bytes all = fresh_bytes(inputs.len + draws.len);
+    size_t input = 0, draw = 0;
+    for (size_t k = 0; k < plan->figure_count; k++)
+        if (is_of(plan, k, seat)) {
+            size_t at = input + draw;
+            put_number(all, at, is_draw(plan, k) ? get_number(draws, draw++) : get_number(inputs, input++));
+        }
+    return all;
+}
+
 /* ---- words */
 
 int digits_of(const struct plan *plan)
@@ -180,7 +228,7 @@ void write_plan(const char *path, struct bytes file)
     close_plan(&plan);
 }
 
-/* The figure that an input gate's wire has. */
+/* The figure that an input gate's wire has; of a random wire the first one. */
 static size_t figure_of(const struct plan *plan, size_t wire)
 {
     size_t k = 0;
@@ -208,6 +256,12 @@ void print_gate(FILE *to, const struct plan *plan, size_t wire)
     case MULTIPLY:
         fprintf(to, "wire %u times wire %u, in round %u", g.a, g.b, g.round);
         break;
+    case RANDOM:
+        fprintf(to, "figure%s %zu", plural(plan->seats), figure_of(plan, wire));
+        if (plan->seats > 1)
+            fprintf(to, " to %zu", figure_of(plan, wire) + plan->seats - 1);
+        fprintf(to, ", drawn by the seat%s%s, in round %u", plural(plan->seats), plan->seats > 1 ? " and added" : "", g.round);
+        break;
     default:
         fprintf(to, "a gate of kind %u", g.kind);
     }
@@ -219,6 +273,6 @@ void round_words(const struct plan *plan, unsigned round, char *words, size_t ro
     if (round == 0 || round + 2 == plan->calls)
         return;
     for (size_t g = 0; g < plan->gate_count; g++)
-        if (plan->gates[g].kind == MULTIPLY && plan->gates[g].round == round)
+        if ((plan->gates[g].kind == MULTIPLY || plan->gates[g].kind == RANDOM) && plan->gates[g].round == round)
             snprintf(words, room, "wire %zu", g);
 }

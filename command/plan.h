@@ -8,7 +8,7 @@
 
 #include "lists.h"
 
-enum gate_kind { INPUT = 1, ADD = 2, SCALE = 3, OFFSET = 4, MULTIPLY = 5 };
+enum gate_kind { INPUT = 1, ADD = 2, SCALE = 3, OFFSET = 4, MULTIPLY = 5, RANDOM = 6 };
 
 /* Gate g makes wire g. */
 struct gate {
@@ -22,7 +22,7 @@ struct out {
     uint32_t wire;
 };
 
-/* A number of the list of figures: the seat that gives it, and its wire. */
+/* A number of the list of figures: the seat that gives it, and its wire. That of a random wire is a draw: the seat draws it. */
 struct figure {
     unsigned seat;
     size_t wire;
@@ -65,6 +65,14 @@ size_t sent_by(const struct plan *plan, unsigned seat);
 
 /* Of what a seat writes in a call, the part for seat `to`. */
 struct part part_of(const struct plan *plan, unsigned from, unsigned to, unsigned call);
+
+/* Whether a figure is a draw; and how many figures a seat draws, or gives. Seat 0 stands for all. */
+bool is_draw(const struct plan *plan, size_t figure);
+size_t draws_of(const struct plan *plan, unsigned seat);
+size_t inputs_of(const struct plan *plan, unsigned seat);
+
+/* A seat's figures, or with seat 0 all, in the plan's order: inputs and draws, each of which stand in this order in a list of their own. */
+struct bytes figures_of(const struct plan *plan, unsigned seat, struct bytes inputs, struct bytes draws);
 
 /* The digits of the largest number below the prime: those of a column. */
 int digits_of(const struct plan *plan);

@@ -17,7 +17,7 @@ static void record(char **args)
     };
     read_words(args, "plan", &path, options);
     struct plan plan = open_plan(path);
-    struct bytes figures = list_of("--figures", figures_word), coins = coins_for(&plan, coins_word);
+    struct bytes figures = figures_for(&plan, figures_word), coins = coins_for(&plan, coins_word);
     struct bytes stored = fresh_bytes(value(pool_record_size(plan.file.at, plan.file.len)));
     value(pool_record(plan.file.at, plan.file.len, figures.at, figures.len, coins.at, coins.len, stored.at, stored.len));
     size_t numbers = numbers_in(stored.len - POOL_RECORD_ENTRY * plan.seats);
@@ -40,7 +40,9 @@ const struct command record_command = {
             "secrets: who may see only a seat's own gets what `pool read --seat` shows. Prints a line with\n"
             "the record's counts.\n"
             "\n"
-            "  --figures FILE|LIST  all figures, in the plan's order\n"
+            "  --figures FILE|LIST  all figures, in the plan's order; or all but the draws of random\n"
+            "                       wires, and fresh ones are drawn from the operating system's random\n"
+            "                       source\n"
             "  --coins FILE|LIST    all coins, in the plan's order; where there are none, fresh ones\n"
             "                       are drawn from the operating system's random source\n"
             "  -o, --output RECORD  the file that is written\n",

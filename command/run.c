@@ -32,7 +32,7 @@ static void run(char **args)
     uint16_t set = set_word ? set_of(set_word) : 0;
     struct plan plan = open_plan(path);
     ask_sizes(&plan);
-    struct bytes figures = list_of("--figures", figures_word), coins = coins_for(&plan, coins_word);
+    struct bytes figures = figures_for(&plan, figures_word), coins = coins_for(&plan, coins_word);
     struct bytes results[MAX_SEATS];
     struct report r;
     uint64_t sent;
@@ -59,7 +59,9 @@ const struct command run_command = {
     .help = "Runs every seat of the plan by its own calls, carries the mail between them, and prints\n"
             "each seat's results and how many numbers were sent.\n"
             "\n"
-            "  --figures FILE|LIST  all figures, in the plan's order\n"
+            "  --figures FILE|LIST  all figures, in the plan's order; or all but the draws of random\n"
+            "                       wires, and fresh ones are drawn from the operating system's random\n"
+            "                       source\n"
             "  --coins FILE|LIST    all coins, in the plan's order; where there are none, fresh ones\n"
             "                       are drawn from the operating system's random source\n"
             "  --set SEATS          print what these seats, as 1,3, hold and receive: a table for each,\n"

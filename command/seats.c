@@ -6,6 +6,18 @@
 #include "command.h"
 #include "pool.h"
 
+struct bytes figures_for(const struct plan *plan, const char *word)
+{
+    struct bytes given = list_of("--figures", word);
+    size_t draws = draws_of(plan, 0);
+    if (!draws || count_of(given) != inputs_of(plan, 0))
+        return given;
+    struct bytes drawn = draw_numbers(draws, plan->prime), all = figures_of(plan, 0, given, drawn);
+    free(given.at);
+    free(drawn.at);
+    return all;
+}
+
 struct bytes coins_for(const struct plan *plan, const char *word)
 {
     if (word)

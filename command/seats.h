@@ -6,6 +6,9 @@
 
 enum { MAX_SEATS = 15 };
 
+/* All figures of a run, of the word after --figures. Where the plan has random wires and the list the other figures alone, the draws are fresh. */
+struct bytes figures_for(const struct plan *plan, const char *word);
+
 /* All coins of a run: those of the word after --coins, or fresh ones where it is null. */
 struct bytes coins_for(const struct plan *plan, const char *word);
 

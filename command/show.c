@@ -46,7 +46,7 @@ static void show_gives(FILE *to, const struct plan *plan, unsigned seat)
 {
     struct words w = begin(to, "gives");
     for (size_t k = 0; k < plan->figure_count; k++)
-        if (plan->figures[k].seat == seat)
+        if (plan->figures[k].seat == seat && !is_draw(plan, k))
             say(&w, "figure %zu (wire %zu)", k, plan->figures[k].wire);
     end(&w);
 }
@@ -57,6 +57,9 @@ static void show_draws(FILE *to, const struct plan *plan, unsigned seat)
     struct words w = begin(to, "draws");
     if (coins)
         say(&w, "%zu coin%s", coins, plural(coins));
+    for (size_t k = 0; k < plan->figure_count; k++)
+        if (plan->figures[k].seat == seat && is_draw(plan, k))
+            say(&w, "figure %zu (wire %zu)", k, plan->figures[k].wire);
     end(&w);
 }
 
@@ -146,8 +149,9 @@ const struct command show_command = {
     .line = "a plan in words, or as a Graphviz picture",
     .usage = "[--dot] [--output FILE] PLAN",
     .help = "Prints the plan in words: its seats, threshold and prime; the gate that makes each wire; to\n"
-            "whom each out goes; and for each seat which figures it gives, how many coins it draws, how\n"
-            "many numbers it sends in which call, and which outs it gets.\n"
+            "whom each out goes; and for each seat which figures it gives, how many coins it draws, and\n"
+            "which figures of random wires, how many numbers it sends in which call, and which outs it\n"
+            "gets.\n"
             "\n"
             "  --dot               print a picture instead, for Graphviz (dot -Tsvg): inputs and outs in\n"
             "                      the colour of their seat, and a rank for each round\n"

@@ -30,7 +30,7 @@ struct record {
     uint16_t finished;                     /* bit i - 1: seat i has its results */
     uint16_t told;                         /* bit i - 1: seat i knows that all seats have theirs */
     uint8_t tokens[MOST_SEATS + 1][TOKEN]; /* drawn by each seat when it began this run; 0 where it is not known yet */
-    struct bytes figures, coins, state;    /* of this seat; empty once all seats have their results */
+    struct bytes figures, coins, state;    /* of this seat, its draws among the figures; empty once all seats have their results */
     struct bytes *sent;                    /* what each call sent, for all seats that may still ask for it */
 };
 

@@ -23,7 +23,7 @@
 #include "pool.h"
 #include "record.h"
 
-enum { DAY = 24 * 60 * 60, KEY_DAYS = 730, LEAVE_MS = 3000, SAY_MS = 2000, OFF_POLYNOMIAL = 20 };
+enum { DAY = 24 * 60 * 60, KEY_DAYS = 730, LEAVE_MS = 3000, SAY_MS = 2000, FIGURE_COUNT = 10, OFF_POLYNOMIAL = 20 };
 
 static const char help[] =
     "seat DESCRIPTION KEY HOME [--listen ADDRESS PORT]\n"
@@ -40,7 +40,8 @@ static const char help[] =
     "KEY          the folder of this plant's key.pem and certificate.pem; which seat it is, the\n"
     "             certificate's fingerprint says\n"
     "HOME         a folder for this seat and this run alone. Put its figures there, decimal, in the\n"
-    "             file `figures`; its results will stand in the file `results`\n"
+    "             file `figures`; its results will stand in the file `results`. Its coins, and its\n"
+    "             draws for random wires, are drawn from the operating system\n"
     "--listen     where to take calls, if not at this seat's address and port in the description\n"
     "\n"
     "Exit status: 0 done; 1 refused; 2 the words, the description or a list are not understood;\n"
@@ -351,20 +352,53 @@ static struct bytes list_in(const char *name)
     return list;
 }
 
-/* A run begins: its coins are drawn, or taken from the file `coins`, and are this run's from the first record on. That is call 0's, which
- * takes no mail; before it nobody has seen anything. */
+/* The numbers in a file of HOME, or so many fresh ones where it has none. */
+static struct bytes drawn_list(const char *name, size_t count)
+{
+    struct bytes list = list_in(name);
+    return list.len ? list : draw_numbers(count, plan.prime);
+}
+
+/* This seat's figures: those in the file `figures`, and by the random wires its draws. */
+static struct bytes own_figures(void)
+{
+    size_t inputs = inputs_of(&plan, record.seat), draws = draws_of(&plan, record.seat);
+    struct bytes given = list_in("figures"), drawn = drawn_list("draws", draws);
+    if (!given.len && inputs)
+        fail(NOT_POSSIBLE, "there are no figures in %s: put this seat's there, decimal, parted by blanks, commas or lines", in_home("figures"));
+    if (count_of(drawn) != draws)
+        fail(NOT_UNDERSTOOD, "%s has %zu number%s, and this seat draws %zu", in_home("draws"), count_of(drawn), plural(count_of(drawn)), draws);
+    if (count_of(given) != inputs)
+        refused(FIGURE_COUNT);
+    struct bytes all = figures_of(&plan, record.seat, given, drawn);
+    wipe_bytes(given);
+    wipe_bytes(drawn);
+    return all;
+}
+
+/* A run begins: its coins and the draws of random wires are drawn, or taken from the files `coins` and `draws`, and are this run's from the first
+ * record on. That is call 0's, which takes no mail; before it nobody has seen anything. */
 static void begin(void)
 {
-    record.figures = list_in("figures");
-    record.coins = list_in("coins");
-    if (!record.coins.len)
-        record.coins = draw_numbers(numbers_in(seat_size(&plan, record.seat, POOL_SEAT_COINS)), plan.prime);
+    record.figures = own_figures();
+    record.coins = drawn_list("coins", numbers_in(seat_size(&plan, record.seat, POOL_SEAT_COINS)));
     record.state = fresh_bytes(seat_size(&plan, record.seat, POOL_SEAT_STATE));
     if (RAND_bytes(record.tokens[record.seat], TOKEN) != 1)
         fail(NOT_POSSIBLE, "no random numbers");
-    if (!record.figures.len && seat_size(&plan, record.seat, POOL_SEAT_FIGURES))
-        fail(NOT_POSSIBLE, "there are no figures in %s: put this seat's there, decimal, parted by blanks, commas or lines", in_home("figures"));
     make_call();
+}
+
+/* Whether the file `figures` has what it had when the run began: the figures of the record but its draws. */
+static bool same_figures(struct bytes given)
+{
+    size_t own = 0, at = 0;
+    bool same = count_of(given) == inputs_of(&plan, record.seat);
+    for (size_t k = 0; same && k < plan.figure_count; k++)
+        if (plan.figures[k].seat == record.seat) {
+            same = is_draw(&plan, k) || get_number(given, at++) == get_number(record.figures, own);
+            own++;
+        }
+    return same;
 }
 
 /* A run goes on, or has ended and has others to tell. */
@@ -373,7 +407,7 @@ static void go_on(void)
     if (record.finished == all_seats())
         return;
     struct bytes figures = list_in("figures");
-    if (figures.len != record.figures.len || memcmp(figures.at, record.figures.at, figures.len))
+    if (!same_figures(figures))
         refuse("%s is not what it was when the run began: put those figures back, or agree on a run with a new name", in_home("figures"));
     wipe_bytes(figures);
 }
@@ -399,6 +433,7 @@ static void take_part(const char *description, const char *key, const char *home
     else
         begin();
     wipe_file("coins");
+    wipe_file("draws");
     answer_calls(listen_at(address ? address : run.places[record.seat].address, port ? port : run.places[record.seat].port));
     while (record.next < record.calls)
         make_call();

@@ -55,6 +55,15 @@
  * same results and shares; a state that is under way does not fit: run the plan
  * anew.
  *
+ * A plan may have random wires (gate kind 6), the sum of one draw of each party.
+ * A draw is a figure: where lists of inputs are spoken of below, a party's own
+ * list has its draw of such a gate among its inputs, by gate, and the list of all
+ * figures has one of each party there, party by party; the sizes that are told
+ * count them. A host draws it as it draws coins: fresh, uniform below p, secret,
+ * and the same in every call of a run; the wire is picked by nobody where each
+ * party does so. Each random wire has a round of its own, as a multiply gate has,
+ * so call numbers go on: ask pool_calls. Plans without random wires are as before.
+ *
  *
  * Answers
  * -------
@@ -98,8 +107,8 @@ extern "C" {
 #define POOL_RECORD_ENTRY 8
 
 /* The bytes of stack that a call takes at most. */
-#define POOL_STACK_SEAT 4096
-#define POOL_STACK_BENCH 131072
+#define POOL_STACK_SEAT 8192
+#define POOL_STACK_BENCH 139264
 #define POOL_STACK_COUNT 212992
 #define POOL_STACK_MATCH 262144
 #define POOL_STACK_IMPORT 81920
@@ -246,8 +255,8 @@ uint64_t pool_convert(const uint8_t *plan, size_t plan_len, uint8_t *out,
     size_t out_len);
 
 /*
- * How many calls each party makes: M + 3, numbered 0 to M + 2, with M the
- * multiply gates.
+ * How many calls each party makes: M + R + 3, numbered 0 to M + R + 2, with M
+ * the multiply gates and R the random wires.
  *
  * Answers the count as its value, or the first of refusals 1 to 8, 25 and 26.
  */
@@ -255,7 +264,7 @@ uint64_t pool_calls(const uint8_t *plan, size_t plan_len);
 
 /* The lists of a party, for pool_seat_size. */
 enum {
-    POOL_SEAT_FIGURES = 0, /* its own inputs */
+    POOL_SEAT_FIGURES = 0, /* its own inputs and draws */
     POOL_SEAT_COINS = 1,   /* its own coins */
     POOL_SEAT_STATE = 2,   /* its state */
     POOL_SEAT_MAIL = 3,    /* the mail that a call takes */
@@ -281,7 +290,7 @@ uint64_t pool_seat_size(const uint8_t *plan, size_t plan_len, uint16_t seat,
  *
  * plan, plan_len:       the plan file, the same for all parties and calls.
  * seat:                 the party, 1 to n.
- * figures, figures_len: its own inputs, in the plan's order.
+ * figures, figures_len: its own inputs and draws, in the plan's order.
  * coins, coins_len:     its own coins, in the plan's order: fresh, uniform
  *                       below p and secret, the same in every call of a run.
  * state, state_len:     its state: all 0 before call 0, then as the call
@@ -293,9 +302,9 @@ uint64_t pool_seat_size(const uint8_t *plan, size_t plan_len, uint16_t seat,
  *                       ascending; in the last call the party's results, in
  *                       the order of its outs.
  *
- * Of what a call sends each party gets a part, one after the other: of call 0
- * and of the calls that deal a product all parts have the same size; of call
- * M + 1 party i's part has a share for each of its outs.
+ * Of what a call sends each party gets a part, one after the other: of the last
+ * call but one party i's part has a share for each of its outs; of each call
+ * before it all parts have the same size.
  *
  * Answers 0 and has written state and out, or answers the first of refusals 1
  * to 8, 25, 26 and 9 to 20 and has written nothing.
@@ -314,7 +323,7 @@ uint64_t pool_seat_call(const uint8_t *plan, size_t plan_len, uint16_t seat,
 
 /* The lists of a whole run, for pool_run_size. */
 enum {
-    POOL_RUN_FIGURES = 0, /* all inputs */
+    POOL_RUN_FIGURES = 0, /* all inputs and draws */
     POOL_RUN_COINS = 1,   /* all coins */
     POOL_RUN_VIEW = 2     /* the view of a coalition */
 };
@@ -354,8 +363,8 @@ uint64_t pool_bench(const uint8_t *plan, size_t plan_len, uint16_t set,
  * The matching of coins: why a coalition learns no more than its results.
  *
  * set:                    a coalition of at most t parties.
- * first, second:          two lists of all inputs that agree at the members'
- *                         inputs and give the members the same results.
+ * first, second:          two lists of all inputs and draws that agree at the
+ *                         members' own and give the members the same results.
  * coins, coins_len:       all coins of a run on the first list.
  * matched, matched_len:   written: all coins with which a run on the second
  *                         list gives the coalition the same view.
@@ -382,8 +391,9 @@ uint64_t pool_match(const uint8_t *plan, size_t plan_len, uint16_t set,
  * coalition's view and one more.
  *
  * Answers the size as its value: POOL_NUMBER_BYTES for each number of these
- * rows; or the first of refusals 1 to 8, 25, 26, 9 and 30. A list of 65,536 long
- * rows can take hundreds of megabytes: look at the size before you lend it.
+ * rows; or the first of refusals 1 to 8, 25, 26, 9 and 30: a plan with a random
+ * wire is refused, too. A list of 65,536 long rows can take hundreds of
+ * megabytes: look at the size before you lend it.
  */
 uint64_t pool_count_size(const uint8_t *plan, size_t plan_len, uint16_t set);
 

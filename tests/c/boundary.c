@@ -38,7 +38,7 @@ static struct slice lend_text(const char *text, size_t len)
     return s;
 }
 
-/* The calls that take a plan: K, whole or not, and lists of any bytes. */
+/* The calls that take a plan: K, or K with a random wire, whole or not, and lists of any bytes. */
 static void plan_calls(const uint8_t *k, size_t k_len)
 {
     static const size_t sizes[] = {0, BYTES(1), BYTES(2), BYTES(3), BYTES(5), BYTES(10), BYTES(20)};
@@ -125,11 +125,14 @@ static void text_calls(unsigned p)
 
 int main(void)
 {
-    uint8_t first[64], k[128];
+    uint8_t first[64], k[128], drawn[64], other[128];
     plan_k(first);
+    plan_drawn(drawn);
     for (unsigned i = 0; i < CASES; i++) {
         size_t k_len = in_version(1 + i % VERSIONS, k, first, (const unsigned[]){1, 2, 3});
-        plan_calls(k, k_len);
+        size_t other_len = in_version(1 + i % VERSIONS, other, drawn, (const unsigned[]){1, 2, 3});
+        plan_calls(below(3) ? k : other, k_len);
+        expect("a plan with a random wire", pool_plan_check(other, other_len), 0, 0);
         record_calls(k, k_len);
         count_calls(1 + i % VERSIONS);
         text_calls(i % 2 ? 11 : MOST_PRIME);

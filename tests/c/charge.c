@@ -166,6 +166,34 @@ static void few_dealers(void)
     expect_number("four equal remainders: the lowest has the cent", part(1) * 10000 + part(2) * 1000 + part(3) * 100 + part(4) * 10 + part(5), 66300);
 }
 
+/* A random wire costs each party a number for each of the parties. */
+static void random_wires(void)
+{
+    for (unsigned n = 1; n <= 15; n++)
+        for (unsigned t = 0; t < n; t++) {
+            uint64_t sent[SEATS];
+            plan_len = contents(plan, n, t, 17, 4, 2);
+            gate(plan, 0, 6, 0, 0);
+            gate(plan, 1, 1, n, 0);
+            gate(plan, 2, 6, 0, 0);
+            gate(plan, 3, 2, 2, 1);
+            out(plan, 4, 0, 1, 3);
+            out(plan, 4, 1, n, 0);
+            for (unsigned i = 0; i < n; i++)
+                sent[i] = 2 * n + (i == n - 1 ? n : 0) + 2;
+            sorted("random wires", 1 + below(1000000), sent);
+            by_calls("random wires, by calls", 999983);
+        }
+    static const unsigned parts_at[][4] = {{1000000, 10000, 7000, 7000}, {277, 3, 2, 2}, {1, 1, 0, 0}};
+    plan_len = plan_drawn(plan);
+    for (unsigned k = 0; k < sizeof parts_at / sizeof *parts_at; k++) {
+        uint64_t answer = charge(parts_at[k][0], BYTES(3));
+        expect_number("a random wire in K: the bill", answer, ((24 * (uint64_t)parts_at[k][0] + 999) / 1000) << 8);
+        for (unsigned seat = 1; seat <= 3; seat++)
+            expect_number("a random wire in K: a part", part(seat), parts_at[k][seat]);
+    }
+}
+
 static void largest(unsigned n, unsigned t, unsigned inputs)
 {
     plan_len = contents(plan, n, t, 65521, GATES, OUTS);
@@ -204,9 +232,9 @@ static void random_plans(void)
         plan_len = contents_in(version, plan, n, t, primes[below(version == 3 ? 5 : 3)], gates, outs);
         for (unsigned g = 0; g < gates; g++)
             if (g == 0 || below(2))
-                gate(plan, g, 1, 1 + below(n), 0);
+                any_gate(plan, g, below(3) ? 1 : 6, n, 2);
             else
-                gate(plan, g, below(2) ? 5 : 2, below(g), below(g));
+                any_gate(plan, g, below(2) ? 5 : 2, n, 2);
         for (unsigned o = 0; o < outs; o++)
             out(plan, gates, o, 1 + below(n), below(gates));
         by_calls("a random plan", below(3) ? below(5000) : below(1000001));
@@ -218,6 +246,7 @@ int main(void)
     worked();
     refusals();
     few_dealers();
+    random_wires();
     large();
     random_plans();
     printf("%d passed, %d failed\n", passed, failed);

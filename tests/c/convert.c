@@ -102,7 +102,7 @@ static void refusals(void)
     changed("no gates", 1, 12, 0, 6, 0);
     changed("outs' offset", 1, 14, 41, 6, 0);
     changed("no outs", 1, 16, 0, 6, 0);
-    changed("kind 6", 1, 24, 6, 7, 1);
+    changed("kind 6 with an a", 1, 24, 6, 7, 1);
     changed("wire 3 reads itself", 1, 40, 3, 7, 3);
     changed("an out of party 4", 1, 42, 4, 8, 0);
     changed("2t is n + 1", 1, 6, 2, 25, 0);

@@ -240,14 +240,11 @@ static void order(void)
 /* Whose each coin of the whole list is, seats from 1 on; answers how many there are. */
 static unsigned coin_seats(const struct run *r, unsigned *seats)
 {
-    unsigned t = r->plan[6], width = version_of(r->plan).field, coins = 0;
-    for (unsigned g = 0; g < get_field(r->plan, GATE_COUNT); g++) {
-        const uint8_t *at = gate_place(r->plan, g);
-        unsigned first = at[0] == 1 ? get_bytes(at + 2, width) : 1, last = at[0] == 1 ? first : at[0] == 5 ? 2 * t + 1 : 0;
-        for (unsigned seat = first; seat <= last; seat++)
-            for (unsigned k = 0; k < t; k++)
+    unsigned coins = 0;
+    for (unsigned g = 0; g < get_field(r->plan, GATE_COUNT); g++)
+        for (unsigned seat = 1; seat <= r->plan[5]; seat++)
+            for (unsigned k = coins_at(r->plan, g, seat); k > 0; k--)
                 seats[coins++] = seat;
-    }
     return coins;
 }
 

@@ -4,7 +4,7 @@
 
 #include "plans.h"
 
-enum { PLANS = 500, ORDERS = 20, MOST_SEATS = 7, MOST_GATES = 14, MOST_OUTS = 4, MOST_CALLS = MOST_GATES + 3, LONGEST = BYTES(256), MOST_VIEW = BYTES(2048) };
+enum { PLANS = 600, ORDERS = 20, MOST_SEATS = 7, MOST_GATES = 14, MOST_OUTS = 4, MOST_CALLS = MOST_GATES + 3, LONGEST = BYTES(256), MOST_VIEW = BYTES(2048) };
 
 static uint8_t plan[256];
 static size_t plan_len;
@@ -34,8 +34,8 @@ static void ask_sizes(void)
             sizes[1 + i / calls][i % calls][what] = (size_t)POOL_VALUE(pool_seat_size(plan, plan_len, (uint16_t)(1 + i / calls), (uint16_t)(i % calls), (uint16_t)what));
 }
 
-/* A plan of any version with gates of every kind at random; the first is an input, and none multiplies where 2t is not below n. t is 1 at
- * least, so that a seat alone is a set. */
+/* A plan of any version with gates of every kind at random; the first is an input or a random wire, and none multiplies where 2t is not below n. t
+ * is 1 at least, so that a seat alone is a set. */
 static void make_plan(void)
 {
     static const unsigned primes[] = {11, 13, 101, 257, 65521, 65537, MOST_PRIME};
@@ -44,11 +44,8 @@ static void make_plan(void)
     unsigned t = 1 + below(seats - 1), p = primes[below(version == 3 ? 7 : 5)], gates = 1 + below(MOST_GATES), outs = 1 + below(MOST_OUTS);
     plan_len = contents_in(version, plan, seats, t, p, gates, outs);
     for (unsigned g = 0; g < gates; g++) {
-        unsigned kind = g == 0 ? 1 : 1 + below(2 * t < seats ? 5 : 4);
-        if (kind == 1)
-            gate(plan, g, 1, 1 + below(seats), 0);
-        else
-            gate(plan, g, kind, below(g), kind == 3 || kind == 4 ? below(p) : below(g));
+        unsigned kind = g == 0 ? 1 + 5 * below(2) : 1 + below(6);
+        any_gate(plan, g, kind == 5 && 2 * t >= seats ? 2 : kind, seats, p);
     }
     for (unsigned o = 0; o < outs; o++)
         out(plan, gates, o, 1 + below(seats), below(gates));

@@ -56,7 +56,9 @@ static void check_refusals(void)
     changed("no outs", 16, 0, 6, 0);
     changed("gate 0 an add", 18, 2, 7, 0);
     changed("kind 0", 18, 0, 7, 0);
-    changed("kind 6", 24, 6, 7, 1);
+    changed("kind 6 with an a", 24, 6, 7, 1);
+    changed("kind 7", 24, 7, 7, 1);
+    changed("kind 8", 24, 8, 7, 1);
     changed("second byte", 25, 1, 7, 1);
     changed("an input of party 4", 20, 4, 7, 0);
     changed("an input with a b", 22, 1, 7, 0);

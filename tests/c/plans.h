@@ -173,6 +173,13 @@ static inline void gate(uint8_t *plan, unsigned g, unsigned kind, unsigned a, un
     put_bytes(at + 2 + width, width, b);
 }
 
+/* A gate of a kind, any else that the kind leaves open. */
+static inline void any_gate(uint8_t *plan, unsigned g, unsigned kind, unsigned n, unsigned p)
+{
+    unsigned wires = kind > 1 && kind < 6, constant = kind == 3 || kind == 4;
+    gate(plan, g, kind, kind == 1 ? 1 + below(n) : wires ? below(g) : 0, constant ? below(p) : wires ? below(g) : 0);
+}
+
 static inline void out(uint8_t *plan, unsigned gates, unsigned o, unsigned party, unsigned wire)
 {
     uint8_t *at = gate_place(plan, gates) + 3 * o;
@@ -214,6 +221,18 @@ static inline void any_points(unsigned *points, unsigned n, unsigned p)
             j++;
         i += j == i;
     }
+}
+
+/* Plan K with a random wire for party 2's input. */
+static inline size_t plan_drawn(uint8_t *plan)
+{
+    size_t len = contents(plan, 3, 1, 11, 4, 1);
+    gate(plan, 0, 1, 1, 0);
+    gate(plan, 1, 6, 0, 0);
+    gate(plan, 2, 5, 0, 1);
+    gate(plan, 3, 2, 2, 0);
+    out(plan, 4, 0, 3, 3);
+    return len;
 }
 
 /* Plan K: n=3, t=1, p=11; input 1, input 2, multiply 0 1, add 2 0; out to party 3 of wire 3. */

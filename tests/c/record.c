@@ -290,24 +290,20 @@ static void writer(void)
 /* Whose each number of the lists is: a seat's figures and coins, one after the other, in the run's order. Answers how many bytes they have. */
 static size_t own_numbers(const struct run *r, unsigned seat, uint8_t *to)
 {
-    unsigned t = r->plan[6], figures = 0, coins = 0, width = version_of(r->plan).field;
+    const uint8_t *figures = r->figures, *coins = r->coins;
+    unsigned n = r->plan[5], all = n * get_field(r->plan, GATE_COUNT);
     uint8_t *at = to;
-    for (unsigned g = 0; g < get_field(r->plan, GATE_COUNT); g++) {
-        const uint8_t *from = gate_place(r->plan, g);
-        if (from[0] == 1 && get_bytes(from + 2, width) == seat) {
-            memcpy(at, r->figures + BYTES(figures), BYTES(1));
-            at += BYTES(1);
-        }
-        figures += from[0] == 1;
+    for (unsigned i = 0; i < all; i++) {
+        size_t len = BYTES(figures_at(r->plan, i / n, 1 + i % n)), mine = 1 + i % n == seat ? len : 0;
+        memcpy(at, figures, mine);
+        at += mine;
+        figures += len;
     }
-    for (unsigned g = 0; g < get_field(r->plan, GATE_COUNT); g++) {
-        const uint8_t *from = gate_place(r->plan, g);
-        unsigned dealers = from[0] == 1 ? 1 : from[0] == 5 ? 2 * t + 1 : 0;
-        unsigned mine = from[0] == 1 ? get_bytes(from + 2, width) == seat : seat <= dealers;
-        if (mine && dealers)
-            memcpy(at, r->coins + BYTES(coins + t * (from[0] == 1 ? 0 : seat - 1)), BYTES(t));
-        at += mine && dealers ? BYTES(t) : 0;
-        coins += dealers * t;
+    for (unsigned i = 0; i < all; i++) {
+        size_t len = BYTES(coins_at(r->plan, i / n, 1 + i % n)), mine = 1 + i % n == seat ? len : 0;
+        memcpy(at, coins, mine);
+        at += mine;
+        coins += len;
     }
     return (size_t)(at - to);
 }

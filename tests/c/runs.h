@@ -6,9 +6,9 @@
 
 enum { MOST_GATES = 24, MOST_OUTS = 6, MOST_COINS = BYTES(15 * 14 * MOST_GATES), MOST_VIEW = BYTES(1 << 16), MOST_WRITTEN = BYTES(15 * MOST_GATES) };
 
-/* A plan, its figures and coins. */
+/* A plan, its figures (a random wire has one of each seat) and coins. */
 struct run {
-    uint8_t plan[MOST_PLAN], figures[BYTES(MOST_GATES)], coins[MOST_COINS];
+    uint8_t plan[MOST_PLAN], figures[BYTES(15 * MOST_GATES)], coins[MOST_COINS];
     size_t plan_len, figures_len, coins_len;
 };
 
@@ -34,14 +34,24 @@ static inline void any_plan(struct run *r, unsigned version, unsigned p)
 {
     unsigned n = 1 + below(15), t = below((n + 1) / 2), gates = 1 + below(MOST_GATES), outs = 1 + below(MOST_OUTS);
     r->plan_len = contents_in(version, r->plan, n, t, p, gates, outs);
-    for (unsigned g = 0; g < gates; g++) {
-        unsigned kind = g == 0 ? 1 : 1 + below(5);
-        unsigned a = kind == 1 ? 1 + below(n) : below(g), b = kind == 1 ? 0 : kind == 2 || kind == 5 ? below(g) : below(p);
-        gate(r->plan, g, kind, a, b);
-    }
+    for (unsigned g = 0; g < gates; g++)
+        any_gate(r->plan, g, g == 0 ? 1 : 1 + below(6), n, p);
     for (unsigned o = 0; o < outs; o++)
         out(r->plan, gates, o, 1 + below(n), below(gates));
     any_lists(r);
+}
+
+/* How many figures a seat has at a gate, and how many coins it takes there. In both lists seats stand ascending within a gate. */
+static inline unsigned figures_at(const uint8_t *plan, unsigned g, unsigned seat)
+{
+    const uint8_t *at = gate_place(plan, g);
+    return at[0] == 6 || (at[0] == 1 && get_bytes(at + 2, version_of(plan).field) == seat);
+}
+
+static inline unsigned coins_at(const uint8_t *plan, unsigned g, unsigned seat)
+{
+    unsigned t = plan[6];
+    return gate_place(plan, g)[0] == 5 ? (seat <= 2 * t + 1 ? t : 0) : t * figures_at(plan, g, seat);
 }
 
 /* A prime above 15 that has room in two bytes. */
@@ -177,7 +187,7 @@ static inline void same_bench(const struct run *r, const struct run *other, unsi
 /* The matching's answers and coins, for figures that differ at one place or nowhere. */
 static inline void same_match(const struct run *r, const struct run *other, unsigned set)
 {
-    static uint8_t matched[2][MOST_COINS], figures[BYTES(MOST_GATES)];
+    static uint8_t matched[2][MOST_COINS], figures[sizeof r->figures];
     memcpy(figures, r->figures, sizeof figures);
     if (below(2) && r->figures_len)
         put(figures + BYTES(below((unsigned)r->figures_len / BYTES(1))), below(get_field(r->plan, PRIME)));

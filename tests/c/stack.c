@@ -10,17 +10,22 @@
 
 enum { GATES = 1024, OUTS = 64, PAGE = 4096, PAINT = 0xa5 };
 
-static uint8_t plan[MOST_PLAN], figures[BYTES(2 * GATES)], coins[BYTES(200000)], buffer[BYTES(500000)];
+static uint8_t plan[MOST_PLAN], figures[BYTES(15 * GATES)], coins[BYTES(220000)], buffer[BYTES(500000)];
 static uint8_t stored[BYTES(500000)];
 static uint8_t state[BYTES(2 * GATES)], mail[BYTES(20000)], written[BYTES(20000)];
 static size_t plan_len;
 
-/* n inputs of party 1, then multiplies, or adds where there is no majority; all outs go to party 1. The prime is the largest of the version. */
-static void largest(unsigned version, unsigned n, unsigned t)
+/* n inputs of party 1, then multiplies, or adds where there is no majority, or random wires, each second one in the place of a multiply; all outs go to
+ * party 1. The prime is the largest of the version. */
+static void largest(unsigned version, unsigned n, unsigned t, int draws)
 {
+    unsigned worked = 2 * t < n ? 5 : 2;
     plan_len = contents_in(version, plan, n, t, version < 3 ? 65521 : MOST_PRIME, GATES, OUTS);
     for (unsigned g = 0; g < GATES; g++)
-        gate(plan, g, g < n ? 1 : 2 * t < n ? 5 : 2, g < n ? 1 : g - 1, g < n ? 0 : g / 2);
+        if (draws && g >= n && (g % 2 || worked == 2))
+            gate(plan, g, 6, 0, 0);
+        else
+            gate(plan, g, g < n ? 1 : worked, g < n ? 1 : g - 1, g < n ? 0 : g / 2);
     for (unsigned o = 0; o < OUTS; o++)
         out(plan, GATES, o, 1, GATES - 1);
 }
@@ -63,12 +68,18 @@ static uint64_t read_record(void)
     return answer;
 }
 
+/* Whether the last parties' views are not counted: where the others have coins of products, or a wire is random. */
+static int many_settings(void)
+{
+    return gate_place(plan, GATES - 1)[0] == 6 || (plan[6] && 2 * plan[6] < plan[5]);
+}
+
 /* The views of parties that have all coins, of which there is one setting: the last t parties, where all inputs are theirs and nothing is
  * multiplied; or nobody, where there are no coins. Of other plans there are too many settings. */
 static uint64_t count(void)
 {
     uint16_t set = last_parties();
-    unsigned refusal = plan[6] && 2 * plan[6] < plan[5] ? 30 : 0;
+    unsigned refusal = many_settings() ? 30 : 0;
     for (unsigned g = 0; g < plan[5]; g++)
         gate(plan, g, 1, plan[5], 0);
     uint64_t size = pool_count_size(plan, plan_len, set);
@@ -124,7 +135,7 @@ static uint64_t small(void)
         refusals += POOL_REFUSAL(pool_seat_size(plan, plan_len, 1, 1, what)) + POOL_REFUSAL(pool_run_size(plan, plan_len, 0, what));
     uint8_t parts[60];
     refusals += POOL_REFUSAL(pool_charge(plan, plan_len, 999999, parts, 4u * plan[5]));
-    if (POOL_REFUSAL(pool_count_size(plan, plan_len, last_parties())) != (plan[6] ? 30 : 0))
+    if (POOL_REFUSAL(pool_count_size(plan, plan_len, last_parties())) != (plan[6] || many_settings() ? 30 : 0))
         refusals++;
     return refusals;
 }
@@ -225,20 +236,28 @@ static void on_stack(const char *what, uint64_t (*call)(void), size_t stated)
         failed++;
 }
 
+/* All calls that take a plan. */
+static void plan_calls(void)
+{
+    on_stack("pool_bench", bench, POOL_STACK_BENCH);
+    on_stack("pool_record", record, POOL_STACK_BENCH);
+    on_stack("the record's size and readers", read_record, POOL_STACK_SEAT);
+    on_stack("pool_match", match, POOL_STACK_MATCH);
+    on_stack("pool_seat_call, the first calls", first_calls, POOL_STACK_SEAT);
+    on_stack("pool_seat_call, the last call", last_call, POOL_STACK_SEAT);
+    on_stack("plan check, sizes and charge", small, POOL_STACK_SEAT);
+    on_stack("pool_convert", convert, POOL_STACK_SEAT);
+    on_stack("pool_count", count, POOL_STACK_COUNT);
+}
+
 int main(void)
 {
     static const unsigned shapes[][2] = {{15, 14}, {15, 7}, {3, 1}, {1, 0}};
     for (unsigned k = 0; k < 4 * VERSIONS; k++) {
-        largest(1 + k / 4, shapes[k % 4][0], shapes[k % 4][1]);
-        on_stack("pool_bench", bench, POOL_STACK_BENCH);
-        on_stack("pool_record", record, POOL_STACK_BENCH);
-        on_stack("the record's size and readers", read_record, POOL_STACK_SEAT);
-        on_stack("pool_match", match, POOL_STACK_MATCH);
-        on_stack("pool_seat_call, the first calls", first_calls, POOL_STACK_SEAT);
-        on_stack("pool_seat_call, the last call", last_call, POOL_STACK_SEAT);
-        on_stack("plan check, sizes and charge", small, POOL_STACK_SEAT);
-        on_stack("pool_convert", convert, POOL_STACK_SEAT);
-        on_stack("pool_count", count, POOL_STACK_COUNT);
+        largest(1 + k / 4, shapes[k % 4][0], shapes[k % 4][1], 0);
+        plan_calls();
+        largest(1 + k / 4, shapes[k % 4][0], shapes[k % 4][1], 1);
+        plan_calls();
     }
     on_stack("pool_count, many settings", count_settings, POOL_STACK_COUNT);
     on_stack("pool_import", import, POOL_STACK_IMPORT);

@@ -191,7 +191,7 @@ static void times(void)
 /* The plan's own arithmetic. */
 static void values_of(const struct run *r, uint64_t *value)
 {
-    unsigned p = get_field(r->plan, PRIME), figures = 0;
+    unsigned p = get_field(r->plan, PRIME), figures = 0, draws;
     for (unsigned g = 0; g < get_field(r->plan, GATE_COUNT); g++) {
         const uint8_t *at = gate_place(r->plan, g);
         unsigned a = get_bytes(at + 2, 4), b = get_bytes(at + 6, 4);
@@ -207,6 +207,10 @@ static void values_of(const struct run *r, uint64_t *value)
             break;
         case 4:
             value[g] = (value[a] + b) % p;
+            break;
+        case 6:
+            for (value[g] = 0, draws = r->plan[5]; draws > 0; draws--)
+                value[g] = (value[g] + get(r->figures + BYTES(figures++))) % p;
             break;
         default:
             value[g] = value[a] * value[b] % p;

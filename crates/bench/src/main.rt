@@ -17,12 +17,12 @@ fn print(input: &mut [u8], text: &mut [u8])
 }
 
 // One byte more than an input may have, and room for the longest text.
-fn bench(input: &mut [u8; 32769], text: &mut [u8; 3000000]) {
+fn bench(input: &mut [u8; 32769], text: &mut [u8; 1000000]) {
     print(input, text);
 }
 
 fn main() {
     let mut input = [0u8; 32769];
-    let mut text = [0u8; 3000000];
+    let mut text = [0u8; 1000000];
     bench(&mut input, &mut text);
 }

@@ -7,45 +7,42 @@
 use Rattle.std.proofs.Common.{Ok, Err}
 use Prim.Native.Nat.{ℕ, zero, suc, ◌+◌, ◌*◌, ◌/◌, ◌%◌, ◌<◌, ◌≤◌}
 use mathlib.Core.Path.{◌≡◌, refl, sym, ap, subst, ◌∙◌}
-use mathlib.Core.Logic.{⊎_elim}
 use mathlib.Core.Bool.{Bool, true, false, cond}
 use mathlib.Core.List.{List, [], ◌∷◌, ◌++◌, map, flat_map}
-use native.Mathlib.Nat.{mul-le-mul, mul-suc, mul-zero}
+use native.Mathlib.Nat.{mul-le-mul, mul-suc, add-mul, mul_comm, mul_assoc}
 use native.Mathlib.Omega.{arith}
 use borrow.Author.Rules.{rules}
-use borrow.Author.Tests.{lt-ltb}
+use borrow.Author.Tests.{lt-ltb, ltb-false}
 use lib.Dec.{T, eqb, ltb}
-use lib.ListN.{length, get_or, take, length-append}
+use lib.ListN.{length, get_or, take, drop, length-append, length-drop, take-append-drop}
 use lib.Seq.{take_all}
 use Rattle.numbers.specs.Tables.{tab, count_where, total}
-use Rattle.numbers.specs.Bytes.{width, limit, numbers, all_below}
-use Rattle.numbers.proofs.Tables.{tab-map}
-use Rattle.numbers.proofs.Counts.{count_where-append, count_where-le-length}
+use Rattle.numbers.specs.Bytes.{width, limit, number_at, word_at, numbers_of, numbers, bytes_of, all_below}
+use Rattle.numbers.proofs.Tables.{length-tab, tab-map}
+use Rattle.numbers.proofs.Counts.{count_where-append}
 use Rattle.numbers.proofs.Below.{all_below_at}
-use Rattle.numbers.proofs.Bytes.{numbers-length}
+use Rattle.numbers.proofs.Bytes.{numbers-length, length-bytes_of}
+use Rattle.std.proofs.lemmas.Bool.{or_parts}
 use Rattle.field.proofs.Inverse.{pos}
 use Rattle.sharing_laws.specs.Interp.{All}
 use Rattle.sharing_laws.proofs.Alls.{all_append}
 use Rattle.sharing_laws.proofs.Lists.{at_all}
-use Rattle.plan.specs.declared.Gate.{Gate}
-use Rattle.plan.specs.declared.Gate.TheVariants.{Input, Add, Scale, Offset, Multiply, Random, Spend}
 use Rattle.plan.specs.declared.Header.{Header}
 use Rattle.plan.specs.declared.Output.{Output}
 use Rattle.plan.specs.Refusals.{Checked}
 use Rattle.plan.specs.Refusals.{first_of, number_of, place_of}
-use Rattle.plan.specs.Plans.{Plan, party_count, dealer_count, kind_count, is_kind, is_input_of, input_owners, dealings_at, coin_owners_at, coin_owners, steps, step_at, last_call, received, input_count, own_input_count, coin_count, own_coin_count, own_out_count, own_inputs, own_coins, out_wires, out_wires_of, mail_count, sent_count}
-use Rattle.plan.specs.File.{between, plan_checks, plan_check, plan_of, n_at, t_at, p_at, gate_count_at, out_count_at}
+use Rattle.plan.specs.Plans.{Plan, party_count, kind_count, input_owners, coin_owners, steps, step_at, last_call, received, input_count, coin_count, own_out_count, own_inputs, own_coins, out_wires, out_wires_of, mail_count, sent_count}
+use Rattle.plan.specs.File.{rule_for, version_at, plan_checks, plan_check, plan_of, n_at, t_at, p_at, gate_count_at, out_count_at}
 use Rattle.plan.specs.Planned.{Planned}
 use Rattle.plan.proofs.Refusals.{first_of-append, passed_both}
 use Rattle.field.specs.Field.{Ready}
 use Rattle.field.proofs.Primes.{prime_sound}
-use Rattle.plan.proofs.Planned.{passing, modulus_prime, modulus_small, planned, plan_t, plan_n, plan_dealers, plan_gates, plan_outs}
+use Rattle.plan.proofs.Planned.{passing, modulus_prime, modulus_small, planned, plan_t, plan_n, plan_gates, plan_outs}
 use Rattle.plan.proofs.Wires.{out_wires_few}
-use Rattle.plan.proofs.Valid.{Valid, valid, sized, plain, plain_no_7, planned_or}
-use Rattle.plan_counts.proofs.Counts.{coins_input, coins_multiply, coins_random, coins_none}
-use Rattle.plan.proofs.Counts.{plain-steps, plain-own-inputs}
+use Rattle.plan.proofs.Valid.{Valid, valid, sized, plain, plain_no_7}
 use Rattle.plan_coalition.specs.Coalitions.{in_set, members, set_fits}
 use Rattle.plan_coalition.proofs.Coalitions.{set_ok_lem, member_in, all-members, member_party}
+use Rattle.plan_coalition.proofs.Owned.{own-most}
 use Rattle.run_protocol.specs.Rounds.{mail_to, after, results, view_count}
 use Rattle.run_protocol.specs.Settings.{Inputs, Coins}
 use Rattle.run_protocol.proofs.Expected.{Tabled}
@@ -53,15 +50,16 @@ use Rattle.run_protocol.proofs.Given.{tabled-none}
 use Rattle.run_protocol.proofs.Owners.{length-own}
 use Rattle.run_protocol.proofs.Counts.{mail_count_lem}
 use Rattle.run_protocol.proofs.Runs.{run-mail, steps-tab}
-use Rattle.run_protocol.proofs.Accepted.{own_below}
+use Rattle.run_protocol.proofs.Accepted.{own_below, steps_few}
 use Rattle.run_protocol.proofs.Below.{mail_below}
 use Rattle.match_privacy.proofs.SetMembers.{set_few}
 use Rattle.run_dealings.specs.Rows.{Given}
 use Rattle.run_bench.specs.BenchCalls.{run_checks, bench_answer}
-use Rattle.run_bench.proofs.RunCheckLaws.{mail-total}
+use Rattle.run_protocol.proofs.ViewCounts.{gate_mail, mail-total, coins-by-mail, calls-by-mail}
 use Rattle.run_bench.proofs.BenchLaws.{passed-set, passed-given}
 use Rattle.bench_text.specs.Decimals.{digits, decimal, field, line}
-use Rattle.bench_lines.specs.Report.{plan_word, view_word, round_word, out_word, sent_word, refused_word, plan_line, view_line, round_line, member_lines, out_lines_from, run_lines, answer_lines, plan_part, set_part, figures_part, coins_part, unreadable, bench_of, report}
+use Rattle.bench_lines.specs.Report.{plan_word, view_word, round_word, out_word, sent_word, refused_word, plan_line, view_line, round_line, member_lines, out_lines_from, run_lines, answer_lines, plan_part, set_part, figures_part, coins_part, unreadable, bench_of, report, list_part, input_width, lent}
+use Rattle.bench_report.proofs.Answering.{width_at_least}
 use Rattle.bench_text.specs.Texts.{Reported}
 use Rattle.bench_fitting.specs.Fitting.{longest, Fitting, Whole}
 
@@ -131,10 +129,12 @@ line_most word xs = omega (arith, length-append word (flat_map field xs ++ (10 �
 numbers_short : (p : ℕ) (xs : List ℕ) → p ≤ limit → all_below p xs ≡ true → Short xs
 numbers_short p xs l h = at_all (λ x. x < 10000000000) xs (λ i m. omega (arith, all_below_at p xs i h m))
 
-flat_most : (most : ℕ) (f : ℕ → List ℕ) (is : List ℕ) → All (λ i. length (f i) ≤ most) is → length (flat_map f is) ≤ most * length is
-unfolding flat_map
-flat_most most f [] a = omega arith
-flat_most most f (i ∷ is) a = omega (arith, length-append (f i) (flat_map f is), a.0, flat_most most f is a.1, mul-suc most (length is))
+-- lists of `most` bytes, and 11 more for each number of a list that is i's
+flat_most : (most : ℕ) (os : List ℕ) (f : ℕ → List ℕ) (is : List ℕ) → All (λ i. length (f i) ≤ most + 11 * count_where (eqb i) os) is
+    → length (flat_map f is) ≤ most * length is + 11 * total (map (λ i. count_where (eqb i) os) is)
+unfolding flat_map total
+flat_most most os f [] a = omega arith
+flat_most most os f (i ∷ is) a = omega (arith, length-append (f i) (flat_map f is), a.0, flat_most most os f is a.1, mul-suc most (length is))
 
 -- lines of so many numbers and 17 bytes
 rounds_bound : (f : ℕ → List ℕ) (c u : ℕ → ℕ) (n : ℕ) → ((k : ℕ) → k < n → length (f (u k)) ≤ 17 + 11 * c k) → length (flat_map f (tab u n)) ≤ 17 * n + 11 * total (tab c n)
@@ -148,28 +148,6 @@ rounds_bound f c u (suc n) h =
       rounds_bound f (λ k. c (suc k)) (λ k. u (suc k)) n (λ k l. h (suc k) (omega arith)),
     )
 
--- ---- a party's own coins: t at most at each gate
-module _ (bs : List ℕ) (h : Header) (k : Planned bs h) (i : ℕ) where
-  coins-by : (b : Bool) (r : ℕ) → cond b h.t 0 ≡ r → r ≤ h.t
-  coins-by true r e = omega arith
-  coins-by false r e = omega arith
-
-  gate-coins : (x : Gate) → count_where (eqb i) (coin_owners_at (plan_of bs) x) ≤ h.t
-  unfolding dealings_at
-  gate-coins (Input s) = coins-by (eqb i s) _ (coins_input bs h k i (Input s) s _ refl refl)
-  gate-coins (Add a b) = omega (arith, coins_none (plan_of bs) i (Add a b) refl)
-  gate-coins (Scale a c) = omega (arith, coins_none (plan_of bs) i (Scale a c) refl)
-  gate-coins (Offset a c) = omega (arith, coins_none (plan_of bs) i (Offset a c) refl)
-  gate-coins (Multiply a b) = coins-by (between 1 (h.t + h.t + 1) i) _ (coins_multiply bs h k i (Multiply a b) a b _ _ refl refl refl)
-  gate-coins Random = coins-by (between 1 h.n i) _ (coins_random bs h k i Random _ _ refl refl refl)
-  gate-coins (Spend a b) = omega (arith, coins_none (plan_of bs) i (Spend a b) refl)
-
-  gates-coins : (gs : List Gate) → count_where (eqb i) (flat_map (coin_owners_at (plan_of bs)) gs) ≤ h.t * length gs
-  unfolding flat_map count_where
-  gates-coins [] = omega arith
-  gates-coins (x ∷ gs) =
-      omega (arith, gate-coins x, gates-coins gs, count_where-append (eqb i) (coin_owners_at (plan_of bs) x) (flat_map (coin_owners_at (plan_of bs)) gs), mul-suc h.t (length gs))
-
 -- ---- the contents of a plan that passes
 prime : (bytes : List ℕ) → plan_check bytes ≡ (Ok tt) → Ready (p_at bytes)
 prime bytes passes =
@@ -180,13 +158,14 @@ prime bytes passes =
     }
 
 abbrev header : (bytes : List ℕ) → plan_check bytes ≡ (Ok tt) → Header
-header bytes passes = record { n = n_at bytes; t = t_at bytes; field = record { p = p_at bytes; ready = prime bytes passes }; gates = gate_count_at bytes; outs = out_count_at bytes }
+header bytes passes = record { n = n_at bytes; t = t_at bytes; field = record { p = p_at bytes; ready = prime bytes passes }; gates = gate_count_at bytes; outs = out_count_at bytes; rule = rule_for (version_at bytes) }
 
 header_planned : (bytes : List ℕ) (passes : plan_check bytes ≡ (Ok tt)) → Planned bytes (header bytes passes)
-header_planned bytes passes = planned bytes (header bytes passes) passes (record { n = refl; t = refl; p = refl; gates = refl; outs = refl })
+header_planned bytes passes = planned bytes (header bytes passes) passes (record { n = refl; t = refl; p = refl; gates = refl; outs = refl; rule = refl })
 
--- ---- the lines of a run that passes
-module _ (bytes xs cs : List ℕ) (passes : plan_check bytes ≡ (Ok tt)) (inputs : Inputs (plan_of bytes) xs) (settings : Coins (plan_of bytes) cs) where
+-- ---- the lines of a run that passes, of a list of so many numbers
+module _ (bytes xs cs : List ℕ) (passes : plan_check bytes ≡ (Ok tt)) (inputs : Inputs (plan_of bytes) xs) (settings : Coins (plan_of bytes) cs)
+    (few : input_count (plan_of bytes) + coin_count (plan_of bytes) ≤ 16384) where
   abbrev plan : Plan
   plan = plan_of bytes
 
@@ -202,37 +181,29 @@ module _ (bytes xs cs : List ℕ) (passes : plan_check bytes ≡ (Ok tt)) (input
   above : 0 < plan.p
   above = pos ok.prime
 
+  no-spent : kind_count (plan_of bytes) 7 ≡ 0
+  no-spent = plain_no_7 (plan_of bytes) (plain bytes passes)
+
   tabled : Tabled (plan_of bytes) [] []
-  tabled = tabled-none (plan_of bytes) [] (plain_no_7 (plan_of bytes) (plain bytes passes))
+  tabled = tabled-none (plan_of bytes) [] no-spent
 
   prime-few : plan.p ≤ limit
   prime-few = (sized bytes passes).few
 
-  gates_few : length plan.gates ≤ 1024
-  gates_few = omega (arith, plan_gates k, k.gates-high)
-
-  kind-few : (j : ℕ) → kind_count plan j ≤ 1024
-  unfolding kind_count
-  kind-few j = omega (arith, gates_few, count_where-le-length (is_kind j) plan.gates)
-
-  calls-few : last_call plan ≤ 1026
-  calls-few = omega (arith, plain-steps plan (plain bytes passes), kind-few 5)
-
-  own_few : (i : ℕ) → own_input_count plan i ≤ 1024
-  own_few i = omega (arith, plain-own-inputs plan (plain bytes passes) i, count_where-le-length (is_input_of i) plan.gates, gates_few)
-
-  own-coins-most : (i c : ℕ) → h.t ≤ c → own_coin_count plan i ≤ c * 1024
-  unfolding own_coin_count coin_owners
-  own-coins-most i c l = omega (arith, gates-coins bytes h k i plan.gates, mul-le-mul {n₁ = h.t} {m₁ = length plan.gates} {n₂ = c} {m₂ = 1024} l gates_few)
+  calls-few : last_call plan ≤ 3074
+  calls-few = omega (arith, steps_few (plan_of bytes), plan_gates k, k.gates-high)
 
   own-outs-few : (i : ℕ) → own_out_count plan i ≤ 64
   unfolding own_out_count out_wires
   own-outs-few i = omega (arith, out_wires_few i plan.outs, plan_outs k, k.outs-high)
 
-  -- of at most c coins a dealing, and d pieces
-  module _ (c d : ℕ) (few_coins : h.t ≤ c) (few-pieces : dealer_count plan * kind_count plan 5 ≤ d) (i : ℕ) (from1 : 1 ≤ i) (upto : i ≤ party_count plan) where
-    view-line : length (view_line plan xs cs i) ≤ 11280 + 11264 * c
-    unfolding view_line view_word own_inputs own_coins own_input_count own_coin_count
+  -- whose the numbers of the list are
+  abbrev owners : List ℕ
+  owners = input_owners plan ++ coin_owners plan
+
+  module _ (i : ℕ) (from1 : 1 ≤ i) (upto : i ≤ party_count plan) where
+    view-line : length (view_line plan xs cs i) ≤ 16 + 11 * count_where (eqb i) owners
+    unfolding view_line view_word own_inputs own_coins
     view-line =
         let s : Short (i ∷ (own_inputs plan i xs ++ own_coins plan i cs)) = (
           omega (arith, upto, plan_n k, k.n-high),
@@ -246,8 +217,7 @@ module _ (bytes xs cs : List ℕ) (passes : plan_check bytes ≡ (Ok tt)) (input
           length-append (own_inputs plan i xs) (own_coins plan i cs),
           length-own i (input_owners plan) xs,
           length-own i (coin_owners plan) cs,
-          own_few i,
-          own-coins-most i c few_coins,
+          count_where-append (eqb i) (input_owners plan) (coin_owners plan),
         )
 
     round-line : (r : ℕ) → r < last_call plan → length (round_line plan xs cs i r) ≤ 17 + 11 * received plan i (step_at plan r)
@@ -258,19 +228,15 @@ module _ (bytes xs cs : List ℕ) (passes : plan_check bytes ≡ (Ok tt)) (input
         let s : Short (r ∷ mail) = (omega (arith, calls-few), numbers_short plan.p mail prime-few small) in
         omega (arith, line_small round_word (r ∷ mail) s, mail_count_lem plan ok xs cs [] i from1 upto (suc r) (omega arith))
 
-    mail-most : total (map (received plan i) (steps plan)) ≤ 1984 + d
-    mail-most =
-        let o : party_count plan * own_out_count plan i ≤ 960 = mul-le-mul {n₁ = party_count plan} {m₁ = own_out_count plan i} {n₂ = 15} {m₂ = 64} (omega (arith, plan_n k, k.n-high)) (own-outs-few i) in
-        omega (arith, few-pieces, o, kind-few 1, mail-total plan (plain bytes passes) i)
-
-    rounds-most : length (flat_map (round_line plan xs cs i) (tab (λ r. r) (last_call plan))) ≤ 39266 + 11 * d
+    rounds-most : length (flat_map (round_line plan xs cs i) (tab (λ r. r) (last_call plan))) ≤ 10594 + 28 * gate_mail plan
     rounds-most =
         let f : ℕ → ℕ = λ r. received plan i (step_at plan r) in
+        let o : party_count plan * own_out_count plan i ≤ 960 = mul-le-mul {n₁ = party_count plan} {m₁ = own_out_count plan i} {n₂ = 15} {m₂ = 64} (omega (arith, plan_n k, k.n-high)) (own-outs-few i) in
         let all : total (map (received plan i) (steps plan)) ≡ total (tab f (last_call plan)) =
         ap total (ap (map (received plan i)) (steps-tab plan ok xs cs [] [] settings.count tabled) ∙ tab-map (received plan i) (step_at plan) (last_call plan)) in
-        omega (arith, calls-few, mail-most, all, rounds_bound (round_line plan xs cs i) f (λ r. r) (last_call plan) round-line)
+        omega (arith, mail-total plan i, calls-by-mail plan (omega (arith, plan_n k, k.n_low)), o, all, rounds_bound (round_line plan xs cs i) f (λ r. r) (last_call plan) round-line)
 
-    member_lines_lem : length (member_lines plan xs cs i) ≤ 50546 + 11264 * c + 11 * d
+    member_lines_lem : length (member_lines plan xs cs i) ≤ 10610 + 28 * gate_mail plan + 11 * count_where (eqb i) owners
     unfolding member_lines
     member_lines_lem = omega (arith, view-line, rounds-most, length-append (view_line plan xs cs i) (flat_map (round_line plan xs cs i) (tab (λ r. r) (last_call plan))))
 
@@ -286,12 +252,37 @@ module _ (bytes xs cs : List ℕ) (passes : plan_check bytes ≡ (Ok tt)) (input
       either true l m = m
       either false l m = omega arith
 
-  -- of at most c members too
-  run-lines-by :
-      (set c d most : ℕ) → h.t ≤ c → dealer_count plan * kind_count plan 5 ≤ d → 50546 + 11264 * c + 11 * d ≤ most → most * c ≤ 2990000 → set_fits h.n h.t set ≡ true
-      → length (run_lines plan set xs cs) ≤ 3000000
+  -- at most t members, and t coins for each number that the gates bring a member
+  members-most : (set : ℕ) → set_fits h.n h.t set ≡ true → length (flat_map (member_lines plan xs cs) (members set)) ≤ 787516
+  members-most set fits =
+      let few-members : length (members set) ≤ plan.t = set_few plan set (sym (set_ok_lem bytes h set k) ∙ fits) in
+      let each : ℕ = gate_mail (plan_of bytes) in
+      omega (
+        arith,
+        flat_most (10610 + 28 * each) owners (member_lines plan xs cs) (members set)
+            (all-members (λ i. length (member_lines plan xs cs i) ≤ 10610 + 28 * each + 11 * count_where (eqb i) owners) (members set)
+            (λ m w. member_lines_lem m (member_in set m w).from (rw (plan_n k) (member_party h.n h.t set fits m w)))),
+        own-most set owners,
+        length-append (input_owners plan) (coin_owners plan),
+        owned,
+        few,
+        add-mul 10610 (28 * each) (length (members set)),
+        mul_assoc 28 each (length (members set)),
+        mul-le-mul {n₁ = each} {m₁ = length (members set)} {n₂ = each} {m₂ = plan.t} (omega arith) few-members,
+        mul_comm each plan.t,
+        coins-by-mail plan no-spent,
+        few-members,
+        plan_t k,
+        k.threshold,
+        k.n-high,
+      )
+    where
+      owned : length (input_owners plan) + length (coin_owners plan) ≡ input_count plan + coin_count plan
+      owned = unfold input_count in unfold coin_count in refl
+
+  run_lines_lem : (set : ℕ) → set_fits h.n h.t set ≡ true → length (run_lines plan set xs cs) ≤ longest
   unfolding run_lines plan_line plan_word sent_word
-  run-lines-by set c d most few_coins few-pieces each all fits =
+  run_lines_lem set fits =
       let ms : List ℕ = flat_map (member_lines plan xs cs) (members set) in
       let ol : List ℕ = out_lines_from plan set xs cs 0 [] plan.outs in
       let sl : List ℕ = line sent_word (sent_count plan ∷ []) in
@@ -306,27 +297,11 @@ module _ (bytes xs cs : List ℕ) (passes : plan_check bytes ≡ (Ok tt)) (input
         out-lines set plan.outs 0 [],
         plan_outs k,
         k.outs-high,
-        flat_most most (member_lines plan xs cs) (members set)
-            (all-members (λ i. length (member_lines plan xs cs i) ≤ most) (members set)
-            (λ m w. omega (arith, member_lines_lem c d few_coins few-pieces m (member_in set m w).from (rw (plan_n k) (member_party h.n h.t set fits m w)), each))),
-        mul-le-mul {n₁ = most} {m₁ = length (members set)} {n₂ = most} {m₂ = c} (omega arith) (omega (arith, set_few plan set (sym (set_ok_lem bytes h set k) ∙ fits), plan_t k, few_coins)),
-        all,
+        members-most set fits,
       )
 
-  -- without multiply gates up to 14 members, with them up to 7
-  run_lines_lem : (set : ℕ) → set_fits h.n h.t set ≡ true → length (run_lines plan set xs cs) ≤ 3000000
-  run_lines_lem set fits =
-      ⊎_elim
-      (λ (z : kind_count plan 5 ≡ 0).
-      let none : dealer_count plan * kind_count plan 5 ≤ 0 = rw (z, mul-zero (dealer_count plan)) (omega arith) in
-      run-lines-by set 14 0 208242 (omega (arith, k.threshold, k.n-high)) none (omega arith) (omega arith) fits)
-      (λ (two : 2 * h.t < h.n).
-      let some : dealer_count plan * kind_count plan 5 ≤ 15360 = mul-le-mul {n₁ = dealer_count plan} {m₁ = kind_count plan 5} {n₂ = 15} {m₂ = 1024} (omega (arith, plan_dealers k, k.n-high)) (kind-few 5) in
-      run-lines-by set 7 15360 298354 (omega (arith, k.n-high)) some (omega arith) (omega arith) fits)
-      (planned_or bytes h k)
-
 -- ---- the text
-module _ (bytes : List ℕ) (set : ℕ) (figures coins : List ℕ) (room : ℕ) (passed : bench_answer bytes set figures coins room ≡ (Ok tt)) where
+module _ (bytes : List ℕ) (set : ℕ) (figures coins : List ℕ) (room : ℕ) (short : length figures + length coins ≤ 65536) (passed : bench_answer bytes set figures coins room ≡ (Ok tt)) where
   both : (first_of (plan_checks bytes) ≡ (Ok tt)) × (first_of (run_checks (plan_of bytes) set figures coins room) ≡ (Ok tt))
   unfolding bench_answer
   both = passed_both _ _ (sym (first_of-append (plan_checks bytes) (run_checks (plan_of bytes) set figures coins room)) ∙ passed)
@@ -338,28 +313,50 @@ module _ (bytes : List ℕ) (set : ℕ) (figures coins : List ℕ) (room : ℕ) 
   given : Given (plan_of bytes) figures coins
   given = passed-given bytes set figures coins room _ refl both.1
 
-  passed_lines : length (run_lines (plan_of bytes) set (numbers figures) (numbers coins)) ≤ 3000000
+  passed_lines : length (run_lines (plan_of bytes) set (numbers figures) (numbers coins)) ≤ longest
   passed_lines =
       run_lines_lem bytes (numbers figures) (numbers coins) plan-passes
       (record { count = omega (arith, numbers-length figures, given.inputs_count); small = given.inputs_below })
-      (record { count = omega (arith, numbers-length coins, given.coins_count); small = given.coins_below }) set
+      (record { count = omega (arith, numbers-length coins, given.coins_count); small = given.coins_below })
+      (omega (arith, short, given.inputs_count, given.coins_count)) set
       (passed-set bytes set figures coins room _ refl both.1 (header bytes plan-passes) (header_planned bytes plan-passes))
 
-answer_lines_lem : (c : Checked) (plan : Plan) (set : ℕ) (xs cs : List ℕ) → (c ≡ (Ok tt) → length (run_lines plan set xs cs) ≤ 3000000) → length (answer_lines c plan set xs cs) ≤ 3000000
+answer_lines_lem : (c : Checked) (plan : Plan) (set : ℕ) (xs cs : List ℕ) → (c ≡ (Ok tt) → length (run_lines plan set xs cs) ≤ longest) → length (answer_lines c plan set xs cs) ≤ longest
 unfolding answer_lines refused_word
 answer_lines_lem (Ok tt) plan set xs cs h = h refl
 answer_lines_lem (Err r) plan set xs cs h = omega (arith, line_most refused_word (number_of r ∷ place_of r ∷ []))
 
+-- the numbers after the set
+parts_short : (bs : List ℕ) → unreadable bs ≡ false → length (figures_part bs) + length (coins_part bs) ≤ 65536
+unfolding unreadable figures_part coins_part lent numbers_of list_part
+parts_short bs e =
+    let plan : List ℕ = plan_part bs in
+    let list : List ℕ = drop (4 + word_at bs 0) bs in
+    let n : ℕ = length list / input_width plan in
+    let all : List ℕ = bytes_of (tab (λ i. number_at (input_width plan) list (input_width plan * i)) n) in
+    let m : ℕ = width * input_count (plan_of plan) in
+    let few : length bs ≤ 32768 = ltb-false 32768 (length bs) (or_parts (ltb 32768 (length bs)) _ e).0 in
+    omega (
+      arith,
+      few,
+      length-drop (4 + word_at bs 0) bs,
+      width_at_least plan list,
+      length-bytes_of (tab (λ i. number_at (input_width plan) list (input_width plan * i)) n),
+      length-tab (λ i. number_at (input_width plan) list (input_width plan * i)) n,
+      ap length (take-append-drop m all),
+      length-append (take m all) (drop m all),
+    )
+
 pub fitting : Fitting
 unfolding report bench_of refused_word
-fitting bs = step (unreadable bs)
+fitting bs = step (unreadable bs) refl
   where
-    step : (b : Bool)
-        → length (cond b (line refused_word (1 ∷ 0 ∷ [])) (answer_lines (bench_of bs) (plan_of (plan_part bs)) (set_part bs) (numbers (figures_part bs)) (numbers (coins_part bs)))) ≤ 3000000
-    step true = omega (arith, line_most refused_word (1 ∷ 0 ∷ []))
-    step false =
+    step : (b : Bool) → unreadable bs ≡ b
+        → length (cond b (line refused_word (1 ∷ 0 ∷ [])) (answer_lines (bench_of bs) (plan_of (plan_part bs)) (set_part bs) (numbers (figures_part bs)) (numbers (coins_part bs)))) ≤ longest
+    step true q = omega (arith, line_most refused_word (1 ∷ 0 ∷ []))
+    step false q =
         answer_lines_lem (bench_of bs) (plan_of (plan_part bs)) (set_part bs) (numbers (figures_part bs)) (numbers (coins_part bs))
-        (λ e. passed_lines (plan_part bs) (set_part bs) (figures_part bs) (coins_part bs) (width * view_count (plan_of (plan_part bs)) (members (set_part bs))) e)
+        (λ e. passed_lines (plan_part bs) (set_part bs) (figures_part bs) (coins_part bs) (width * view_count (plan_of (plan_part bs)) (members (set_part bs))) (parts_short bs q) e)
 
 -- ---- a text that is written as far as there is room is written whole
 pub whole : (bs old new : List ℕ) (r : ℕ) → longest ≤ length old → Reported (report bs) old new r → Whole (report bs) new r

@@ -4,7 +4,7 @@ use Rattle.bench_lines.specs.Report.{report}
 
 -- no text has more bytes
 abbrev pub longest : ℕ
-longest = 3000000
+longest = 1000000
 
 abbrev pub Fitting : Type 0
 Fitting = (bs : List ℕ) → length (report bs) ≤ longest

@@ -1,4 +1,4 @@
-// The bench program's text, whole: a buffer of 3,000,000 bytes holds every report.
+// The bench program's text, whole: a buffer of 1,000,000 bytes holds every report.
 #![tactic(auto)]
 
 ghost use Rattle.std.specs.Prelude.{◌≤◌, length};

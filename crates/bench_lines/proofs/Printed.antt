@@ -132,7 +132,7 @@ view_count-append plan (x ∷ a) b = omega (arith, view_count-append plan a b)
 pub record Parting (plan : Plan) (set i k j : ℕ) : Type 0 where
   pub low : 1 ≤ j
   pub high : j - 1 ≤ i - 1
-  pub few : k + 32768 ≤ 32768 * j
+  pub few : k + 68608 ≤ 68608 * j
   pub is : k ≡ view_count plan (members_from set 1 (j - 1))
 
 pub part_none : (plan : Plan) (set i : ℕ) → Parting plan set i 0 1
@@ -145,7 +145,7 @@ counted plan true j = omega arith
 counted plan false j = refl
 
 module _ (plan : Plan) (set i k j : ℕ) (h : Parting plan set i k j) where
-  pub part_next : (d : ℕ) → j < i → d ≡ cond (in_set set j) (view_count_of plan j) 0 → d ≤ 32768 → Parting plan set i (k + d) (j + 1)
+  pub part_next : (d : ℕ) → j < i → d ≡ cond (in_set set j) (view_count_of plan j) 0 → d ≤ 68608 → Parting plan set i (k + d) (j + 1)
   unfolding members_from
   part_next d l e m =
       let q : j + 1 - 1 ≡ j - 1 + 1 = omega (arith, h.low) in
@@ -166,7 +166,7 @@ module _ (plan : Plan) (set i k j : ℕ) (h : Parting plan set i k j) where
   unfolding part_at
   part_done l = let e : j - 1 ≡ i - 1 = omega (arith, h.low, h.high) in h.is ∙ ap (λ (n : ℕ). view_count plan (members_from set 1 n)) e
 
-  pub part_few : i ≤ 16 → k ≤ 524288
+  pub part_few : i ≤ 16 → k ≤ 1097728
   part_few l = omega (arith, h.few, h.high, h.low)
 
 -- As it is: answers name this set, since the check leaves their goals open by `using` alone.

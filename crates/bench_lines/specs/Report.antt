@@ -7,7 +7,7 @@ use Rattle.plan.specs.declared.Output.{Output}
 use Rattle.plan.specs.Refusals.{Checked}
 use Rattle.plan.specs.Refusals.{number_of, place_of}
 use Rattle.plan.specs.Plans.{Plan, party_count, last_call, input_count, own_inputs, own_coins, out_wires_of, sent_count}
-use Rattle.plan.specs.File.{plan_of}
+use Rattle.plan.specs.File.{between, plan_of}
 use Rattle.plan_coalition.specs.Coalitions.{members, in_set}
 use Rattle.run_protocol.specs.Rounds.{mail_to, after, results, view_count}
 use Rattle.run_bench.specs.BenchCalls.{bench_answer}
@@ -79,15 +79,15 @@ set_part bs = word_at bs (2 + word_at bs 0)
 unfoldable pub list_part : List ℕ → List ℕ
 list_part bs = drop (4 + word_at bs 0) bs
 
--- the bytes of a number after the set: four where the plan's byte 4 is 3, else two
+-- the bytes of a number after the set: four where the plan's byte 4 is 3 or 4, else two
 unfoldable pub input_width : List ℕ → ℕ
-input_width plan = cond (eqb (get_or plan 4 0) 3) 4 2
+input_width plan = cond (between 3 4 (get_or plan 4 0)) 4 2
 
 -- such numbers as a list that is lent to the bench call
 unfoldable pub lent : List ℕ → List ℕ → List ℕ
 lent plan list = bytes_of (numbers_of (input_width plan) list)
 
--- the first numbers, as many as the plan has input gates, are the figures, and the rest are coins
+-- the first numbers, as many as a run of the plan has figures, are these, and the rest are coins
 unfoldable pub figures_part : List ℕ → List ℕ
 figures_part bs = take (width * input_count (plan_of (plan_part bs))) (lent (plan_part bs) (list_part bs))
 

@@ -56,7 +56,7 @@ fn put_sent(text: &mut Text, plan: &PlanFile)
 // How many inputs and coins of its own a party has.
 #[tactic(auto, using(crate::proofs::Printed::membering))]
 fn own_count(plan: &PlanFile, i: usize) -> usize
-    ensures { record { eq : result ≡ own_count (plan_of plan.now.bytes.now) i; le : result ≤ 15360 } }
+    ensures { record { eq : result ≡ own_count (plan_of plan.now.bytes.now) i; le : result ≤ 44032 } }
 {
     plan_counts::own_input_count(plan, i) + plan_counts::own_coin_count(plan, i)
 }
@@ -87,7 +87,7 @@ impl Seen<'_> {
     // The mail of each round to party i, which stands in the view from number `from` on.
     #[tactic(auto, using(crate::proofs::Printed::rounding), unfolding(crate::specs::Report::round_word))]
     fn put_rounds(&self, text: &mut Text, i: usize, from: usize)
-        requires from_bound { from ≤ 540000 }
+        requires from_bound { from ≤ 8000000 }
         ensures same { text.new.room.ghost_name ≡ text.old.room.ghost_name }
         ensures put { Put (round_lines_in (plan_of self.now.plan.now.bytes.now) i (drop from (numbers self.now.view.now)) 0 (last_call (plan_of self.now.plan.now.bytes.now))) text.old.written text.old.room.now text.new.room.now text.new.written }
     {
@@ -104,7 +104,7 @@ impl Seen<'_> {
     // Party i's lines, when its view begins at number `from`.
     #[tactic(auto, using(crate::proofs::Printed::membering), unfolding(crate::specs::Report::view_word))]
     fn put_member(&self, text: &mut Text, i: usize, from: usize)
-        requires from_bound { from ≤ 524288 }
+        requires from_bound { from ≤ 1097728 }
         ensures same { text.new.room.ghost_name ≡ text.old.room.ghost_name }
         ensures put { Put (member_lines_in (plan_of self.now.plan.now.bytes.now) i (drop from (numbers self.now.view.now))) text.old.written text.old.room.now text.new.room.now text.new.written }
     {
@@ -117,7 +117,7 @@ impl Seen<'_> {
     #[tactic(auto, using(crate::proofs::Printed::parting))]
     fn part_at(&self, i: usize) -> usize
         requires i_bound { i ≤ 16 }
-        ensures { record { eq : result ≡ part_at (plan_of self.now.plan.now.bytes.now) self.now.set i; le : result ≤ 524288 } }
+        ensures { record { eq : result ≡ part_at (plan_of self.now.plan.now.bytes.now) self.now.set i; le : result ≤ 1097728 } }
     {
         let mut at = 0;
         for j in 1..i {
@@ -152,7 +152,7 @@ impl Seen<'_> {
     #[tactic(auto, using(crate::proofs::Printed::placing))]
     fn results_at(&self, i: usize) -> usize
         requires i_bound { i ≤ 16 }
-        ensures { record { eq : result ≡ results_at (plan_of self.now.plan.now.bytes.now) self.now.set i; le : result ≤ 557056 } }
+        ensures { record { eq : result ≡ results_at (plan_of self.now.plan.now.bytes.now) self.now.set i; le : result ≤ 1166336 } }
     {
         let outs = plan_sizes::own_out_count(self.plan, i);
         let count = run_bench::checking::view_count_of(self.plan, i);

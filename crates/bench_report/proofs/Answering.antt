@@ -31,11 +31,12 @@ use Rattle.plan.specs.declared.Refusal.{Refusal}
 use Rattle.plan.specs.declared.Refusal.TheVariants as refusal
 use Rattle.plan.specs.Refusals.{first_of, number_of, place_of}
 use Rattle.plan.specs.Plans.{Plan, party_count, kind_count, input_count, coin_count, sent_count}
-use Rattle.plan.specs.File.{plan_of, plan_check, plan_checks}
+use Rattle.plan.specs.File.{between, plan_of, plan_check, plan_checks}
 use Rattle.plan.specs.Planned.{Planned}
 use Rattle.plan_coalition.specs.Coalitions.{members, set_fits}
 use Rattle.plan.proofs.Refusals.{and_then_passed, and_then_refused, first_of-append}
 use Rattle.plan.proofs.Planned.{plan_p, plan_n}
+use Rattle.plan.proofs.Ranges.{contains_is}
 use Rattle.plan.proofs.Valid.{valid, plain, plain_no_7}
 use Rattle.plan_coalition.proofs.Coalitions.{member_party}
 use Rattle.seat_messages.specs.Calls.{unless_refused}
@@ -128,10 +129,10 @@ rest_all m l = take_all (length l - m) (drop m l) (omega (arith, length-drop m l
 pub front_long : (m : ℕ) (l : List ℕ) → m ≤ length l → m ≡ length (take m l)
 front_long m l h = sym (length-take-le m l h)
 
-pub view_long : (k : ℕ) (v : List ℕ) → k ≤ 524288 → 2097152 ≤ length v → width * k ≡ length (take (width * k) v)
+pub view_long : (k : ℕ) (v : List ℕ) → k ≤ 1097728 → 4390912 ≤ length v → width * k ≡ length (take (width * k) v)
 view_long k v h l = sym (length-take-le (width * k) v (omega arith))
 
-pub view_sized : (k n : ℕ) (v : List ℕ) → k ≡ n → k ≤ 524288 → 2097152 ≤ length v → length (take (width * k) v) ≡ width * n
+pub view_sized : (k n : ℕ) (v : List ℕ) → k ≡ n → k ≤ 1097728 → 4390912 ≤ length v → length (take (width * k) v) ≡ width * n
 view_sized k n v e h l = length-take-le (width * k) v (omega arith) ∙ ap (λ (x : ℕ). width * x) e
 
 pub split_lines : (bs : List ℕ) (set : ℕ) (list : List ℕ) (k m at e : ℕ) (t u : List ℕ) → k ≡ input_count (plan_of bs) → m ≡ min (width * k) (length list)
@@ -158,25 +159,25 @@ plan_refused_lines bs set list r at e t u f w =
 pub ruleset reading_plan = (rules, plan_refused_lines)
 
 -- ---- the numbers after the set
-pub width_four : (plan : List ℕ) (b : ℕ) → b ≡ get_or plan 4 0 → b ≡ 3 → 4 ≡ input_width plan
+pub width_four : (plan : List ℕ) (b : ℕ) (t : Bool) → b ≡ get_or plan 4 0 → t ≡ between 3 4 b → t ≡ true → 4 ≡ input_width plan
 unfolding input_width
-width_four plan b e f = rw (← e, f)
+width_four plan b t e f g = rw (← e, ← f, g)
 
-pub width_two : (plan : List ℕ) (b : ℕ) → b ≡ get_or plan 4 0 → (b ≡ 3 → ⊥) → 2 ≡ input_width plan
+pub width_two : (plan : List ℕ) (b : ℕ) (t : Bool) → b ≡ get_or plan 4 0 → t ≡ between 3 4 b → t ≡ false → 2 ≡ input_width plan
 unfolding input_width
-width_two plan b e f = rw (← e, ne_eqb b 3 f)
+width_two plan b t e f g = rw (← e, ← f, g)
 
 width_not_four : (plan : List ℕ) → (input_width plan ≡ 4 → ⊥) → 2 ≡ input_width plan
 unfolding input_width
-width_not_four plan = by (eqb (get_or plan 4 0) 3)
+width_not_four plan = by (between 3 4 (get_or plan 4 0))
   where
     by : (b : Bool) → (◌≡◌ {A = ℕ} (cond b 4 2) 4 → ⊥) → ◌≡◌ {A = ℕ} 2 (cond b 4 2)
     by true f = absurd (f refl)
     by false f = refl
 
-width_at_least : (plan list : List ℕ) → length list / input_width plan ≤ length list / 2
+pub width_at_least : (plan list : List ℕ) → length list / input_width plan ≤ length list / 2
 unfolding input_width
-width_at_least plan list = by (eqb (get_or plan 4 0) 3)
+width_at_least plan list = by (between 3 4 (get_or plan 4 0))
   where
     by : (b : Bool) → length list / cond b 4 2 ≤ length list / 2
     by true = omega arith
@@ -229,7 +230,7 @@ module _ (plan list : List ℕ) (w : ℕ) (e : w ≡ input_width plan) where
         ap (take (width * count)) (stored-part f count room₀ room i h.is l) ∙ take_at (bytes_of (tab f count)) (drop (width * count) room₀) (width * count) long ∙ rw e
 
 -- As it is: answers name this set, since the check leaves their goals open by `using` alone.
-pub ruleset widening = (rules, width_four, width_two, read_four, read-two, read_fits, widen_few, widen_within, widen_none, widen_next, widened-room, widened)
+pub ruleset widening = (rules, contains_is, width_four, width_two, read_four, read-two, read_fits, widen_few, widen_within, widen_none, widen_next, widened-room, widened)
 
 pub lent_lines : (bs list : List ℕ) (set e : ℕ) (room : List ℕ) (at r : ℕ) (t u : List ℕ) → take e room ≡ lent bs list → Put (listed bs set (take e room)) at t u r → Put (listed bs set (lent bs list)) at t u r
 lent_lines bs list set e room at r t u q w = rw q at w

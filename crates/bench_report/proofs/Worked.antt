@@ -34,5 +34,5 @@ refused_text : List ℕ
 refused_text = 114 ∷ 101 ∷ 102 ∷ 117 ∷ 115 ∷ 101 ∷ 100 ∷ 32 ∷ 49 ∷ 32 ∷ 48 ∷ 10 ∷ []
 
 report_left_over : report (input_k 3) ≡ refused_text
-unfolding input_k refused_text word_at digits decimal field line refused_word plan_part list_part input_width unreadable report flat_map
+unfolding input_k refused_text word_at digits decimal field line refused_word plan_part list_part input_width unreadable report flat_map between
 report_left_over = refl

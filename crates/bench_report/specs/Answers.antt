@@ -12,6 +12,6 @@ unfoldable pub answered : List ℕ → ℕ → List ℕ → List ℕ → List �
 answered bs set figures coins =
     answer_lines (bench_answer bs set figures coins (width * view_count (plan_of bs) (members set))) (plan_of bs) set (numbers figures) (numbers coins)
 
--- of a list of figures and coins: the first numbers, as many as the plan has input gates, are the figures
+-- of a list of figures and coins: the first numbers, as many as a run of the plan has figures, are these
 unfoldable pub listed : List ℕ → ℕ → List ℕ → List ℕ
 listed bs set list = answered bs set (take (width * input_count (plan_of bs)) list) (drop (width * input_count (plan_of bs)) list)

@@ -33,11 +33,11 @@ fn put_benched(
     }
 }
 
-// The text of a bench run of a plan that passes: the list's first numbers, as many as the plan has input gates, are the figures.
+// The text of a bench run of a plan that passes: the list's first numbers, as many as a run of it has figures, are these.
 // As it is: text, plan, set and list go from `put_answer`, which reads the plan, through `put_planned`, which makes room for the view, to here, where
 // the list is split; a struct of them would be made in the first and taken apart here.
 #[tactic(auto, using(crate::proofs::Answering::splitting))]
-fn put_listed(text: &mut Text, plan: &PlanFile, set: u16, list: &[u8], view: &mut [u8; 2097152])
+fn put_listed(text: &mut Text, plan: &PlanFile, set: u16, list: &[u8], view: &mut [u8; 4390912])
     ensures same { text.new.room.ghost_name ≡ text.old.room.ghost_name }
     ensures put { Put (listed plan.now.bytes.now set list.now) text.old.written text.old.room.now text.new.room.now text.new.written }
 {
@@ -52,7 +52,7 @@ fn put_planned(text: &mut Text, plan: &PlanFile, set: u16, list: &[u8])
     ensures same { text.new.room.ghost_name ≡ text.old.room.ghost_name }
     ensures put { Put (listed plan.now.bytes.now set list.now) text.old.written text.old.room.now text.new.room.now text.new.written }
 {
-    let mut view = [0u8; 2097152];
+    let mut view = [0u8; 4390912];
     put_listed(text, plan, set, list, &mut view);
 }
 
@@ -75,7 +75,11 @@ fn put_answer(text: &mut Text, bytes: &[u8], set: u16, list: &[u8])
 fn width_of(plan: &[u8]) -> usize
     ensures { record { eq : result ≡ input_width plan.now; some : 1 ≤ result } }
 {
-    if numbers::byte(plan, 4) == 3 { 4 } else { 2 }
+    if (3..=4).contains(&numbers::byte(plan, 4)) {
+        4
+    } else {
+        2
+    }
 }
 
 // Number i of a list of such numbers.

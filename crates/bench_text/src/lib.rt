@@ -68,7 +68,7 @@ impl Text<'_> {
     // As it is: a place and a count, and no slice: the list may end before them, so the caller of a slice would cut it first, as the loop does here.
     #[tactic(auto, using(crate::proofs::Appending::fielding))]
     fn put_fields(&mut self, list: &[u8], from: usize, count: usize)
-        requires from_bound { from ≤ 2000000 }
+        requires from_bound { from ≤ 16000000 }
         requires count_bound { count ≤ 1000000 }
         ensures same { self.new.room.ghost_name ≡ self.old.room.ghost_name }
         ensures put { Put (flat_map field (take count (drop from (numbers list.now)))) self.old.written self.old.room.now self.new.room.now self.new.written }
@@ -112,7 +112,7 @@ impl Text<'_> {
     // As it is: a slice of the list would ask that it is long enough, and what is printed of a view asks nothing of its length.
     #[tactic(auto, using(crate::proofs::Appending::lining))]
     pub fn put_list_line(&mut self, word: &[u8], first: u64, list: &[u8], from: usize, count: usize)
-        requires from_bound { from ≤ 2000000 }
+        requires from_bound { from ≤ 16000000 }
         requires count_bound { count ≤ 1000000 }
         ensures same { self.new.room.ghost_name ≡ self.old.room.ghost_name }
         ensures put { Put (line word.now (first ∷ take count (drop from (numbers list.now)))) self.old.written self.old.room.now self.new.room.now self.new.written }

@@ -16,7 +16,7 @@ use lib.Dec.{eqb, leb}
 use lib.ListN.{length, take, set, length-set}
 use lib.Seq.{length-take-le, take_all}
 use mir.Syntax.{w64}
-use mir.Val.{Fits}
+use mir.Val.{bool_byte, Fits}
 use Rattle.numbers.specs.Tables.{tab, total}
 use Rattle.numbers.specs.Bytes.{width, bytes_of}
 use Rattle.numbers.proofs.Fills.{fill_none, fill_next}
@@ -29,28 +29,21 @@ use Rattle.plan.specs.Plans.{party_count, kind_count, per_multiply, sent_count}
 use Rattle.plan.specs.File.{plan_checks, plan_check, plan_of}
 use Rattle.plan.specs.Planned.{Planned}
 use Rattle.plan.proofs.Refusals.{first_of-append, and_then_passed, and_then_refused}
-use Rattle.plan.proofs.Planned.{plan_n, plan_dealers, plan_outs}
-use Rattle.plan.proofs.Valid.{valid, plain}
+use Rattle.plan.proofs.Planned.{plan_n, plan_rule, plan_dealers, plan_outs}
+use Rattle.plan.proofs.Valid.{valid}
+use Rattle.plan.specs.declared.Rule.{Rule}
+use Rattle.plan.specs.declared.Rule.TheVariants.{Reduction, Truncation}
 use Rattle.plan_counts.specs.declared.Tally.{Tally}
+use Rattle.plan_counts.proofs.Counts.{as_count, one_at_most}
 use Rattle.plan_counts.specs.Counts.{Tallied}
 use Rattle.seat_messages.specs.Calls.{unless_refused}
 use Rattle.charge_parts.specs.declared.Portion.{Portion}
-use Rattle.charge_laws.specs.Charges.{elements_by, elements, bill_for, bill_of, charge_of, parts_of}
-use Rattle.charge_laws.proofs.Elements.{elements-tab, elements-long, plain-elements, elements-sent}
+use Rattle.charge_laws.specs.Charges.{pieces_by, elements_by, elements, bill_for, bill_of, charge_of, parts_of}
+use Rattle.charge_laws.proofs.Elements.{elements-tab, elements-long, elements-each, elements-sent}
 use Rattle.charge_laws.proofs.Parts.{bill_fits}
 use Rattle.charge_call.specs.ChargeCalls.{price_checks, charge_answer, charged_of, charge_after}
 
 -- ---- what a party sends
-scaled : (n m : ℕ) (b : Bool) → n * cond b m 0 ≡ m * cond b n 0
-scaled n m true = mul_comm n m
-scaled n m false = omega (arith, mul-zero n, mul-zero m)
-
-pub dealt_some : (m i d : ℕ) → i ≤ d → m ≡ cond (leb i d) m 0
-dealt_some m i d l = rw (le-leb i d l)
-
-pub dealt_none : (m i d : ℕ) → d < i → 0 ≡ cond (leb i d) m 0
-dealt_none m i d l = rw (lt-leb i d l)
-
 -- the first i of n numbers stand
 pub record Listed (bs : List ℕ) (n : ℕ) (d : List ℕ) (i : ℕ) : Type 0 where
   pub within : i ≤ n
@@ -58,26 +51,45 @@ pub record Listed (bs : List ℕ) (n : ℕ) (d : List ℕ) (i : ℕ) : Type 0 wh
   pub front : take i d ≡ tab (λ k. elements_by (plan_of bs) (suc k)) i
 
 module _ (bs : List ℕ) (h : Header) (p : Planned bs h) where
-  -- a party deals at its inputs, and at each multiply gate if it is a dealer
-  module _ (i : ℕ) (c : Tally) (e : Tallied (plan_of bs) i c) where
-    few : (d : ℕ) → d ≤ c.multiplies → h.n * (c.own + d) ≤ 30720
-    few d l = omega (arith, mul-le-mul {n₁ = h.n} {m₁ = c.own + d} {n₂ = 15} {m₂ = 2048} p.n-high (omega (arith, e.few, e.own_few)))
+  module _ (i : ℕ) where
+    pub pieces_reduced : (rule : Rule) (r : ℕ) → rule ≡ Reduction → r ≡ bool_byte (leb i (h.t + h.t + 1)) → r ≡ pieces_by (plan_of bs) rule i
+    unfolding pieces_by
+    pieces_reduced rule r e q = rw (e, plan_dealers p) (as_count (leb i (h.t + h.t + 1)) q)
 
-    pub dealings_fit : (d : ℕ) → d ≤ c.multiplies → Fits w64 (c.own + d)
-    dealings_fit d l = record { fits = omega (arith, e.few, e.own_few) }
+    pub pieces_truncated : (rule : Rule) → rule ≡ Truncation → 3 ≡ pieces_by (plan_of bs) rule i
+    unfolding pieces_by
+    pieces_truncated rule e = rw e
 
-    pub dealt_fits : (d : ℕ) → d ≤ c.multiplies → Fits w64 (h.n * (c.own + d))
-    dealt_fits d l = record { fits = omega (arith, few d l) }
+    module _ (c : Tally) (e : Tallied (plan_of bs).gates i c) (r : ℕ) (l : r ≤ 3) where
+      few : c.own + c.multiplies * r + c.randoms + 2 * c.spends ≤ 3072
+      few = omega (arith, e.few, e.own_few, mul-le-mul {n₁ = c.multiplies} {m₁ = r} {n₂ = c.multiplies} {m₂ = 3} (omega arith) l)
 
-    pub element_fits : (d : ℕ) → d ≤ c.multiplies → Fits w64 (h.n * (c.own + d) + h.outs)
-    element_fits d l = record { fits = omega (arith, few d l, p.outs-high) }
+      all : h.n * (c.own + c.multiplies * r + c.randoms + 2 * c.spends) ≤ 46080
+      all = mul-le-mul {n₁ = h.n} {m₁ = c.own + c.multiplies * r + c.randoms + 2 * c.spends} {n₂ = 15} {m₂ = 3072} p.n-high few
 
-    pub element_is : (d : ℕ) → d ≡ cond (leb i (h.t + h.t + 1)) c.multiplies 0 → h.n * (c.own + d) + h.outs ≡ elements_by (plan_of bs) i
-    element_is d q =
-        sym
-        (plain-elements (plan_of bs) (plain bs p.passes) i
-        ∙ rw (plan_n p, plan_outs p, plan_dealers p, ← e.own, ← e.multiplies, q)
-        (omega (arith, mul-add h.n c.own (cond (leb i (h.t + h.t + 1)) c.multiplies 0), scaled h.n c.multiplies (leb i (h.t + h.t + 1)))))
+      pub pieces_fit : Fits w64 (c.multiplies * r)
+      pieces_fit = record { fits = omega (arith, few) }
+
+      pub dealt_fits : Fits w64 (c.own + c.multiplies * r)
+      dealt_fits = record { fits = omega (arith, few) }
+
+      pub drawn_fits : Fits w64 (c.own + c.multiplies * r + c.randoms)
+      drawn_fits = record { fits = omega (arith, few) }
+
+      pub each_fits : Fits w64 (c.own + c.multiplies * r + c.randoms + 2 * c.spends)
+      each_fits = record { fits = omega (arith, few) }
+
+      pub all_fit : Fits w64 (h.n * (c.own + c.multiplies * r + c.randoms + 2 * c.spends))
+      all_fit = record { fits = omega (arith, all) }
+
+      pub element_fits : Fits w64 (h.n * (c.own + c.multiplies * r + c.randoms + 2 * c.spends) + h.outs)
+      element_fits = record { fits = omega (arith, all, p.outs-high) }
+
+      pub element_is : r ≡ pieces_by (plan_of bs) h.rule i → h.n * (c.own + c.multiplies * r + c.randoms + 2 * c.spends) + h.outs ≡ elements_by (plan_of bs) i
+      unfolding kind_count
+      element_is q =
+          let s : pieces_by (plan_of bs) (plan_of bs).rule i ≡ r = ap (λ (rule : Rule). pieces_by (plan_of bs) rule i) (plan_rule p) ∙ sym q in
+          sym (elements-each (plan_of bs) i ∙ rw (s, plan_n p, plan_outs p, e.own, e.multiplies, e.randoms, e.spends))
 
   -- ---- the list of elements
   pub element_next : (i x : ℕ) → x ≡ elements_by (plan_of bs) (i + 1) → x ≡ elements_by (plan_of bs) (suc i)
@@ -141,9 +153,9 @@ module _ (bs : List ℕ) (h : Header) (p : Planned bs h) where
   room_shares room e = length-take-le h.n room (omega (arith, p.n-high))
 
 -- ---- the bill
-module _ (sent price : ℕ) (s : sent ≤ 231360) (q : price ≤ 1000000) where
-  most : sent * price ≤ 231360 * 1000000
-  most = mul-le-mul {n₁ = sent} {m₁ = price} {n₂ = 231360} {m₂ = 1000000} s q
+module _ (sent price : ℕ) (s : sent ≤ 692160) (q : price ≤ 1000000) where
+  most : sent * price ≤ 692160 * 1000000
+  most = mul-le-mul {n₁ = sent} {m₁ = price} {n₂ = 692160} {m₂ = 1000000} s q
 
   pub cents_fit : Fits w64 (sent * price)
   cents_fit = record { fits = omega (arith, most) }
@@ -157,10 +169,10 @@ module _ (sent price : ℕ) (s : sent ≤ 231360) (q : price ≤ 1000000) where
 
   pub cents_below : (sent * price + 999) / 1000 < 4294967296
   unfolding bill_for
-  cents_below = bill_fits sent price s q
+  cents_below = bill_fits sent price (omega (arith, s)) q
 
 -- As it is: answers name this set, since the check leaves their goals open by `using` alone.
-pub ruleset listing = (rules, dealt_some, dealt_none, dealings_fit, dealt_fits, element_fits, element_is, listed_none, listed_next, listed_long, listed, sent_sum, shares_room, sent_some, bill_is, bytes_are, room_part, room_shares, cents_fit, cents_up_fit, cents_are, cents_below)
+pub ruleset listing = (rules, one_at_most, pieces_reduced, pieces_truncated, pieces_fit, dealt_fits, drawn_fits, each_fits, all_fit, element_fits, element_is, listed_none, listed_next, listed_long, listed, sent_sum, shares_room, sent_some, bill_is, bytes_are, room_part, room_shares, cents_fit, cents_up_fit, cents_are, cents_below)
 
 -- ---- the call
 kept : (c : Checked) (r : Refusal) (new old : List ℕ) → c ≡ Err r → old ≡ unless_refused c new old

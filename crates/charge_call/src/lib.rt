@@ -1,31 +1,35 @@
 // The line charge: what each party sends, the carrier's bill, and each party's part of it.
 #![tactic(auto)]
 
-ghost use Rattle.std.specs.Prelude.{◌≡◌, cond, ◌*◌, ◌<◌, ◌≤◌, leb, length};
+ghost use Rattle.std.specs.Prelude.{◌≡◌, ◌*◌, ◌<◌, ◌≤◌, length};
 ghost use Rattle.numbers.specs.Bytes.{width, bytes_of};
 ghost use Rattle.plan.specs.File.{plan_of};
-ghost use Rattle.charge_laws.specs.Charges.{elements_by, elements, bill_for, bill_of, charge_of};
+ghost use Rattle.charge_laws.specs.Charges.{elements_by, elements, bill_for, bill_of, charge_of, pieces_by};
 ghost use Rattle.charge_call.specs.ChargeCalls.{charge_answer, charged_of, charge_after};
 
 use charge_parts::Portion;
-use plan::{PlanFile, Refusal};
+use plan::{PlanFile, Refusal, Rule};
 
-// A dealing at each of so many multiply gates if party i is one of the dealers.
+// What party i sends each party at a multiply gate.
 #[tactic(auto, using(crate::proofs::Charging::listing))]
-fn dealt(i: usize, dealers: usize, multiplies: usize) -> usize
-    ensures { record { eq : result ≡ cond (leb i dealers) multiplies 0; le : result ≤ multiplies } }
+fn pieces_by(plan: &PlanFile, i: usize) -> usize
+    ensures { record { eq : result ≡ pieces_by (plan_of plan.now.bytes.now) plan.now.header.rule i; le : result ≤ 3 } }
 {
-    if i <= dealers { multiplies } else { 0 }
+    let h = plan.header;
+    match h.rule {
+        Rule::Reduction => usize::from(i <= h.t + h.t + 1),
+        Rule::Truncation => 3,
+    }
 }
 
-// The elements that party i sends: one to each party for each of its dealings, and a share for each out.
+// The elements that party i sends: to each party what it deals and opens, and a share for each out.
 #[tactic(auto, using(crate::proofs::Charging::listing))]
 fn elements_by(plan: &PlanFile, i: usize) -> u64
     ensures { result ≡ elements_by (plan_of plan.now.bytes.now) i }
 {
     let c = plan_counts::tally_of(plan, i);
-    let dealings = c.own + dealt(i, plan.header.t + plan.header.t + 1, c.multiplies);
-    (plan.header.n * dealings + plan.header.outs) as u64
+    let each = c.own + c.multiplies * pieces_by(plan, i) + c.randoms + 2 * c.spends;
+    (plan.header.n * each + plan.header.outs) as u64
 }
 
 #[tactic(auto, using(crate::proofs::Charging::listing))]
@@ -41,7 +45,7 @@ fn put_elements(plan: &PlanFile, es: &mut [u64])
 // The bill for so many elements at a price for 1,000, rounded up.
 #[tactic(auto, using(crate::proofs::Charging::listing))]
 fn bill_for(sent: u64, price: u32) -> u64
-    requires { record { sent : sent ≤ 231360; price : price ≤ 1000000 } }
+    requires { record { sent : sent ≤ 692160; price : price ≤ 1000000 } }
     ensures { record { eq : result ≡ bill_for sent price; lt : result < 4294967296 } }
 {
     (sent * price as u64 + 999) / 1000

@@ -1,13 +1,13 @@
 -- What the parties send is what the bench counts.
 --     elements-long, elements-tab     a number for each party
 --     by-steps                        a party's elements, step by step
---     elements-by, plain-elements     by kinds of gates; of a plain plan
+--     elements-by, elements-each      by kinds of gates
 --     elements-sent                   the parties' elements add up to the elements sent
 -- Assumes nothing.
 use Prim.Native.Nat.{ℕ, zero, suc, ◌+◌, ◌-◌, ◌*◌, ◌<◌, ◌≤◌}
 use mathlib.Core.Path.{◌≡◌, refl, sym, ap, ap₂, ◌∙◌}
 use mathlib.Core.Logic.{⊎_elim}
-use mathlib.Core.Bool.{Bool, cond}
+use mathlib.Core.Bool.{Bool, true, false, cond}
 use mathlib.Core.List.{List, [], ◌∷◌, ◌++◌, map, flat_map}
 use native.Mathlib.Nat.{mul-zero, zero-mul, suc-mul, mul-add, mul_comm, mul_assoc}
 use native.Mathlib.Omega.{arith}
@@ -23,11 +23,11 @@ use Rattle.plan.specs.declared.Rule.TheVariants.{Reduction, Truncation}
 use Rattle.plan.specs.declared.Step.{Step}
 use Rattle.plan.specs.declared.Step.TheVariants.{SendOuts}
 use Rattle.plan.specs.Plans.{Plan, party_count, parties, dealer_count, kind_of, is_kind, kind_count, is_input_of, input_wires, multiply_steps, steps_at, steps_from, steps, step_at, last_call, sent_by, written_count, per_multiply, sent_count}
-use Rattle.plan.proofs.Valid.{Valid, Plain, plain_no_6, plain_no_7, none_or_majority}
+use Rattle.plan.proofs.Valid.{Valid, none_or_majority}
 use Rattle.plan.proofs.Wires.{length-input_wires}
 use Rattle.seat_messages.specs.Messages.{wires_by_party}
 use Rattle.run_protocol.proofs.Counts.{placed}
-use Rattle.charge_laws.specs.Charges.{elements_by, elements}
+use Rattle.charge_laws.specs.Charges.{elements_by, elements, pieces_by}
 use Rattle.charge_laws.proofs.Totals.{total-append, total_plus, total-scale, total_same}
 
 -- as many of n as are dealers
@@ -119,20 +119,32 @@ module _ (plan : Plan) where
         total-gates i 0 plan.gates,
       )
 
-  -- ---- of a plain plan: its inputs, its products if it is a dealer, and the outs
-  module _ (p : Plain plan) where
-    plain-alike : alike ≡ length plan.outs
-    unfolding alike
-    plain-alike = rw (plain_no_6 plan p, plain_no_7 plan p, zero-mul (party_count plan), zero-mul (2 * party_count plan)) (omega arith)
+  -- to each party what it deals at its inputs, at multiply gates and at random wires, and what it opens; and a share for each out
+  each : (rule : Rule) (i : ℕ) → sent_for rule i ≡ party_count plan * pieces_by plan rule i
+  unfolding sent_for pieces_by
+  each Reduction i = by (leb i (dealer_count plan))
+    where
+      by : (b : Bool) → cond b (party_count plan) 0 ≡ party_count plan * cond b 1 0
+      by true = omega arith
+      by false = omega arith
+  each Truncation i = omega arith
 
-    pub plain-elements :
-        (i : ℕ) → elements_by plan i
-        ≡ party_count plan * count_where (is_input_of i) plan.gates + (kind_count plan 5 * cond (leb i (dealer_count plan)) (party_count plan) 0 + length plan.outs)
-    unfolding sent_for
-    plain-elements i =
-        elements-by i
-        ∙ ap (λ (r : Rule). party_count plan * length (input_wires plan i) + (kind_count plan 5 * sent_for r i + alike)) p.rule
-        ∙ ap₂ (λ (a b : ℕ). party_count plan * a + (kind_count plan 5 * sent_for Reduction i + b)) (length-input_wires plan i) plain-alike
+  pub elements-each :
+      (i : ℕ) → elements_by plan i
+      ≡ party_count plan * (count_where (is_input_of i) plan.gates + kind_count plan 5 * pieces_by plan plan.rule i + kind_count plan 6 + 2 * kind_count plan 7) + length plan.outs
+  unfolding alike
+  elements-each i =
+      let n : ℕ = party_count plan in
+      let a : ℕ = count_where (is_input_of i) plan.gates in
+      let m : ℕ = kind_count plan 5 in
+      let r : ℕ = pieces_by plan plan.rule i in
+      let d : ℕ = kind_count plan 6 in
+      let o : ℕ = kind_count plan 7 in
+      let own : n * length (input_wires plan i) ≡ n * a = ap (λ (z : ℕ). n * z) (length-input_wires plan i) in
+      let dealt : m * sent_for plan.rule i ≡ n * (m * r) = ap (λ (z : ℕ). m * z) (each plan.rule i) ∙ sym (mul_assoc m n r) ∙ ap (λ (z : ℕ). z * r) (mul_comm m n) ∙ mul_assoc n m r in
+      let drawn : d * n ≡ n * d = mul_comm d n in
+      let spent : o * (2 * n) ≡ n * (2 * o) = omega (arith, mul_comm o n) in
+      omega (arith, elements-by i, own, dealt, drawn, spent, mul-add n (a + m * r + d) (2 * o), mul-add n (a + m * r) d, mul-add n a (m * r))
 
   -- ---- all parties
   module _ (valid : Valid plan) where

@@ -273,6 +273,6 @@ pub bill_least : (sent price : ℕ) → 1000 * bill_for sent price < sent * pric
 unfolding bill_for
 bill_least sent price = omega arith
 
-pub bill_fits : (sent price : ℕ) → sent ≤ 231360 → price ≤ 1000000 → bill_for sent price < 4294967296
+pub bill_fits : (sent price : ℕ) → sent ≤ 692160 → price ≤ 1000000 → bill_for sent price < 4294967296
 unfolding bill_for
-bill_fits sent price s p = omega (arith, mul-le-mul {n₁ = sent} {m₁ = price} {n₂ = 231360} {m₂ = 1000000} s p)
+bill_fits sent price s p = omega (arith, mul-le-mul {n₁ = sent} {m₁ = price} {n₂ = 692160} {m₂ = 1000000} s p)

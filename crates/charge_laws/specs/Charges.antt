@@ -1,7 +1,9 @@
 -- The line charge: what each party sends, the carrier's bill in cents, and each party's part of it.
-use Rattle.std.specs.Prelude.{ℕ, zero, suc, ◌+◌, ◌-◌, ◌*◌, ◌/◌, ◌%◌, cond, List, map, ltb, length, get_or, set}
+use Rattle.std.specs.Prelude.{ℕ, zero, suc, ◌+◌, ◌-◌, ◌*◌, ◌/◌, ◌%◌, cond, List, map, leb, ltb, length, get_or, set}
 use Rattle.numbers.specs.Tables.{tab, total}
-use Rattle.plan.specs.Plans.{Plan, parties, last_call, written_count, sent_count}
+use Rattle.plan.specs.declared.Rule.{Rule}
+use Rattle.plan.specs.declared.Rule.TheVariants.{Reduction, Truncation}
+use Rattle.plan.specs.Plans.{Plan, parties, dealer_count, last_call, written_count, sent_count}
 
 -- the elements that party i sends, own included: what its calls write, but for the last, which writes results
 unfoldable pub elements_by : Plan → ℕ → ℕ
@@ -67,3 +69,9 @@ bill_of plan price = bill_for (sent_count plan) price
 
 unfoldable pub charge_of : Plan → ℕ → List ℕ
 charge_of plan price = parts_of (bill_of plan price) (elements plan)
+
+-- ---- for the code alone: no other definition and no demand cites this
+-- what party i sends each party at a multiply gate: a piece if it is a dealer, or one in each of three rounds
+unfoldable pub pieces_by : Plan → Rule → ℕ → ℕ
+pieces_by plan Reduction i = cond (leb i (dealer_count plan)) 1 0
+pieces_by plan Truncation i = 3

@@ -127,11 +127,11 @@ pub record Dividing (bill : ℕ) (es : List ℕ) (xs₀ xs : List Portion) (i : 
   pub parts : Filled (floor_at bill es) (parts_in xs₀) (parts_in xs) i
   pub rests : Filled (remainder_at bill es) (rests_in xs₀) (rests_in xs) i
 
-module _ (bill sent : ℕ) (es : List ℕ) (sum : sent ≡ total es) (some : 1 ≤ sent) (few : sent ≤ 231360) (high : bill < 4294967296) where
+module _ (bill sent : ℕ) (es : List ℕ) (sum : sent ≡ total es) (some : 1 ≤ sent) (few : sent ≤ 692160) (high : bill < 4294967296) where
   pub product_fits : (i : ℕ) → Fits w64 (bill * get_or es i 0)
   product_fits i =
-      let e : get_or es i 0 ≤ 231360 = omega (arith, entry-total es i) in
-      record { fits = omega (arith, mul-le-mul {n₁ = bill} {m₁ = get_or es i 0} {n₂ = 4294967296} {m₂ = 231360} (omega arith) e) }
+      let e : get_or es i 0 ≤ 692160 = omega (arith, entry-total es i) in
+      record { fits = omega (arith, mul-le-mul {n₁ = bill} {m₁ = get_or es i 0} {n₂ = 4294967296} {m₂ = 692160} (omega arith) e) }
 
   floor_is : (i : ℕ) → bill * get_or es i 0 / sent ≡ floor_at bill es i
   unfolding floor_at

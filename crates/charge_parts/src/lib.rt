@@ -20,7 +20,7 @@ pub struct Portion {
 // the list that is written, of which it must speak.
 #[tactic(auto, using(crate::proofs::Loops::dividing))]
 fn divide(bill: u64, sent: u64, es: &[u64], portions: &mut [Portion])
-    requires fact { record { sum : sent ≡ total es.now; some : 1 ≤ sent; few : sent ≤ 231360; bill : bill < 4294967296 } }
+    requires fact { record { sum : sent ≡ total es.now; some : 1 ≤ sent; few : sent ≤ 692160; bill : bill < 4294967296 } }
     requires shares_len { length portions.old ≡ length es.now }
     ensures parts { map (λ s. s.part) portions.new ≡ tab (floor_at bill es.now) (length es.now) }
     ensures rests { map (λ s. s.rest) portions.new ≡ tab (remainder_at bill es.now) (length es.now) }
@@ -89,7 +89,7 @@ fn give(left: u64, portions: &mut [Portion])
 // Shares a bill among parties that sent so many elements each.
 #[tactic(auto, using(crate::proofs::Sharing::sharing))]
 pub fn share(bill: u64, sent: u64, es: &[u64], portions: &mut [Portion])
-    requires fact { record { sum : sent ≡ total es.now; some : 1 ≤ sent; few : sent ≤ 231360; bill : bill < 4294967296 } }
+    requires fact { record { sum : sent ≡ total es.now; some : 1 ≤ sent; few : sent ≤ 692160; bill : bill < 4294967296 } }
     requires shares_len { length portions.old ≡ length es.now }
     ensures parts { map (λ s. s.part) portions.new ≡ parts_of bill es.now }
     ensures rests { map (λ s. s.rest) portions.new ≡ (give (left_over bill es.now) (shares_first bill es.now)).rests }

@@ -12,7 +12,8 @@ use mathlib.Core.List.{List, [], ◌∷◌, map}
 use native.Mathlib.Nat.{mul_comm, mul_assoc, mul-mod_right, mul-div_cancel_left}
 use native.Mathlib.Omega.{arith}
 use borrow.Author.Rules.{rules}
-use borrow.Author.Tests.{lt-ltb, le-leb}
+use borrow.Author.Tests.{lt-ltb, eqb-true}
+use lib.Dec.{leb}
 use lib.ListN.{length, take, drop, get_or, length-append}
 use lib.Seq.{ext_get_or, get_or_at, length-take-le}
 use mir.Syntax.{w8}
@@ -26,12 +27,13 @@ use Rattle.plan.specs.declared.Header.{Header}
 use Rattle.plan.specs.Refusals.{Checked}
 use Rattle.plan.specs.declared.Refusal.{Refusal}
 use Rattle.plan.specs.Refusals.{and_then, first_of}
-use Rattle.plan.specs.Plans.{coin_count, coin_owners}
+use Rattle.plan.specs.Plans.{kind_count, coin_count, coin_owners}
 use Rattle.plan.specs.File.{plan_checks, plan_check, plan_of}
 use Rattle.plan.specs.Planned.{Planned}
 use Rattle.plan.proofs.Refusals.{and_then_passed, and_then_refused, first_of-append}
 use Rattle.plan.proofs.Planned.{plan_n, plan_p, plan_gates}
-use Rattle.plan.proofs.Valid.{valid, plain, plain_no_7}
+use Rattle.plan.proofs.Valid.{valid}
+use Rattle.numbers.proofs.Truth.{both_true}
 use Rattle.plan_coalition.specs.Coalitions.{members}
 use Rattle.seat_messages.specs.Calls.{unless_refused}
 use Rattle.run_protocol.specs.Rounds.{view, view_count}
@@ -41,36 +43,36 @@ use Rattle.count_rows.specs.Merges as merges
 use Rattle.count_rows.specs.Merges.{counts_of, merged}
 use Rattle.count_rows.proofs.Tabled.{table_long, table-row}
 use Rattle.count_laws.specs.Settings.{other_coins, setting_count, setting_coins, views_of}
-use Rattle.count_laws.specs.CountCalls.{row_width, view_list, count_size, counting_checks, count_checks, count_answer, count_after}
+use Rattle.count_laws.specs.CountCalls.{row_width, settings_ok, view_list, count_size, counting_checks, count_checks, count_answer, count_after}
 use Rattle.count_laws.proofs.Joins.{unit, AllLong}
 use Rattle.count_laws.proofs.Settings.{setting_long, setting_small, members_within, view_long, view_below, views-long, view-list}
 use Rattle.count_laws.proofs.Owned.{few_others, few_coins}
 use Rattle.count_fill.specs.Filling.{row_bytes, rows_filled, Lent}
-use Rattle.count_call.specs.Counting.{capped, Countable}
+use Rattle.count_call.specs.Counting.{counted_settings, Countable}
 use Rattle.count_call.proofs.CheckLaws.{passed-countable, passed-size}
 
 -- ---- the rooms
 module _ (bs : List ℕ) (h : Header) (pl : Planned bs h) (set : ℕ) (inputs given : List ℕ) (c : Countable (plan_of bs) set inputs given) where
-  coins_few : coin_count (plan_of bs) ≤ 14368
+  coins_few : coin_count (plan_of bs) ≤ 14576
   unfolding setting_count
   coins_few =
-      few_coins (plan_of bs) (valid bs pl.passes) (plain bs pl.passes) (omega (arith, plan_n pl, pl.n-high)) (omega (arith, plan_gates pl, pl.gates-high)) set c.fits
+      few_coins (plan_of bs) (valid bs pl.passes) (omega (arith, plan_n pl, pl.n-high)) (omega (arith, plan_gates pl, pl.gates-high)) set c.fits
       (few_others (plan_of bs).p (other_coins (plan_of bs) set) (omega (arith, plan_p pl, pl.p_low, pl.n_low)) c.few)
 
-  pub owners-room : (d : List ℕ) → length d ≡ 14368 → coin_count (plan_of bs) ≤ length d
+  pub owners-room : (d : List ℕ) → length d ≡ 14576 → coin_count (plan_of bs) ≤ length d
   owners-room d l = omega (arith, coins_few)
 
-  module _ (n : ℕ) (en : n ≡ coin_count (plan_of bs)) (owners : List ℕ) (l : length owners ≡ 14368) where
+  module _ (n : ℕ) (en : n ≡ coin_count (plan_of bs)) (owners : List ℕ) (l : length owners ≡ 14576) where
     pub owners_within : n ≤ length owners
     owners_within = omega (arith, coins_few)
 
     pub owners-long : n ≡ length (take n owners)
     owners-long = sym (length-take-le n owners owners_within)
 
-    pub coins_room : (d : List ℕ) → length d ≡ 57472 → width * length (take n owners) ≤ length d
+    pub coins_room : (d : List ℕ) → length d ≡ 58304 → width * length (take n owners) ≤ length d
     coins_room d m = omega (arith, coins_few, owners-long)
 
-    pub all-lent : (v : ℕ) → (v ≡ view_count (plan_of bs) (members set)) × (v ≤ 524288) → take (coin_count (plan_of bs)) owners ≡ coin_owners (plan_of bs) → Lent (plan_of bs) set inputs given (take n owners) v
+    pub all-lent : (v : ℕ) → (v ≡ view_count (plan_of bs) (members set)) × (v ≤ 1097728) → take (coin_count (plan_of bs)) owners ≡ coin_owners (plan_of bs) → Lent (plan_of bs) set inputs given (take n owners) v
     all-lent v w e = record {
       fits = c.fits;
       inputs_count = c.inputs_count;
@@ -104,12 +106,17 @@ module _ (bs : List ℕ) (h : Header) (pl : Planned bs h) (set : ℕ) (inputs gi
   seen : ℕ → List ℕ
   seen s = view (plan_of bs) (members set) xs (setting_coins (plan_of bs) set cs s) []
 
+  -- a plan that is counted spends no triple
+  no-spent : kind_count (plan_of bs) 7 ≡ 0
+  unfolding settings_ok
+  no-spent = omega (arith, eqb-true (kind_count (plan_of bs) 6 + kind_count (plan_of bs) 7) 0 (both_true (leb (setting_count (plan_of bs) set) 65536) _ c.counted).1)
+
   some : 0 < (plan_of bs).p
   some = omega (arith, plan_p pl, pl.p_low)
 
   seen-long : (s : ℕ) → length (seen s) ≡ v
   unfolding seen
-  seen-long s = view_long (plan_of bs) (valid bs pl.passes) (plain_no_7 (plan_of bs) (plain bs pl.passes)) set c.fits xs cs s
+  seen-long s = view_long (plan_of bs) (valid bs pl.passes) no-spent set c.fits xs cs s
 
   unit-long : (s : ℕ) → length (unit (seen s)) ≡ v + 1
   unit-long s = length-append (seen s) (1 ∷ []) ∙ ap (λ (n : ℕ). n + 1) (seen-long s)
@@ -118,7 +125,7 @@ module _ (bs : List ℕ) (h : Header) (pl : Planned bs h) (set : ℕ) (inputs gi
   unfolding seen all_below
   unit-below s =
       append_below (plan_of bs).p (seen s) (1 ∷ [])
-      (view_below (plan_of bs) (valid bs pl.passes) (plain_no_7 (plan_of bs) (plain bs pl.passes)) xs (setting_coins (plan_of bs) set cs s) c.inputs_below
+      (view_below (plan_of bs) (valid bs pl.passes) no-spent xs (setting_coins (plan_of bs) set cs s) c.inputs_below
       (setting_long (plan_of bs) set cs s) (setting_small (plan_of bs) set cs s some c.given_below) (members set) (members_within (plan_of bs) set c.fits))
       (rw (lt-ltb 1 (plan_of bs).p (omega (arith, plan_p pl, pl.p_low, pl.n_low))) refl)
 
@@ -164,7 +171,7 @@ module _ (bs : List ℕ) (h : Header) (pl : Planned bs h) (set : ℕ) (inputs gi
   counts-units (s ∷ ss) f = omega (arith, get_or_at s 1 [] 0 v f.0, counts-units ss f.1)
 
   all_long : AllLong v (views_of (plan_of bs) set xs cs)
-  all_long = views-long (plan_of bs) (valid bs pl.passes) (plain_no_7 (plan_of bs) (plain bs pl.passes)) set c.fits xs cs
+  all_long = views-long (plan_of bs) (valid bs pl.passes) no-spent set c.fits xs cs
 
   views-count : length (views_of (plan_of bs) set xs cs) ≡ k
   unfolding views_of
@@ -177,16 +184,16 @@ module _ (bs : List ℕ) (h : Header) (pl : Planned bs h) (set : ℕ) (inputs gi
   unfolding row_width
   sorted-list new e =
       e ∙ ap (λ (t : List (List ℕ)). merges.listed (v + 1) k (merged v (sorted t))) table_filled
-      ∙ view-list (plan_of bs) (valid bs pl.passes) (plain_no_7 (plan_of bs) (plain bs pl.passes)) set c.fits xs cs
+      ∙ view-list (plan_of bs) (valid bs pl.passes) no-spent set c.fits xs cs
 
   size-rows : count_size (plan_of bs) set ≡ width * (v + 1) * k
   unfolding count_size row_width
   size-rows = sym (mul_assoc width (v + 1) k)
 
-  module _ (w r : ℕ) (ew : w ≡ view_count (plan_of bs) (members set)) (lw : w ≤ 524288) (er : r ≡ capped (setting_count (plan_of bs) set)) where
+  module _ (w r : ℕ) (ew : w ≡ view_count (plan_of bs) (members set)) (lw : w ≤ 1097728) (er : r ≡ counted_settings (plan_of bs) set) where
     settings-are : r ≡ k
-    unfolding capped
-    settings-are = er ∙ rw (le-leb (setting_count (plan_of bs) set) 65536 c.few) refl
+    unfolding counted_settings
+    settings-are = er ∙ rw c.counted
 
     rows_long : (out : List ℕ) → length out ≡ count_size (plan_of bs) set → length out ≡ width * (w + 1) * r
     rows_long out l = l ∙ size-rows ∙ ap₂ (λ (a b : ℕ). width * (a + 1) * b) (sym ew) (sym settings-are)

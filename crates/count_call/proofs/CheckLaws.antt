@@ -4,7 +4,7 @@
 --     passing        what a call that passes them is given
 -- Assumes nothing.
 use Rattle.std.proofs.Common.{Ok, Err}
-use Prim.Native.Nat.{ℕ, ◌+◌, ◌*◌, ◌<◌, ◌≤◌}
+use Prim.Native.Nat.{ℕ, ◌*◌, ◌<◌, ◌≤◌}
 use mathlib.Core.Path.{◌≡◌, refl, sym, ap, ap₂, ◌∙◌}
 use mathlib.Core.Bool.{Bool, true, false, cond}
 use mathlib.Core.List.{List, [], ◌∷◌}
@@ -24,18 +24,17 @@ use Rattle.plan.specs.Refusals.{Checked}
 use Rattle.plan.specs.declared.Refusal.{Refusal}
 use Rattle.plan.specs.declared.Refusal.TheVariants as refusal
 use Rattle.plan.specs.Refusals.{and_then, first_of, need}
-use Rattle.plan.specs.Plans.{Plan, input_count, kind_count}
+use Rattle.plan.specs.Plans.{Plan, input_count}
 use Rattle.plan.specs.File.{plan_of}
 use Rattle.plan.specs.Planned.{Planned}
 use Rattle.plan.proofs.Refusals.{and_then_passed, and_then_refused, and_then_end, first_of-append, need-true, need-false, passed_both, passed-need, passed_found}
 use Rattle.plan.proofs.Planned.{plan_p}
-use Rattle.plan.proofs.Valid.{plain, plain_no_6, plain_no_7}
 use Rattle.plan_coalition.specs.Coalitions.{set_fits, set_ok}
 use Rattle.plan_coalition.proofs.Coalitions.{set_ok_lem}
 use Rattle.seat_admission.specs.Parts.{list_checks}
 use Rattle.count_laws.specs.Settings.{member_coins, setting_count}
 use Rattle.count_laws.specs.CountCalls.{row_width, count_size, settings_ok, member_checks, counting_checks}
-use Rattle.count_call.specs.Counting.{capped, Countable}
+use Rattle.count_call.specs.Counting.{counted_settings, Countable}
 
 -- ---- refusals 10 to 13
 module _ (bs : List ℕ) (h : Header) (pl : Planned bs h) (set : ℕ) (inputs coins : List ℕ) where
@@ -67,36 +66,30 @@ module _ (bs : List ℕ) (h : Header) (pl : Planned bs h) (set : ℕ) (inputs co
 pub ruleset listing = (rules, list-inputs, list-coins)
 
 -- ---- refusal 30
-capped_over : (x : ℕ) → 65536 < capped x → leb x 65536 ≡ false
-unfolding capped
-capped_over x l = by (leb x 65536) refl l
-  where
-    by : (b : Bool) → leb x 65536 ≡ b → 65536 < cond b x 65537 → b ≡ false
-    by true e m = absurd (omega (arith, leb-true x 65536 e))
-    by false e m = refl
+settled : (plan : Plan) (set : ℕ) → settings_ok plan set ≡ true → setting_count plan set ≤ 65536
+unfolding settings_ok
+settled plan set e = leb-true (setting_count plan set) 65536 (both_true (leb (setting_count plan set) 65536) _ e).0
 
-capped_within : (x : ℕ) → capped x ≤ 65536 → (capped x ≡ x) × (leb x 65536 ≡ true)
-unfolding capped
-capped_within x l = by (leb x 65536) refl l
-  where
-    by : (b : Bool) → leb x 65536 ≡ b → cond b x 65537 ≤ 65536 → (cond b x 65537 ≡ x) × (b ≡ true)
-    by true e m = (refl, refl)
-    by false e m = absurd (omega arith)
+counted_by : (x k : ℕ) (b : Bool) → k ≡ cond b x 65537 → k ≤ 65536 → (k ≡ x) × (b ≡ true)
+counted_by x k true e l = (e, refl)
+counted_by x k false e l = absurd (omega arith)
 
-module _ (bs : List ℕ) (h : Header) (pl : Planned bs h) (set k : ℕ) (ek : k ≡ capped (setting_count (plan_of bs) set)) where
-  pub over : 65536 < k → settings_ok (plan_of bs) set ≡ false
-  unfolding settings_ok
-  over l = rw (capped_over (setting_count (plan_of bs) set) (omega arith)) refl
+module _ (plan : Plan) (set k : ℕ) (ek : k ≡ counted_settings plan set) where
+  pub over : 65536 < k → settings_ok plan set ≡ false
+  unfolding counted_settings
+  over l = by (settings_ok plan set) refl ek
+    where
+      by : (b : Bool) → settings_ok plan set ≡ b → k ≡ cond b (setting_count plan set) 65537 → b ≡ false
+      by true e q = absurd (omega (arith, settled plan set e))
+      by false e q = refl
 
-  pub few-are : k ≤ 65536 → k ≡ setting_count (plan_of bs) set
-  few-are l = ek ∙ (capped_within (setting_count (plan_of bs) set) (omega arith)).0
+  pub few-are : k ≤ 65536 → k ≡ setting_count plan set
+  unfolding counted_settings
+  few-are l = (counted_by (setting_count plan set) k (settings_ok plan set) ek l).0
 
-  pub few-ok : k ≤ 65536 → settings_ok (plan_of bs) set ≡ true
-  unfolding settings_ok
-  few-ok l =
-      let none : eqb (kind_count (plan_of bs) 6 + kind_count (plan_of bs) 7) 0 ≡ true =
-      eq-eqb (kind_count (plan_of bs) 6 + kind_count (plan_of bs) 7) 0 (omega (arith, plain_no_6 (plan_of bs) (plain bs pl.passes), plain_no_7 (plan_of bs) (plain bs pl.passes))) in
-      rw ((capped_within (setting_count (plan_of bs) set) (omega arith)).1, none) refl
+  pub few-ok : k ≤ 65536 → settings_ok plan set ≡ true
+  unfolding counted_settings
+  few-ok l = (counted_by (setting_count plan set) k (settings_ok plan set) ek l).1
 
 -- ---- all checks
 module _ (bs : List ℕ) (h : Header) (pl : Planned bs h) (set : ℕ) (inputs coins : List ℕ) (room : ℕ) (t : Bool) (et : t ≡ set_fits h.n h.t set) where
@@ -130,21 +123,21 @@ module _ (bs : List ℕ) (h : Header) (pl : Planned bs h) (set : ℕ) (inputs co
     pub check-lists : (r : Refusal) → c ≡ Err r → Err r ≡ first_of (counting_checks (plan_of bs) set inputs coins room)
     check-lists r e = sym (past-set ∙ and_then_refused c _ r e)
 
-    module _ (e : c ≡ (Ok tt)) (k : ℕ) (ek : k ≡ capped (setting_count (plan_of bs) set)) where
+    module _ (e : c ≡ (Ok tt)) (k : ℕ) (ek : k ≡ counted_settings (plan_of bs) set) where
       past-lists : first_of (counting_checks (plan_of bs) set inputs coins room) ≡ and_then many-check room-check
       past-lists = past-set ∙ and_then_passed c _ e
 
       pub check-many : 65536 < k → Err refusal.Settings ≡ first_of (counting_checks (plan_of bs) set inputs coins room)
-      check-many l = sym (past-lists ∙ and_then_refused many-check _ refusal.Settings (need-false refusal.Settings (settings_ok (plan_of bs) set) (over bs h pl set k ek l)))
+      check-many l = sym (past-lists ∙ and_then_refused many-check _ refusal.Settings (need-false refusal.Settings (settings_ok (plan_of bs) set) (over (plan_of bs) set k ek l)))
 
       module _ (l : k ≤ 65536) (w : ℕ) (ew : w ≡ row_width (plan_of bs) set) where
         size_is : width * (w * k) ≡ count_size (plan_of bs) set
         unfolding count_size
-        size_is = ap₂ (λ (a b : ℕ). width * (a * b)) ew (few-are bs h pl set k ek l)
+        size_is = ap₂ (λ (a b : ℕ). width * (a * b)) ew (few-are (plan_of bs) set k ek l)
 
         past-many : first_of (counting_checks (plan_of bs) set inputs coins room) ≡ need refusal.BufferLength (eqb room (width * (w * k)))
         past-many =
-            past-lists ∙ and_then_passed many-check _ (need-true refusal.Settings (settings_ok (plan_of bs) set) (few-ok bs h pl set k ek l))
+            past-lists ∙ and_then_passed many-check _ (need-true refusal.Settings (settings_ok (plan_of bs) set) (few-ok (plan_of bs) set k ek l))
             ∙ ap (λ (n : ℕ). need refusal.BufferLength (eqb room n)) (sym size_is)
 
         pub check-room : (room ≡ width * (w * k) → ⊥) → Err refusal.BufferLength ≡ first_of (counting_checks (plan_of bs) set inputs coins room)
@@ -153,13 +146,13 @@ module _ (bs : List ℕ) (h : Header) (pl : Planned bs h) (set : ℕ) (inputs co
         pub check-passed : room ≡ width * (w * k) → (Ok tt) ≡ first_of (counting_checks (plan_of bs) set inputs coins room)
         check-passed q = sym (past-many ∙ need-true refusal.BufferLength (eqb room (width * (w * k))) (eq-eqb room (width * (w * k)) q))
 
-pub few-numbers : (w k : ℕ) → w ≤ 524289 → k ≤ 65536 → w * k ≤ 34359803904
-few-numbers w k l m = mul-le-mul {n₁ = w} {m₁ = k} {n₂ = 524289} {m₂ = 65536} l m
+pub few-numbers : (w k : ℕ) → w ≤ 1097729 → k ≤ 65536 → w * k ≤ 71940767744
+few-numbers w k l m = mul-le-mul {n₁ = w} {m₁ = k} {n₂ = 1097729} {m₂ = 65536} l m
 
-pub numbers_fit : (w k : ℕ) → w ≤ 524289 → k ≤ 65536 → Fits w64 (w * k)
+pub numbers_fit : (w k : ℕ) → w ≤ 1097729 → k ≤ 65536 → Fits w64 (w * k)
 numbers_fit w k l m = record { fits = omega (arith, few-numbers w k l m) }
 
-pub size_fits : (w k : ℕ) → w ≤ 524289 → k ≤ 65536 → Fits w64 (width * (w * k))
+pub size_fits : (w k : ℕ) → w ≤ 1097729 → k ≤ 65536 → Fits w64 (width * (w * k))
 size_fits w k l m = record { fits = omega (arith, few-numbers w k l m) }
 
 pub ruleset checking = (rules, not-true, not-false, check-set, check-lists, check-many, check-room, check-passed, numbers_fit, size_fits)
@@ -180,7 +173,8 @@ module _ (plan : Plan) (set : ℕ) (inputs coins : List ℕ) (room : ℕ) (e : f
         inputs_count = holds-length (input_count plan) inputs (passed-need refusal.InputCount _ b.0);
         inputs_below = first_over-nothing plan.p (numbers inputs) (passed_found refusal.InputValue _ c.0);
         given_below = first_over-nothing plan.p (numbers coins) (passed_found refusal.CoinValue _ f.0);
-        few = leb-true (setting_count plan set) 65536 (both_true (leb (setting_count plan set) 65536) _ (passed-need refusal.Settings _ g.0)).0;
+        counted = passed-need refusal.Settings _ g.0;
+        few = settled plan set (passed-need refusal.Settings _ g.0);
       }
 
   pub passed-size : room ≡ count_size plan set

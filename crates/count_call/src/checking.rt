@@ -4,9 +4,9 @@ ghost use Rattle.plan.specs.Refusals.{first_of};
 ghost use Rattle.plan.specs.Plans.{own_coin_count};
 ghost use Rattle.plan.specs.File.{plan_of};
 ghost use Rattle.plan_coalition.specs.Coalitions.{in_set};
-ghost use Rattle.count_laws.specs.Settings.{member_coins, setting_count};
+ghost use Rattle.count_laws.specs.Settings.{member_coins};
 ghost use Rattle.count_laws.specs.CountCalls.{row_width, member_checks, counting_checks};
-ghost use Rattle.count_call.specs.Counting.{capped};
+ghost use Rattle.count_call.specs.Counting.{counted_settings};
 
 use plan::{PlanFile, Refusal};
 
@@ -14,7 +14,7 @@ use plan::{PlanFile, Refusal};
 
 // Party i's coins, where it is a member.
 fn coins_of(plan: &PlanFile, set: u16, i: usize) -> usize
-    ensures { record { eq : result ≡ cond (in_set set i) (own_coin_count (plan_of plan.now.bytes.now) i) 0; le : result ≤ 14336 } }
+    ensures { record { eq : result ≡ cond (in_set set i) (own_coin_count (plan_of plan.now.bytes.now) i) 0; le : result ≤ 43008 } }
 {
     if plan_coalition::is_member(set, i) {
         plan_counts::own_coin_count(plan, i)
@@ -26,7 +26,7 @@ fn coins_of(plan: &PlanFile, set: u16, i: usize) -> usize
 // How many coins are the members'.
 #[tactic(auto, using(crate::proofs::SizeLaws::gathering))]
 pub fn member_coins(plan: &PlanFile, set: u16) -> usize
-    ensures { record { eq : result ≡ member_coins (plan_of plan.now.bytes.now) set; le : result ≤ 229376 } }
+    ensures { record { eq : result ≡ member_coins (plan_of plan.now.bytes.now) set; le : result ≤ 688128 } }
 {
     let mut k: usize = 0;
     for i in 1..=16 {
@@ -35,11 +35,15 @@ pub fn member_coins(plan: &PlanFile, set: u16) -> usize
     k
 }
 
-// The settings of the others' coins; 65,537 where there are more than 65,536.
+// The settings of the others' coins that are counted; 65,537 where 30 falls: there are more than 65,536, or a gate is of kind 6 or 7.
 #[tactic(auto, using(crate::proofs::SizeLaws::sizing))]
 pub fn settings(plan: &PlanFile, set: u16) -> usize
-    ensures { record { eq : result ≡ capped (setting_count (plan_of plan.now.bytes.now) set); le : result ≤ 65537 } }
+    ensures { record { eq : result ≡ counted_settings (plan_of plan.now.bytes.now) set; le : result ≤ 65537 } }
 {
+    let tally = plan_counts::tally_of(plan, 0);
+    if tally.randoms + tally.spends != 0 {
+        return 65537;
+    }
     let all = plan_counts::coin_count(plan);
     let own = member_coins(plan, set);
     let ways = plan.header.field.p.saturating_pow((all - own) as u32);
@@ -49,7 +53,7 @@ pub fn settings(plan: &PlanFile, set: u16) -> usize
 // The numbers of a row: a view's, and its count.
 #[tactic(auto, using(crate::proofs::SizeLaws::sizing))]
 pub fn row_width(plan: &PlanFile, set: u16) -> usize
-    ensures { record { eq : result ≡ row_width (plan_of plan.now.bytes.now) set; le : result ≤ 524289 } }
+    ensures { record { eq : result ≡ row_width (plan_of plan.now.bytes.now) set; le : result ≤ 1097729 } }
 {
     run_bench::checking::view_count(plan, set) + 1
 }

@@ -18,17 +18,17 @@ use plan::Refusal;
 pub mod checking;
 
 impl Given<'_> {
-    // The rows of all settings, as they come. Where there are at most 65,536 settings a run has at most 14,368 coins.
+    // The rows of all settings, as they come. Where there are at most 65,536 settings a run has at most 14,576 coins.
     #[tactic(auto, using(crate::proofs::CallLaws::rooming))]
     fn fill_rows(&self, v: usize, out: &mut [u8])
         requires countable { Countable (plan_of self.now.plan.now.bytes.now) self.now.set self.now.inputs.now self.now.coins.now }
-        requires v_value { (v ≡ view_count (plan_of self.now.plan.now.bytes.now) (members self.now.set)) × (v ≤ 524288) }
+        requires v_value { (v ≡ view_count (plan_of self.now.plan.now.bytes.now) (members self.now.set)) × (v ≤ 1097728) }
         requires out_len { length out.old % (width * (v + 1)) ≡ 0 }
         ensures { out.new ≡ rows_filled (plan_of self.now.plan.now.bytes.now) self.now.set (numbers self.now.inputs.now) (numbers self.now.coins.now) (length out.old / (width * (v + 1))) }
     {
         let n = plan_counts::coin_count(self.plan);
-        let mut owners = [0u8; 14368];
-        let mut coins = [0u8; 57472];
+        let mut owners = [0u8; 14576];
+        let mut coins = [0u8; 58304];
         count_fill::owners(self.plan, &mut owners);
         let settings = Settings {
             plan: self.plan,

@@ -21,15 +21,15 @@ use Rattle.numbers.proofs.Tables.{tab-next, length-tab, row_room}
 use Rattle.numbers.proofs.Rows.{flat-snoc, flat-length}
 use Rattle.plan.specs.declared.Gate.{Gate}
 use Rattle.plan.specs.declared.Gate.TheVariants.{Input, Multiply, Random}
+use Rattle.plan.specs.declared.Rule.TheVariants.{Reduction, Truncation}
 use Rattle.plan.specs.declared.Header.{Header}
 use Rattle.plan.specs.Plans.{kind_of, is_kind, multiplying, coin_owners_at, coin_owners, coin_count}
 use Rattle.plan.specs.File.{gate_at, gate_ok, plan_of}
 use Rattle.plan.specs.Planned.{Planned}
-use Rattle.plan.proofs.Planned.{between-true, plan_t, plan_n, plan_dealers, plan_gates, plan_gate}
-use Rattle.plan.proofs.Valid.{plain, gate-kept, gate_majority}
+use Rattle.plan.proofs.Planned.{between-true, plan_t, plan_n, plan_rule, plan_dealers, plan_gates, plan_gate}
+use Rattle.plan.proofs.Valid.{gate-kept, gate_majority}
 use Rattle.run_protocol.proofs.Owners.{blocks, blocks_of}
-use Rattle.run_protocol.proofs.Dealt.{input-owners, reduction-owners, random-owners}
-use Rattle.run_dealings.proofs.CoinLaws as coins
+use Rattle.run_protocol.proofs.Dealt.{input-owners, reduction-owners, truncation-owners, random-owners}
 use Rattle.count_fill.specs.Filling.{Put}
 
 -- ---- one after the other
@@ -116,33 +116,51 @@ module _ (bs : List ℕ) (h : Header) (pl : Planned bs h) (g : ℕ) (l : g < h.g
   unfolding multiplying is_kind kind_of
   dealers_few a b e = omega (arith, gate_majority bs h pl g gate l is (rw e refl), pl.n-high)
 
+  at_gate : (x : Gate) (xs : List ℕ) → gate ≡ x → coin_owners_at (plan_of bs) x ≡ xs → xs ≡ coin_owners_at (plan_of bs) (gate_at bs g)
+  at_gate x xs e o = sym o ∙ ap (coin_owners_at (plan_of bs)) (sym e ∙ is)
+
+  owners-input : (s : ℕ) → gate ≡ Input s → replicate h.t s ≡ coin_owners_at (plan_of bs) (gate_at bs g)
+  owners-input s e = at_gate (Input s) (replicate h.t s) e (input-owners (plan_of bs) s ∙ ap (λ (t : ℕ). replicate t s) (plan_t pl))
+
+  owners-reduction : (a b : ℕ) → gate ≡ Multiply a b → h.rule ≡ Reduction → dealt h.t (h.t + h.t + 1) ≡ coin_owners_at (plan_of bs) (gate_at bs g)
+  owners-reduction a b e r =
+      at_gate (Multiply a b) (dealt h.t (h.t + h.t + 1)) e
+      (reduction-owners (plan_of bs) a b (plan_rule pl ∙ r) ∙ ap₂ (λ (t m : ℕ). blocks t 0 m) (plan_t pl) (plan_dealers pl) ∙ sym (dealt_blocks h.t (h.t + h.t + 1)))
+
+  owners-truncation : (a b : ℕ) → gate ≡ Multiply a b → h.rule ≡ Truncation → dealt (3 * h.t) h.n ≡ coin_owners_at (plan_of bs) (gate_at bs g)
+  owners-truncation a b e r =
+      at_gate (Multiply a b) (dealt (3 * h.t) h.n) e
+      (truncation-owners (plan_of bs) a b (plan_rule pl ∙ r) ∙ ap₂ (λ (t m : ℕ). blocks (3 * t) 0 m) (plan_t pl) (plan_n pl) ∙ sym (dealt_blocks (3 * h.t) h.n))
+
+  owners-random : gate ≡ Random → dealt h.t h.n ≡ coin_owners_at (plan_of bs) (gate_at bs g)
+  owners-random e =
+      at_gate Random (dealt h.t h.n) e (random-owners (plan_of bs) ∙ ap₂ (λ (t m : ℕ). blocks t 0 m) (plan_t pl) (plan_n pl) ∙ sym (dealt_blocks h.t h.n))
+
   module _ (at : ℕ) (d : List ℕ) (room : at + length (coin_owners_at (plan_of bs) (gate_at bs g)) ≤ length d) where
     pub input-room : (s : ℕ) → gate ≡ Input s → at + h.t ≤ length d
-    input-room s e = omega (arith, coins.coins_input bs h pl g gate is s e)
+    input-room s e = omega (arith, ap length (owners-input s e), length-replicate {A = ℕ} h.t s)
 
-    pub multiply-room : (a b : ℕ) → gate ≡ Multiply a b → at + h.t * (h.t + h.t + 1) ≤ length d
-    multiply-room a b e = omega (arith, coins.coins_multiply bs h pl g gate is a b e)
+    pub reduction-room : (a b : ℕ) → gate ≡ Multiply a b → h.rule ≡ Reduction → at + h.t * (h.t + h.t + 1) ≤ length d
+    reduction-room a b e r = omega (arith, ap length (owners-reduction a b e r), dealt_long h.t (h.t + h.t + 1))
+
+    pub truncation-room : (a b : ℕ) → gate ≡ Multiply a b → h.rule ≡ Truncation → at + 3 * h.t * h.n ≤ length d
+    truncation-room a b e r = omega (arith, ap length (owners-truncation a b e r), dealt_long (3 * h.t) h.n)
 
     pub random-room : gate ≡ Random → at + h.t * h.n ≤ length d
-    random-room e = omega (arith, coins.coins_random bs h pl g gate is e)
-
-  owners_of : (x : Gate) (xs : List ℕ) → gate ≡ x → coin_owners_at (plan_of bs) x ≡ xs → xs ≡ coin_owners_at (plan_of bs) (gate_at bs g)
-  owners_of x xs e o = sym o ∙ ap (coin_owners_at (plan_of bs)) (sym e ∙ is)
+    random-room e = omega (arith, ap length (owners-random e), dealt_long h.t h.n)
 
   module _ (at r : ℕ) (d e : List ℕ) where
     pub put_input : (s : ℕ) → gate ≡ Input s → Put (replicate h.t s) at d e r → Put (coin_owners_at (plan_of bs) (gate_at bs g)) at d e r
-    put_input s q p = put_as _ _ at r d e (owners_of (Input s) (replicate h.t s) q (input-owners (plan_of bs) s ∙ ap (λ (t : ℕ). replicate t s) (plan_t pl))) p
+    put_input s q p = put_as _ _ at r d e (owners-input s q) p
 
-    pub put-multiply : (a b : ℕ) → gate ≡ Multiply a b → Put (dealt h.t (h.t + h.t + 1)) at d e r → Put (coin_owners_at (plan_of bs) (gate_at bs g)) at d e r
-    put-multiply a b q p =
-        put_as _ _ at r d e
-        (owners_of (Multiply a b) (dealt h.t (h.t + h.t + 1)) q
-        (reduction-owners (plan_of bs) a b (plain bs pl.passes).rule ∙ ap₂ (λ (t m : ℕ). blocks t 0 m) (plan_t pl) (plan_dealers pl) ∙ sym (dealt_blocks h.t (h.t + h.t + 1)))) p
+    pub put-reduction : (a b : ℕ) → gate ≡ Multiply a b → h.rule ≡ Reduction → Put (dealt h.t (h.t + h.t + 1)) at d e r → Put (coin_owners_at (plan_of bs) (gate_at bs g)) at d e r
+    put-reduction a b q o p = put_as _ _ at r d e (owners-reduction a b q o) p
+
+    pub put-truncation : (a b : ℕ) → gate ≡ Multiply a b → h.rule ≡ Truncation → Put (dealt (3 * h.t) h.n) at d e r → Put (coin_owners_at (plan_of bs) (gate_at bs g)) at d e r
+    put-truncation a b q o p = put_as _ _ at r d e (owners-truncation a b q o) p
 
     pub put-random : gate ≡ Random → Put (dealt h.t h.n) at d e r → Put (coin_owners_at (plan_of bs) (gate_at bs g)) at d e r
-    put-random q p =
-        put_as _ _ at r d e
-        (owners_of Random (dealt h.t h.n) q (random-owners (plan_of bs) ∙ ap₂ (λ (t m : ℕ). blocks t 0 m) (plan_t pl) (plan_n pl) ∙ sym (dealt_blocks h.t h.n))) p
+    put-random q p = put_as _ _ at r d e (owners-random q) p
 
 pub few-parties : (bs : List ℕ) (h : Header) → Planned bs h → h.n ≤ 15
 few-parties bs h pl = pl.n-high
@@ -154,10 +172,12 @@ pub ruleset gating = (
   input_party,
   dealers_few,
   input-room,
-  multiply-room,
+  reduction-room,
+  truncation-room,
   random-room,
   put_input,
-  put-multiply,
+  put-reduction,
+  put-truncation,
   put-random,
   put-none,
 )

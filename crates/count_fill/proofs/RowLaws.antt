@@ -38,7 +38,7 @@ unfolding set_ok
 set_within bs h set pl ok =
     ltb-true set (2 ^ h.n) (ap (λ (n : ℕ). ltb set (2 ^ n)) (sym (plan_n pl)) ∙ (both_true (ltb set (2 ^ party_count (plan_of bs))) _ ok).0)
 
-pub view_fits : (v : ℕ) → v ≤ 524288 → Fits w64 (width * v)
+pub view_fits : (v : ℕ) → v ≤ 1097728 → Fits w64 (width * v)
 view_fits v l = record { fits = omega arith }
 
 pub row_within : (v : ℕ) (row : List ℕ) → length row ≡ width * (v + 1) → width * v ≤ length row

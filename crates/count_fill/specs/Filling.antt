@@ -28,4 +28,4 @@ pub record Lent (plan : Plan) (set : ℕ) (inputs given owners : List ℕ) (v : 
   pub given_below : all_below plan.p (numbers given) ≡ true
   pub owned : owners ≡ coin_owners plan
   pub wide : v ≡ view_count plan (members set)
-  pub few : v ≤ 524288
+  pub few : v ≤ 1097728

@@ -14,7 +14,7 @@ ghost use Rattle.count_laws.specs.Settings.{coins_from};
 ghost use Rattle.count_fill.specs.Filling.{Put, rows_filled, Lent};
 
 use field::Field;
-use plan::{Gate, PlanFile};
+use plan::{Gate, PlanFile, Rule};
 
 // ---- whose the coins are
 
@@ -55,7 +55,10 @@ fn put_owners(plan: &PlanFile, g: usize, at: usize, out: &mut [u8]) -> usize
     let t = plan.header.t;
     match plan.gate(g) {
         Gate::Input(s) => put_owner(s, t, at, out),
-        Gate::Multiply(_, _) => put_dealers(t + t + 1, t, at, out),
+        Gate::Multiply(_, _) => match plan.header.rule {
+            Rule::Reduction => put_dealers(t + t + 1, t, at, out),
+            Rule::Truncation => put_dealers(plan.header.n, 3 * t, at, out),
+        },
         Gate::Random => put_dealers(plan.header.n, t, at, out),
         _ => at,
     }

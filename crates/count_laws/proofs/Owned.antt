@@ -2,7 +2,7 @@
 --     members_others       together they are all
 --     owners_within        every coin's owner is a party of the plan
 --     members_sum          the members' coins, added party by party
---     few_coins            where there are at most 65,536 settings, a run has at most 14,368 coins
+--     few_coins            where there are at most 65,536 settings, a run has at most 14,576 coins
 -- Assumes nothing.
 use Prim.Native.Nat.{ℕ, zero, suc, ◌+◌, ◌*◌, ◌^◌, ◌<◌, ◌≤◌}
 use mathlib.Core.Path.{◌≡◌, refl, sym, ap, ap₂, subst, ◌∙◌}
@@ -10,10 +10,8 @@ use mathlib.Core.Bool.{Bool, true, false, cond, not}
 use mathlib.Core.List.{List, [], ◌∷◌, map, flat_map}
 use mathlib.Core.Logic.{⊎_elim}
 use Rattle.std.proofs.Math.Nat.{pow-le-pow_left}
-use native.Mathlib.Nat.{zero-mul, mul-zero, mul-suc, mul-add, mul-le-mul, eq-or-lt_of_le}
+use native.Mathlib.Nat.{zero-mul, mul-zero, mul-suc, mul-le-mul}
 use native.Mathlib.Omega.{arith}
-use borrow.Author.Tests.{eq-eqb, ne_eqb}
-use lib.Dec.{eqb}
 use lib.Pow.{pow_mono}
 use lib.ListN.{length, get_or, replicate, length-append, length-replicate}
 use Rattle.numbers.specs.Tables.{tab, count_where, total}
@@ -23,15 +21,17 @@ use Rattle.sharing_laws.specs.Interp.{All}
 use Rattle.sharing_laws.proofs.Alls.{all_append}
 use Rattle.plan.specs.declared.Gate.{Gate}
 use Rattle.plan.specs.declared.Gate.TheVariants.{Input, Add, Scale, Offset, Multiply, Random, Spend}
-use Rattle.plan.specs.declared.Rule.TheVariants.{Reduction}
+use Rattle.plan.specs.declared.Rule.{Rule}
+use Rattle.plan.specs.declared.Rule.TheVariants.{Reduction, Truncation}
 use Rattle.plan.specs.Plans.{Plan, party_count, dealer_count, kind_of, is_kind, multiplying, coin_owners_at, coin_owners, coin_count, own_coin_count, dealings_at}
 use Rattle.plan.specs.File.{gate_ok}
 use Rattle.plan.proofs.Planned.{between-true}
-use Rattle.plan.proofs.Valid.{Valid, Plain}
+use Rattle.plan.proofs.Valid.{Valid}
 use Rattle.plan_coalition.specs.Coalitions.{in_set, members_from, members, set_ok}
 use Rattle.plan_coalition.proofs.Coalitions.{member_most}
+use Rattle.plan_coalition.proofs.Owned.{members-own}
 use Rattle.run_protocol.proofs.Owners.{blocks, length_blocks}
-use Rattle.run_protocol.proofs.Dealt.{input-owners, reduction-owners}
+use Rattle.run_protocol.proofs.Dealt.{input-owners, reduction-owners, truncation-owners, random-owners}
 use Rattle.std.proofs.lemmas.Bool.{cases_lt}
 use Rattle.count_laws.specs.Settings.{member_coins, other_coins}
 
@@ -107,102 +107,55 @@ within_blocks n c r zero l = tt
 within_blocks n c r (suc k) l =
     all_append (Within n) (replicate c (suc r)) (blocks c (suc r) k) (within-replicate n c (suc r) (omega arith, omega arith)) (within_blocks n c (suc r) k (omega arith))
 
-module _ (plan : Plan) (rule : plan.rule ≡ Reduction) where
+module _ (plan : Plan) where
+  blocks_within : (x : Gate) (c k : ℕ) → coin_owners_at plan x ≡ blocks c 0 k → k ≤ party_count plan → All (Within (party_count plan)) (coin_owners_at plan x)
+  blocks_within x c k e l = subst (All (Within (party_count plan))) (sym e) (within_blocks (party_count plan) c 0 k (omega arith))
+
+  multiply_within : (a b : ℕ) (r : Rule) → plan.rule ≡ r → plan.t + plan.t < party_count plan → All (Within (party_count plan)) (coin_owners_at plan (Multiply a b))
+  unfolding dealer_count
+  multiply_within a b Reduction e l = blocks_within (Multiply a b) plan.t (dealer_count plan) (reduction-owners plan a b e) (omega arith)
+  multiply_within a b Truncation e l = blocks_within (Multiply a b) (3 * plan.t) (party_count plan) (truncation-owners plan a b e) (omega arith)
+
   gate_within :
-      (g : ℕ) (x : Gate) → kind_of x ≤ 5 → gate_ok (party_count plan) plan.p g x ≡ true → (multiplying x ≡ true → plan.t + plan.t < party_count plan)
+      (g : ℕ) (x : Gate) → gate_ok (party_count plan) plan.p g x ≡ true → (multiplying x ≡ true → plan.t + plan.t < party_count plan)
       → All (Within (party_count plan)) (coin_owners_at plan x)
-  unfolding coin_owners_at dealings_at flat_map gate_ok kind_of dealer_count multiplying is_kind
-  gate_within g (Input s) k ok m =
+  unfolding coin_owners_at dealings_at flat_map gate_ok kind_of multiplying is_kind
+  gate_within g (Input s) ok m =
       subst (All (Within (party_count plan))) (sym (input-owners plan s)) (within-replicate (party_count plan) plan.t s (between-true 1 (party_count plan) s ok))
-  gate_within g (Add a b) k ok m = tt
-  gate_within g (Scale a c) k ok m = tt
-  gate_within g (Offset a c) k ok m = tt
-  gate_within g (Multiply a b) k ok m =
-      subst (All (Within (party_count plan))) (sym (reduction-owners plan a b rule))
-      (within_blocks (party_count plan) plan.t 0 (plan.t + plan.t + 1) (omega (arith, m refl)))
-  gate_within g Random k ok m = absurd (omega arith)
-  gate_within g (Spend a b) k ok m = absurd (omega arith)
+  gate_within g (Add a b) ok m = tt
+  gate_within g (Scale a c) ok m = tt
+  gate_within g (Offset a c) ok m = tt
+  gate_within g (Multiply a b) ok m = multiply_within a b plan.rule refl (m refl)
+  gate_within g Random ok m = blocks_within Random plan.t (party_count plan) (random-owners plan) (omega arith)
+  gate_within g (Spend a b) ok m = tt
 
   gates-within :
-      (g : ℕ) (gs : List Gate) → ((j : ℕ) → kind_of (get_or gs j (Input 0)) ≤ 5)
+      (g : ℕ) (gs : List Gate)
       → ((j : ℕ) → j < length gs → gate_ok (party_count plan) plan.p (g + j) (get_or gs j (Input 0)) ≡ true)
       → ((j : ℕ) → j < length gs → multiplying (get_or gs j (Input 0)) ≡ true → plan.t + plan.t < party_count plan)
       → All (Within (party_count plan)) (flat_map (coin_owners_at plan) gs)
   unfolding flat_map
-  gates-within g [] kinds rules most = tt
-  gates-within g (x ∷ gs) kinds rules most =
+  gates-within g [] rules most = tt
+  gates-within g (x ∷ gs) rules most =
       let place : (j : ℕ) → suc g + j ≡ g + suc j = λ j. omega arith in
       let z : g + 0 ≡ g = omega arith in
       all_append (Within (party_count plan)) (coin_owners_at plan x) (flat_map (coin_owners_at plan) gs)
-      (gate_within g x (kinds 0) (ap (λ (k : ℕ). gate_ok (party_count plan) plan.p k x) (sym z) ∙ rules 0 (omega arith)) (most 0 (omega arith)))
-      (gates-within (suc g) gs (λ j. kinds (suc j))
+      (gate_within g x (ap (λ (k : ℕ). gate_ok (party_count plan) plan.p k x) (sym z) ∙ rules 0 (omega arith)) (most 0 (omega arith)))
+      (gates-within (suc g) gs
       (λ j l. ap (λ (k : ℕ). gate_ok (party_count plan) plan.p k (get_or gs j (Input 0))) (place j) ∙ rules (suc j) (omega arith))
       (λ j l. most (suc j) (omega arith)))
 
-pub owners_within : (plan : Plan) → Valid plan → Plain plan → All (λ o. (1 ≤ o) × (o ≤ party_count plan)) (coin_owners plan)
+pub owners_within : (plan : Plan) → Valid plan → All (λ o. (1 ≤ o) × (o ≤ party_count plan)) (coin_owners plan)
 unfolding coin_owners
-owners_within plan valid plain =
-    gates-within plan plain.rule 0 plan.gates plain.kinds
+owners_within plan valid =
+    gates-within plan 0 plan.gates
     (λ j l. let z : 0 + j ≡ j = omega arith in ap (λ (k : ℕ). gate_ok (party_count plan) plan.p k (get_or plan.gates j (Input 0))) z ∙ valid.gates j l)
     valid.majority
 
 -- ---- party by party
-total-zero : (ms : List ℕ) → total (map (λ i. 0) ms) ≡ 0
-unfolding total
-total-zero [] = refl
-total-zero (i ∷ ms) = omega (arith, total-zero ms)
-
-total_more : (o : ℕ) (f : ℕ → ℕ) (ms : List ℕ) → total (map (λ i. cond (eqb i o) (suc (f i)) (f i)) ms) ≡ count_where (λ i. eqb i o) ms + total (map f ms)
-unfolding total count_where
-total_more o f [] = refl
-total_more o f (i ∷ ms) = by (eqb i o) (f i) (count_where (λ i. eqb i o) ms) (total (map f ms)) (total (map (λ i. cond (eqb i o) (suc (f i)) (f i)) ms)) (total_more o f ms)
-  where
-    by : (b : Bool) (x c t u : ℕ) → u ≡ c + t → cond b (suc x) x + u ≡ cond b (suc c) c + (x + t)
-    by true x c t u e = omega arith
-    by false x c t u e = omega arith
-
-none_earlier : (set o i k : ℕ) → o < i → count_where (λ j. eqb j o) (members_from set i k) ≡ 0
-unfolding members_from count_where
-none_earlier set o i zero l = refl
-none_earlier set o i (suc k) l = by (in_set set i) (none_earlier set o (suc i) k (omega arith))
-  where
-    by : (b : Bool) → count_where (λ j. eqb j o) (members_from set (suc i) k) ≡ 0
-        → count_where (λ j. eqb j o) (cond b (i ∷ members_from set (suc i) k) (members_from set (suc i) k)) ≡ 0
-    by true h = rw (ne_eqb i o (λ e. omega arith)) h
-    by false h = h
-
-once_member : (set o i k : ℕ) → i ≤ o → o < i + k → count_where (λ j. eqb j o) (members_from set i k) ≡ cond (in_set set o) 1 0
-unfolding members_from count_where
-once_member set o i zero l m = absurd (omega arith)
-once_member set o i (suc k) l m = ⊎_elim here (λ h. later (in_set set i) h (once_member set o (suc i) k h (omega arith))) (eq-or-lt_of_le {n = i} {m = o} l)
-  where
-    one : (b : Bool) → i ≡ o → count_where (λ j. eqb j o) (cond b (i ∷ members_from set (suc i) k) (members_from set (suc i) k)) ≡ cond b 1 0
-    one true e = rw (eq-eqb i o e, none_earlier set o (suc i) k (omega arith))
-    one false e = none_earlier set o (suc i) k (omega arith)
-
-    here : i ≡ o → count_where (λ j. eqb j o) (cond (in_set set i) (i ∷ members_from set (suc i) k) (members_from set (suc i) k)) ≡ cond (in_set set o) 1 0
-    here e = one (in_set set i) e ∙ ap (λ (j : ℕ). cond (in_set set j) 1 0) e
-
-    later : (b : Bool) → i < o → count_where (λ j. eqb j o) (members_from set (suc i) k) ≡ cond (in_set set o) 1 0
-        → count_where (λ j. eqb j o) (cond b (i ∷ members_from set (suc i) k) (members_from set (suc i) k)) ≡ cond (in_set set o) 1 0
-    later true h e = rw (ne_eqb i o (λ q. omega arith)) e
-    later false h e = e
-
-sum_from : (set n : ℕ) → n ≤ 16 → (xs : List ℕ) → All (Within n) xs → total (map (λ i. count_where (eqb i) xs) (members set)) ≡ count_where (in_set set) xs
-unfolding members count_where
-sum_from set n l [] w = total-zero (members_from set 1 16)
-sum_from set n l (o ∷ xs) w =
-    total_more o (λ i. count_where (eqb i) xs) (members_from set 1 16)
-    ∙ ap₂ (λ (a b : ℕ). a + b) (once_member set o 1 16 w.0.0 (omega (arith, w.0.1))) (sum_from set n l xs w.1)
-    ∙ by (in_set set o) (count_where (in_set set) xs)
-  where
-    by : (b : Bool) (c : ℕ) → cond b 1 0 + c ≡ cond b (suc c) c
-    by true c = omega arith
-    by false c = omega arith
-
-pub members_sum : (plan : Plan) → Valid plan → Plain plan → party_count plan ≤ 15 → (set : ℕ) → total (map (own_coin_count plan) (members set)) ≡ member_coins plan set
+pub members_sum : (plan : Plan) → Valid plan → party_count plan ≤ 15 → (set : ℕ) → total (map (own_coin_count plan) (members set)) ≡ member_coins plan set
 unfolding member_coins own_coin_count
-members_sum plan valid plain few set = sum_from set (party_count plan) (omega arith) (coin_owners plan) (owners_within plan valid plain)
+members_sum plan valid few set = members-own set (party_count plan) (omega arith) (coin_owners plan) (owners_within plan valid)
 
 -- ---- how many coins a run has where there are few settings
 pub few_others : (p e : ℕ) → 2 ≤ p → p ^ e ≤ 65536 → e ≤ 16
@@ -211,60 +164,58 @@ few_others p e two few = ⊎_elim (λ h. omega arith) (λ h. absurd (omega (arit
     over : 2 ^ e ≤ p ^ e
     over = pow-le-pow_left two e
 
-module _ (plan : Plan) (rule : plan.rule ≡ Reduction) (small : plan.t ≤ 14) (set : ℕ) (most : length (members set) ≤ plan.t) where
+module _ (plan : Plan) (few : party_count plan ≤ 15) (below : plan.t < party_count plan) (set : ℕ) (most : length (members set) ≤ plan.t) where
   abbrev others : List ℕ → ℕ
   others os = count_where (λ o. not (in_set set o)) os
 
-  multiply_few : plan.t + plan.t + 1 ≤ 16 → length (blocks plan.t 0 (dealer_count plan)) ≤ 2 * others (blocks plan.t 0 (dealer_count plan))
-  unfolding dealer_count
-  multiply_few l =
-      let d : ℕ = plan.t + plan.t + 1 in
-      let is : List ℕ = tab (λ k. suc (0 + k)) d in
-      let enough : plan.t + plan.t + 1 ≤ 2 * others (tab (λ k. suc (0 + k)) (plan.t + plan.t + 1)) =
-      omega (arith, count_both (in_set set) (tab (λ k. suc (0 + k)) (plan.t + plan.t + 1)), length-tab (λ k. suc (0 + k)) (plan.t + plan.t + 1), first-members set (plan.t + plan.t + 1) l, most) in
+  -- of k parties that deal c coins each, at least one is no member
+  blocks_few : (c k : ℕ) → plan.t < k → k ≤ 15 → length (blocks c 0 k) ≤ 15 * others (blocks c 0 k)
+  blocks_few c k l m =
+      let some : 1 ≤ others (tab (λ j. suc (0 + j)) k) =
+      omega (arith, count_both (in_set set) (tab (λ j. suc (0 + j)) k), length-tab (λ j. suc (0 + j)) k, first-members set k (omega arith), most) in
       omega (
         arith,
-        length_blocks plan.t 0 (plan.t + plan.t + 1),
-        count_blocks (λ o. not (in_set set o)) plan.t 0 (plan.t + plan.t + 1),
-        mul-le-mul {n₁ = plan.t} {n₂ = plan.t} (omega arith) enough,
-        mul-twice plan.t (others (tab (λ k. suc (0 + k)) (plan.t + plan.t + 1))),
+        length_blocks c 0 k,
+        count_blocks (λ o. not (in_set set o)) c 0 k,
+        mul-le-mul {n₁ = c} {m₁ = k} {n₂ = c} {m₂ = 15} (omega arith) m,
+        mul-le-mul {n₁ = c} {m₁ = 1} {n₂ = c} {m₂ = others (tab (λ j. suc (0 + j)) k)} (omega arith) some,
       )
-    where
-      mul-twice : (a b : ℕ) → a * (2 * b) ≡ 2 * (a * b)
-      mul-twice a b = let e : 2 * b ≡ b + b = omega arith in ap (λ (x : ℕ). a * x) e ∙ mul-add a b b ∙ omega arith
 
-  gate-few : (x : Gate) → kind_of x ≤ 5 → (multiplying x ≡ true → plan.t + plan.t + 1 ≤ 16) → length (coin_owners_at plan x) ≤ 14 + 2 * others (coin_owners_at plan x)
+  blocks-few : (x : Gate) (c k : ℕ) → coin_owners_at plan x ≡ blocks c 0 k → plan.t < k → k ≤ 15 → length (coin_owners_at plan x) ≤ 14 + 15 * others (coin_owners_at plan x)
+  blocks-few x c k e l m = subst (λ (os : List ℕ). length os ≤ 14 + 15 * others os) (sym e) (omega (arith, blocks_few c k l m))
+
+  multiply-few : (a b : ℕ) (r : Rule) → plan.rule ≡ r → plan.t + plan.t < party_count plan → length (coin_owners_at plan (Multiply a b)) ≤ 14 + 15 * others (coin_owners_at plan (Multiply a b))
+  unfolding dealer_count
+  multiply-few a b Reduction e l = blocks-few (Multiply a b) plan.t (dealer_count plan) (reduction-owners plan a b e) (omega arith) (omega arith)
+  multiply-few a b Truncation e l = blocks-few (Multiply a b) (3 * plan.t) (party_count plan) (truncation-owners plan a b e) below few
+
+  gate-few : (x : Gate) → (multiplying x ≡ true → plan.t + plan.t < party_count plan) → length (coin_owners_at plan x) ≤ 14 + 15 * others (coin_owners_at plan x)
   unfolding coin_owners_at dealings_at flat_map kind_of multiplying is_kind
-  gate-few (Input s) k m = omega (arith, ap length (input-owners plan s), length-replicate {A = ℕ} plan.t s)
-  gate-few (Add a b) k m = omega arith
-  gate-few (Scale a c) k m = omega arith
-  gate-few (Offset a c) k m = omega arith
-  gate-few (Multiply a b) k m =
-      subst (λ (os : List ℕ). length os ≤ 14 + 2 * others os) (sym (reduction-owners plan a b rule)) (omega (arith, multiply_few (m refl)))
-  gate-few Random k m = absurd (omega arith)
-  gate-few (Spend a b) k m = absurd (omega arith)
+  gate-few (Input s) m = omega (arith, ap length (input-owners plan s), length-replicate {A = ℕ} plan.t s)
+  gate-few (Add a b) m = omega arith
+  gate-few (Scale a c) m = omega arith
+  gate-few (Offset a c) m = omega arith
+  gate-few (Multiply a b) m = multiply-few a b plan.rule refl (m refl)
+  gate-few Random m = blocks-few Random plan.t (party_count plan) (random-owners plan) below few
+  gate-few (Spend a b) m = omega arith
 
   gates_few :
-      (gs : List Gate) → ((j : ℕ) → kind_of (get_or gs j (Input 0)) ≤ 5) → ((j : ℕ) → j < length gs → multiplying (get_or gs j (Input 0)) ≡ true → plan.t + plan.t + 1 ≤ 16)
-      → length (flat_map (coin_owners_at plan) gs) ≤ 14 * length gs + 2 * others (flat_map (coin_owners_at plan) gs)
+      (gs : List Gate) → ((j : ℕ) → j < length gs → multiplying (get_or gs j (Input 0)) ≡ true → plan.t + plan.t < party_count plan)
+      → length (flat_map (coin_owners_at plan) gs) ≤ 14 * length gs + 15 * others (flat_map (coin_owners_at plan) gs)
   unfolding flat_map count_where
-  gates_few [] kinds m = omega arith
-  gates_few (x ∷ gs) kinds m =
+  gates_few [] m = omega arith
+  gates_few (x ∷ gs) m =
       omega (
         arith,
-        gate-few x (kinds 0) (m 0 (omega arith)),
-        gates_few gs (λ j. kinds (suc j)) (λ j l. m (suc j) (omega arith)),
+        gate-few x (m 0 (omega arith)),
+        gates_few gs (λ j l. m (suc j) (omega arith)),
         length-append (coin_owners_at plan x) (flat_map (coin_owners_at plan) gs),
         count_where-append (λ o. not (in_set set o)) (coin_owners_at plan x) (flat_map (coin_owners_at plan) gs),
       )
 
 pub few_coins :
-    (plan : Plan) → Valid plan → Plain plan → party_count plan ≤ 15 → length plan.gates ≤ 1024 → (set : ℕ) → set_ok plan set ≡ true → other_coins plan set ≤ 16
-    → coin_count plan ≤ 14368
+    (plan : Plan) → Valid plan → party_count plan ≤ 15 → length plan.gates ≤ 1024 → (set : ℕ) → set_ok plan set ≡ true → other_coins plan set ≤ 16
+    → coin_count plan ≤ 14576
 unfolding coin_count coin_owners other_coins set_ok
-few_coins plan valid plain n gates set ok few =
-    omega (
-      arith,
-      gates_few plan plain.rule (omega (arith, valid.threshold)) set (member_most (party_count plan) plan.t set ok) plan.gates plain.kinds
-          (λ j l m. omega (arith, valid.majority j l m)),
-    )
+few_coins plan valid n gates set ok few =
+    omega (arith, gates_few plan n valid.threshold set (member_most (party_count plan) plan.t set ok) plan.gates valid.majority)

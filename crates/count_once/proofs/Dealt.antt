@@ -12,12 +12,14 @@ use native.Mathlib.Omega.{arith}
 use lib.ListN.{length, take, drop, get_or, length-map, length-append, length-drop, take-append-drop, drop_of_length-le}
 use lib.Seq.{length-take-le, take-add}
 use Rattle.numbers.specs.Tables.{tab}
-use Rattle.field.specs.Mod.{add, mul}
+use Rattle.field.specs.Mod.{add, mul, sub}
 use Rattle.field.specs.Prime.{Prime}
 use Rattle.field.proofs.Solve.{Canon, #, quote, solve}
 use Rattle.field.proofs.Inverse.{pos}
 use Rattle.sharing_laws.specs.Poly.{eval, sum_of, scale}
 use Rattle.sharing_laws.specs.Interp.{All, Distinct, weights, dot}
+use Rattle.sharing_laws.specs.Sharing.{opened}
+use Rattle.sharing_laws.specs.Basis.{sum_all}
 use Rattle.sharing_laws.proofs.Alls.{all_take, all_drop}
 use Rattle.sharing_laws.proofs.Cuts.{less, less-nothing, zero-less}
 use Rattle.plan.specs.declared.Gate.{Gate}
@@ -25,9 +27,10 @@ use Rattle.plan.specs.declared.Gate.TheVariants.{Input, Add, Scale, Offset, Mult
 use Rattle.plan.specs.declared.Rule.{Rule}
 use Rattle.plan.specs.declared.Rule.TheVariants.{Reduction}
 use Rattle.plan.specs.declared.Dealing.{Dealing}
-use Rattle.plan.specs.Plans.{Plan, dealer_count, dealer_points, point_of, kind_of, first_dealings, multiply_dealings, dealings_at, coin_owners_at}
+use Rattle.plan.specs.Plans.{Plan, party_count, dealer_count, dealer_points, point_of, first_dealings, multiply_dealings, dealings_at, coin_owners_at}
+use Rattle.seat_messages.specs.Messages.{spent_share}
 use Rattle.run_protocol.specs.Ideal.{inputs_taken}
-use Rattle.run_protocol.specs.Shares.{Before, wire_at, product_of, multiply_dealt, dealt_at, sharings, pieces_at, multiply_share, gate_share, past, past_all}
+use Rattle.run_protocol.specs.Shares.{Before, wire_at, product_of, multiply_dealt, dealt_at, sharings, pieces_at, multiply_share, difference_at, difference_of, gate_share, triples_taken, past, past_all}
 use Rattle.match_privacy.proofs.Blocks.{total, owners_of, length_owners, sharings_prefix}
 
 -- ---- one dealing
@@ -66,16 +69,16 @@ module _ (plan : Plan) (rule : plan.rule ≡ Reduction) where
   each_first u zero h = tt
   each_first u (suc k) h = (h 0, each_first (λ i. u (suc i)) k (λ i. h (suc i)))
 
-  pub each-dealing : (x : Gate) → kind_of x ≤ 5 → EachOf plan.t (dealings_at plan x)
-  unfolding EachOf dealings_at kind_of multiply_dealings first_dealings
-  each-dealing (Input s) k = (refl, tt)
-  each-dealing (Add a b) k = tt
-  each-dealing (Scale a c) k = tt
-  each-dealing (Offset a c) k = tt
-  each-dealing (Multiply a b) k =
+  pub each-dealing : (x : Gate) → EachOf plan.t (dealings_at plan x)
+  unfolding EachOf dealings_at multiply_dealings first_dealings
+  each-dealing (Input s) = (refl, tt)
+  each-dealing (Add a b) = tt
+  each-dealing (Scale a c) = tt
+  each-dealing (Offset a c) = tt
+  each-dealing (Multiply a b) =
       subst (λ (r : Rule). EachOf plan.t (multiply_dealings plan r)) (sym rule) (each_first (λ i. record { dealer = suc i; coins = plan.t }) (dealer_count plan) (λ i. refl))
-  each-dealing Random k = absurd (omega arith)
-  each-dealing (Spend a b) k = absurd (omega arith)
+  each-dealing Random = each_first (λ i. record { dealer = suc i; coins = plan.t }) (party_count plan) (λ i. refl)
+  each-dealing (Spend a b) = tt
 
 -- ---- a coalition of t members
 module _ (plan : Plan) (prime : Prime plan.p) (ms : List ℕ) (exact : length ms ≡ plan.t) (apart : Distinct plan.p (map (point_of plan) ms))
@@ -111,29 +114,29 @@ module _ (plan : Plan) (prime : Prime plan.p) (ms : List ℕ) (exact : length ms
     unfolding coin_owners_at owners_of
     taken x = length_owners (dealings_at plan x)
 
-    -- two runs with the same wires and inputs before a gate
-    module _ (s u : Before) (env : s.env ≡ u.env) (inputs : s.inputs ≡ u.inputs) where
-      dealt-same : (x : Gate) → kind_of x ≤ 5 → dealt_at plan x s ≡ dealt_at plan x u
-      unfolding dealt_at kind_of multiply_dealt
-      dealt-same (Input i) k = ap (λ (l : List ℕ). get_or l 0 0 ∷ []) inputs
-      dealt-same (Add a b) k = refl
-      dealt-same (Scale a c) k = refl
-      dealt-same (Offset a c) k = refl
-      dealt-same (Multiply a b) k =
+    -- two runs with the same wires, inputs and triples before a gate
+    module _ (s u : Before) (env : s.env ≡ u.env) (inputs : s.inputs ≡ u.inputs) (triples : s.triples ≡ u.triples) where
+      dealt-same : (x : Gate) → dealt_at plan x s ≡ dealt_at plan x u
+      unfolding dealt_at multiply_dealt
+      dealt-same (Input i) = ap (λ (l : List ℕ). get_or l 0 0 ∷ []) inputs
+      dealt-same (Add a b) = refl
+      dealt-same (Scale a c) = refl
+      dealt-same (Offset a c) = refl
+      dealt-same (Multiply a b) =
           ap (λ (r : Rule). multiply_dealt plan r s a b) rule ∙ ap (λ (e : List (ℕ → ℕ)). map (product_of plan e a b) (dealer_points plan)) env
           ∙ sym (ap (λ (r : Rule). multiply_dealt plan r u a b) rule)
-      dealt-same Random k = absurd (omega arith)
-      dealt-same (Spend a b) k = absurd (omega arith)
+      dealt-same Random = ap (take (party_count plan)) inputs
+      dealt-same (Spend a b) = refl
 
-      module _ (x : Gate) (kind : kind_of x ≤ 5) (ls : length (coin_owners_at plan x) ≤ length s.coins) (lu : length (coin_owners_at plan x) ≤ length u.coins) where
+      module _ (x : Gate) (ls : length (coin_owners_at plan x) ≤ length s.coins) (lu : length (coin_owners_at plan x) ≤ length u.coins) where
         gate-determined :
             All (Canon p) s.coins → All (Canon p) u.coins → ((i : ℕ) → Memᴰ i ms → pieces_at plan x s (point_of plan i) ≡ pieces_at plan x u (point_of plan i))
             → take (length (coin_owners_at plan x)) s.coins ≡ take (length (coin_owners_at plan x)) u.coins
         unfolding pieces_at
         gate-determined cs cu e =
             rw (taken x)
-            (blocks-determined (dealings_at plan x) (dealt_at plan x s) s.coins u.coins (each-dealing plan rule x kind) (omega (arith, taken x)) (omega (arith, taken x)) cs cu
-            (λ i m. e i m ∙ ap (λ (ss : List ℕ). values (sharings (dealings_at plan x) ss u.coins) i) (sym (dealt-same x kind))))
+            (blocks-determined (dealings_at plan x) (dealt_at plan x s) s.coins u.coins (each-dealing plan rule x) (omega (arith, taken x)) (omega (arith, taken x)) cs cu
+            (λ i m. e i m ∙ ap (λ (ss : List ℕ). values (sharings (dealings_at plan x) ss u.coins) i) (sym (dealt-same x))))
 
         -- the same coins taken: the same pieces, and the same share everywhere
         module _ (same : take (length (coin_owners_at plan x)) s.coins ≡ take (length (coin_owners_at plan x)) u.coins) where
@@ -148,46 +151,51 @@ module _ (plan : Plan) (prime : Prime plan.p) (ms : List ℕ) (exact : length ms
           pieces-same z =
               ap (map (λ f. eval p f z))
               (own-coins s.coins (dealt_at plan x s) ls
-              ∙ ap₂ (λ (ss c : List ℕ). sharings (dealings_at plan x) ss c) (dealt-same x kind) same
+              ∙ ap₂ (λ (ss c : List ℕ). sharings (dealings_at plan x) ss c) (dealt-same x) same
               ∙ sym (own-coins u.coins (dealt_at plan x u) lu))
 
-      share-same : (x : Gate) → kind_of x ≤ 5 → ((z : ℕ) → pieces_at plan x s z ≡ pieces_at plan x u z) → gate_share plan x s ≡ gate_share plan x u
-      unfolding gate_share kind_of multiply_share pieces_at dealings_at sharings dealt_at
-      share-same (Input i) k e = fun_ext (λ z. head-eq_of_cons-eq (e z))
-      share-same (Add a b) k e = ap (λ (w : List (ℕ → ℕ)). λ z. add p (wire_at w a z) (wire_at w b z)) env
-      share-same (Scale a c) k e = ap (λ (w : List (ℕ → ℕ)). λ z. mul p (wire_at w a z) c) env
-      share-same (Offset a c) k e = ap (λ (w : List (ℕ → ℕ)). λ z. add p (wire_at w a z) c) env
-      share-same (Multiply a b) k e =
+      share-same : (x : Gate) → ((z : ℕ) → pieces_at plan x s z ≡ pieces_at plan x u z) → gate_share plan x s ≡ gate_share plan x u
+      unfolding gate_share multiply_share pieces_at dealings_at sharings dealt_at difference_of difference_at
+      share-same (Input i) e = fun_ext (λ z. head-eq_of_cons-eq (e z))
+      share-same (Add a b) e = ap (λ (w : List (ℕ → ℕ)). λ z. add p (wire_at w a z) (wire_at w b z)) env
+      share-same (Scale a c) e = ap (λ (w : List (ℕ → ℕ)). λ z. mul p (wire_at w a z) c) env
+      share-same (Offset a c) e = ap (λ (w : List (ℕ → ℕ)). λ z. add p (wire_at w a z) c) env
+      share-same (Multiply a b) e =
           fun_ext (λ z.
           ap (λ (r : Rule). multiply_share plan r (Multiply a b) s z) rule ∙ ap (dot p (weights p 0 (dealer_points plan))) (e z)
           ∙ sym (ap (λ (r : Rule). multiply_share plan r (Multiply a b) u z) rule))
-      share-same Random k e = absurd (omega arith)
-      share-same (Spend a b) k e = absurd (omega arith)
+      share-same Random e = fun_ext (λ z. ap (sum_all p) (e z))
+      share-same (Spend a b) e =
+          ap₂
+          (λ (w t : List (ℕ → ℕ)). λ z.
+          spent_share p (wire_at t 2 z) (wire_at w a z) (wire_at w b z) (opened p plan.t plan.points (map (λ x. sub p (wire_at w a x) (wire_at t 0 x)) plan.points))
+          (opened p plan.t plan.points (map (λ x. sub p (wire_at w b x) (wire_at t 1 x)) plan.points)))
+          env triples
 
     empty : (l : List ℕ) → length l ≡ 0 → l ≡ []
     empty l e = drop_of_length-le l {i = 0} (omega arith)
 
     -- ---- all gates
     pub coins-same :
-        (gs : List Gate) (s u : Before) → s.env ≡ u.env → s.inputs ≡ u.inputs
+        (gs : List Gate) (s u : Before) → s.env ≡ u.env → s.inputs ≡ u.inputs → s.triples ≡ u.triples
         → length s.coins ≡ length (flat_map (coin_owners_at plan) gs) → length u.coins ≡ length (flat_map (coin_owners_at plan) gs)
-        → All (Canon p) s.coins → All (Canon p) u.coins → ((k : ℕ) → kind_of (get_or gs k (Input 0)) ≤ 5)
+        → All (Canon p) s.coins → All (Canon p) u.coins
         → ((k : ℕ) → k < length gs → (i : ℕ) → Memᴰ i ms
         → pieces_at plan (get_or gs k (Input 0)) (past_all plan (take k gs) s) (point_of plan i) ≡ pieces_at plan (get_or gs k (Input 0)) (past_all plan (take k gs) u) (point_of plan i))
         → s.coins ≡ u.coins
     unfolding flat_map past_all past
-    coins-same [] s u env inputs ls lu cs cu kinds seen = empty s.coins ls ∙ sym (empty u.coins lu)
-    coins-same (x ∷ gs) s u env inputs ls lu cs cu kinds seen =
+    coins-same [] s u env inputs triples ls lu cs cu seen = empty s.coins ls ∙ sym (empty u.coins lu)
+    coins-same (x ∷ gs) s u env inputs triples ls lu cs cu seen =
         let n : ℕ = length (coin_owners_at plan x) in
         let long = length-append (coin_owners_at plan x) (flat_map (coin_owners_at plan) gs) in
         let room : length (coin_owners_at plan x) ≤ length s.coins = omega (arith, ls, long) in
         let room' : length (coin_owners_at plan x) ≤ length u.coins = omega (arith, lu, long) in
         let first : take (length (coin_owners_at plan x)) s.coins ≡ take (length (coin_owners_at plan x)) u.coins =
-        gate-determined s u env inputs x (kinds 0) room room' cs cu (seen 0 (omega arith)) in
-        let share : gate_share plan x s ≡ gate_share plan x u = share-same s u env inputs x (kinds 0) (pieces-same s u env inputs x (kinds 0) room room' first) in
+        gate-determined s u env inputs triples x room room' cs cu (seen 0 (omega arith)) in
+        let share : gate_share plan x s ≡ gate_share plan x u = share-same s u env inputs triples x (pieces-same s u env inputs triples x room room' first) in
         sym (take-append-drop n s.coins)
         ∙ ap₂ ◌++◌ first
-        (coins-same gs (past plan x s) (past plan x u) (ap₂ (λ (e : List (ℕ → ℕ)) (h : ℕ → ℕ). e ++ (h ∷ [])) env share) (ap (drop (inputs_taken plan x)) inputs)
+        (coins-same gs (past plan x s) (past plan x u) (ap₂ (λ (e : List (ℕ → ℕ)) (h : ℕ → ℕ). e ++ (h ∷ [])) env share) (ap (drop (inputs_taken plan x)) inputs) (ap (drop (triples_taken x)) triples)
         (omega (arith, ls, long, length-drop (length (coin_owners_at plan x)) s.coins)) (omega (arith, lu, long, length-drop (length (coin_owners_at plan x)) u.coins))
-        (all_drop (Canon p) n s.coins cs) (all_drop (Canon p) n u.coins cu) (λ k. kinds (suc k)) (λ k l. seen (suc k) (omega arith)))
+        (all_drop (Canon p) n s.coins cs) (all_drop (Canon p) n u.coins cu) (λ k l. seen (suc k) (omega arith)))
         ∙ take-append-drop n u.coins

@@ -20,11 +20,11 @@ use Rattle.field.proofs.Inverse.{pos}
 use Rattle.sharing_laws.specs.Interp.{All, Distinct}
 use Rattle.sharing_laws.proofs.Alls.{all_at, below_canon}
 use Rattle.plan.specs.declared.Gate.{Gate}
-use Rattle.plan.specs.declared.Gate.TheVariants.{Input}
 use Rattle.plan.specs.declared.Dealing.{Dealing}
 use Rattle.plan.specs.File.{same_bytes}
-use Rattle.plan.specs.Plans.{Plan, party_count, point_of, kind_of, dealings_at, coin_owners_at, coin_owners, coin_count}
-use Rattle.plan.proofs.Valid.{Valid, Plain}
+use Rattle.plan.specs.Plans.{Plan, party_count, point_of, kind_count, dealings_at, coin_owners_at, coin_owners, coin_count}
+use Rattle.plan.specs.declared.Rule.TheVariants.{Reduction}
+use Rattle.plan.proofs.Valid.{Valid}
 use Rattle.plan_coalition.specs.Coalitions.{in_set, members}
 use Rattle.plan_coalition.proofs.Coalitions.{Ascending, members_ascending}
 use Rattle.run_protocol.specs.Rounds.{view}
@@ -72,16 +72,16 @@ module _ (plan : Plan) (valid : Valid plan) where
   set-nonzero (j ∷ ms) within = (all_at (λ x. x % plan.p ≢ 0) plan.points (j - 1) valid.nonzero (omega (arith, within.0.0, within.0.1)), set-nonzero ms within.1)
 
   -- ---- a set of exactly t members
-  module _ (plain : Plain plan) (set : ℕ) (exact : Exactly plan set) where
+  module _ (rule : plan.rule ≡ Reduction) (spent : kind_count plan 7 ≡ 0) (set : ℕ) (exact : Exactly plan set) where
     pub one-setting :
         (xs c d : List ℕ) → length c ≡ coin_count plan → all_below plan.p c ≡ true → length d ≡ coin_count plan → all_below plan.p d ≡ true
         → view plan (members set) xs c [] ≡ view plan (members set) xs d [] → c ≡ d
     unfolding coin_count coin_owners start_of before_gate
     one-setting xs c d lc bc ld bd e =
         let within = members_within plan set exact.fits in
-        coins-same plan valid.prime (members set) exact.count (set_apart 1 (members set) (members_ascending set) within) (set-nonzero (members set) within) plain.rule
-        plan.gates (start_of xs c []) (start_of xs d []) refl refl lc ld (below_canon plan.p c bc) (below_canon plan.p d bd) plain.kinds
-        (pieces-seen plan valid plain (members set) within xs c d lc ld e)
+        coins-same plan valid.prime (members set) exact.count (set_apart 1 (members set) (members_ascending set) within) (set-nonzero (members set) within) rule
+        plan.gates (start_of xs c []) (start_of xs d []) refl refl refl lc ld (below_canon plan.p c bc) (below_canon plan.p d bd)
+        (pieces-seen plan valid rule spent (members set) within xs c d lc ld e)
 
     pub views-apart :
         (xs cs : List ℕ) → all_below plan.p cs ≡ true → (j k : ℕ) → j < setting_count plan set → k < setting_count plan set
@@ -144,30 +144,33 @@ dealings_coins t f (d ∷ ds) each =
     by true m = omega (arith, mul-suc t m)
     by false m = omega arith
 
-module _ (plan : Plan) (plain : Plain plan) (set : ℕ) where
+module _ (plan : Plan) (rule : plan.rule ≡ Reduction) (set : ℕ) where
   gates-coins :
-      (gs : List Gate) → ((k : ℕ) → kind_of (get_or gs k (Input 0)) ≤ 5)
+      (gs : List Gate)
       → count_where (λ o. not (in_set set o)) (flat_map (coin_owners_at plan) gs) ≡ plan.t * count_where (λ d. not (in_set set d.dealer)) (flat_map (dealings_at plan) gs)
   unfolding flat_map count_where coin_owners_at
-  gates-coins [] kinds = sym (mul-zero plan.t)
-  gates-coins (x ∷ gs) kinds =
+  gates-coins [] = sym (mul-zero plan.t)
+  gates-coins (x ∷ gs) =
       count_where-append (λ o. not (in_set set o)) (coin_owners_at plan x) (flat_map (coin_owners_at plan) gs)
-      ∙ ap₂ ◌+◌ (dealings_coins plan.t (λ o. not (in_set set o)) (dealings_at plan x) (each-dealing plan plain.rule x (kinds 0))) (gates-coins gs (λ k. kinds (suc k)))
+      ∙ ap₂ ◌+◌ (dealings_coins plan.t (λ o. not (in_set set o)) (dealings_at plan x) (each-dealing plan rule x)) (gates-coins gs)
       ∙ sym (ap (λ (n : ℕ). plan.t * n) (count_where-append (λ d. not (in_set set d.dealer)) (dealings_at plan x) (flat_map (dealings_at plan) gs))
       ∙ mul-add plan.t (count_where (λ d. not (in_set set d.dealer)) (dealings_at plan x)) (count_where (λ d. not (in_set set d.dealer)) (flat_map (dealings_at plan) gs)))
 
   pub others-power : setting_count plan set ≡ plan.p ^ (plan.t * other_dealings plan set)
   unfolding setting_count other_coins other_dealings coin_owners
-  others-power = ap (λ (e : ℕ). plan.p ^ e) (gates-coins plan.gates plain.kinds)
+  others-power = ap (λ (e : ℕ). plan.p ^ e) (gates-coins plan.gates)
 
 -- ---- each view once
-module _ (plan : Plan) (valid : Valid plan) (plain : Plain plan) (set : ℕ) (exact : Exactly plan set) (xs cs : List ℕ) (small : all_below plan.p cs ≡ true) where
+module _ (plan : Plan) (valid : Valid plan) (rule : plan.rule ≡ Reduction) (spent : kind_count plan 7 ≡ 0) (set : ℕ) (exact : Exactly plan set) (xs cs : List ℕ)
+    (small : all_below plan.p cs ≡ true) where
+  apart : (j k : ℕ) → j < setting_count plan set → k < setting_count plan set
+      → view plan (members set) xs (setting_coins plan set cs j) [] ≡ view plan (members set) xs (setting_coins plan set cs k) [] → j ≡ k
+  apart = views-apart plan valid rule spent set exact xs cs small
+
   pub once-each : (i : ℕ) → i < length (rows_of (views_of plan set xs cs)) → (get_or (rows_of (views_of plan set xs cs)) i no_row).count ≡ 1
   unfolding views_of
-  once-each = each-one (λ k. view plan (members set) xs (setting_coins plan set cs k) []) (setting_count plan set) (views-apart plan valid plain set exact xs cs small)
+  once-each = each-one (λ k. view plan (members set) xs (setting_coins plan set cs k) []) (setting_count plan set) apart
 
   pub once-all : length (rows_of (views_of plan set xs cs)) ≡ plan.p ^ (plan.t * other_dealings plan set)
   unfolding views_of
-  once-all =
-      all_rows (λ k. view plan (members set) xs (setting_coins plan set cs k) []) (setting_count plan set) (views-apart plan valid plain set exact xs cs small)
-      ∙ others-power plan plain set
+  once-all = all_rows (λ k. view plan (members set) xs (setting_coins plan set cs k) []) (setting_count plan set) apart ∙ others-power plan rule set

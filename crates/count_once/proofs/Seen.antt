@@ -14,11 +14,12 @@ use Rattle.sharing_laws.specs.Interp.{All}
 use Rattle.plan.specs.declared.Gate.{Gate}
 use Rattle.plan.specs.declared.Gate.TheVariants.{Input, Add, Scale, Offset, Multiply, Random, Spend}
 use Rattle.plan.specs.declared.Rule.{Rule}
+use Rattle.plan.specs.declared.Rule.TheVariants.{Reduction}
 use Rattle.plan.specs.declared.Step.{Step}
-use Rattle.plan.specs.declared.Step.TheVariants.{DealInputs, DealProduct, SendOuts}
-use Rattle.plan.specs.Plans.{Plan, party_count, point_of, kind_of, is_kind, dealings_at, own_inputs, own_coins, coin_owners, coin_count, multiply_steps, steps_at, steps, step_at, last_call}
+use Rattle.plan.specs.declared.Step.TheVariants.{DealInputs, DealProduct, DealDraws, SendOuts}
+use Rattle.plan.specs.Plans.{Plan, party_count, point_of, kind_of, is_kind, kind_count, dealings_at, own_inputs, own_coins, coin_owners, coin_count, multiply_steps, steps_at, steps, step_at, last_call}
 use Rattle.plan.proofs.Counts.{steps-below, step_in, step_first, last-call}
-use Rattle.plan.proofs.Valid.{Valid, Plain, plain_no_7}
+use Rattle.plan.proofs.Valid.{Valid}
 use Rattle.seat_messages.specs.Messages.{wires_by_party}
 use Rattle.run_protocol.specs.Rounds.{mail_to, after, mails, results, view_of, view, view_count_of, view_count}
 use Rattle.run_protocol.specs.Shares.{wire_at, share_table, gate_share, dealt_at, sharings, pieces_at}
@@ -77,10 +78,10 @@ tab_below f zero w x' = elim x' [ ]
 tab_below f (suc n) w (Memᴰ.head e) = (0, omega arith, e)
 tab_below f (suc n) w (Memᴰ.tail m) = let r = tab_below (λ k. f (suc k)) n w m in (suc r.0, omega (arith, r.1), r.2)
 
-module _ (plan : Plan) (valid : Valid plan) (plain : Plain plan) (ms : List ℕ) (within : All (λ i. (1 ≤ i) × (i ≤ party_count plan)) ms) (xs c d : List ℕ)
+module _ (plan : Plan) (valid : Valid plan) (rule : plan.rule ≡ Reduction) (spent : kind_count plan 7 ≡ 0) (ms : List ℕ) (within : All (λ i. (1 ≤ i) × (i ≤ party_count plan)) ms) (xs c d : List ℕ)
     (full : length c ≡ coin_count plan) (full' : length d ≡ coin_count plan) (same : view plan ms xs c [] ≡ view plan ms xs d []) where
   none : Tabled plan [] []
-  none = tabled-none plan [] (plain_no_7 plan plain)
+  none = tabled-none plan [] spent
 
   low : (i : ℕ) → Memᴰ i ms → 1 ≤ i
   low i m = (all_mem (λ i. (1 ≤ i) × (i ≤ party_count plan)) ms within i m).0
@@ -139,34 +140,43 @@ module _ (plan : Plan) (valid : Valid plan) (plain : Plain plan) (ms : List ℕ)
       λ q. ap (λ (f : ℕ → ℕ). f (point_of plan i)) (table_at plan xs q [] g (Input 0) l) ∙ ap (λ (x : Gate). gate_share plan x (before_gate plan xs q [] g) (point_of plan i)) e in
       ap (λ (v : ℕ). v ∷ []) (sym (share c) ∙ wire ∙ share d)
 
-  multiply-seen : (g : ℕ) → g < length plan.gates → (a b : ℕ) → get_or plan.gates g (Input 0) ≡ Multiply a b → (i : ℕ) → Memᴰ i ms → at c g (Multiply a b) i ≡ at d g (Multiply a b) i
-  unfolding steps_at multiply_steps table_mail gate_in
-  multiply-seen g l a b e i m =
-      let own : steps_at plan.rule g (get_or plan.gates g (Input 0)) ≡ DealProduct g a b ∷ [] =
-      ap (steps_at plan.rule g) e ∙ ap (λ (r : Rule). multiply_steps r g a b) plain.rule in
-      let is : step_at plan (suc (steps-below plan g + 0)) ≡ DealProduct g a b =
+  -- where the gate's one step brings its pieces
+  step-seen :
+      (g : ℕ) → g < length plan.gates → (x : Gate) (s : Step) → get_or plan.gates g (Input 0) ≡ x → steps_at plan.rule g x ≡ s ∷ [] → (s ≡ SendOuts → ⊥)
+      → (i : ℕ) → Memᴰ i ms → ((l : List ℕ) → table_mail plan xs l [] i s ≡ at l g (get_or plan.gates g (Input 0)) i) → at c g x i ≡ at d g x i
+  step-seen g l x s e one other i m mail =
+      let own : steps_at plan.rule g (get_or plan.gates g (Input 0)) ≡ s ∷ [] = ap (steps_at plan.rule g) e ∙ one in
+      let is : step_at plan (suc (steps-below plan g + 0)) ≡ s =
       step_in plan g l 0 (suc (steps-below plan g + 0)) (omega (arith, ap length own)) refl ∙ ap (λ (ss : List Step). get_or ss 0 SendOuts) own in
-      let mail : table_mail plan xs c [] i (DealProduct g a b) ≡ table_mail plan xs d [] i (DealProduct g a b) =
+      let same : table_mail plan xs c [] i s ≡ table_mail plan xs d [] i s =
       ap (table_mail plan xs c [] i) (sym is) ∙ step_same i m (suc (steps-below plan g + 0)) (inside (suc (steps-below plan g + 0)) is (ltb (suc (steps-below plan g + 0)) (last_call plan)) refl)
       ∙ ap (table_mail plan xs d [] i) is in
-      subst (λ (x : Gate). at c g x i ≡ at d g x i) e mail
+      subst (λ (y : Gate). at c g y i ≡ at d g y i) e (sym (mail c) ∙ same ∙ mail d)
     where
-      inside : (k : ℕ) → step_at plan k ≡ DealProduct g a b → (t : Bool) → ltb k (last_call plan) ≡ t → k < last_call plan
+      inside : (k : ℕ) → step_at plan k ≡ s → (t : Bool) → ltb k (last_call plan) ≡ t → k < last_call plan
       inside k is true q = ltb-true k (last_call plan) q
       inside k is false q = unfold step_at in unfold last_call in
           let out : get_or (steps plan) k SendOuts ≡ SendOuts = get_or-eq_default (steps plan) SendOuts {n = k} (ltb-false k (length (steps plan)) q) in
-          let both : SendOuts ≡ DealProduct g a b = sym out ∙ is in
-          let z : ◌≡◌ {A = ℕ} 0 1 = cc in absurd (omega arith)
+          absurd (other (sym is ∙ out))
+
+  multiply-seen : (g : ℕ) → g < length plan.gates → (a b : ℕ) → get_or plan.gates g (Input 0) ≡ Multiply a b → (i : ℕ) → Memᴰ i ms → at c g (Multiply a b) i ≡ at d g (Multiply a b) i
+  unfolding steps_at multiply_steps table_mail gate_in
+  multiply-seen g l a b e i m =
+      step-seen g l (Multiply a b) (DealProduct g a b) e (ap (λ (r : Rule). multiply_steps r g a b) rule) (λ q. let z : ◌≡◌ {A = ℕ} 0 1 = cc in absurd (omega arith)) i m (λ l. refl)
+
+  random-seen : (g : ℕ) → g < length plan.gates → get_or plan.gates g (Input 0) ≡ Random → (i : ℕ) → Memᴰ i ms → at c g Random i ≡ at d g Random i
+  unfolding steps_at table_mail gate_in
+  random-seen g l e i m = step-seen g l Random (DealDraws g) e refl (λ q. let z : ◌≡◌ {A = ℕ} 0 1 = cc in absurd (omega arith)) i m (λ l. refl)
 
   pub pieces-seen : (g : ℕ) → g < length plan.gates → (i : ℕ) → Memᴰ i ms → at c g (get_or plan.gates g (Input 0)) i ≡ at d g (get_or plan.gates g (Input 0)) i
-  unfolding kind_of pieces_at dealings_at sharings
-  pieces-seen g l i m = by (get_or plan.gates g (Input 0)) refl (plain.kinds g)
+  unfolding pieces_at dealings_at sharings
+  pieces-seen g l i m = by (get_or plan.gates g (Input 0)) refl
     where
-      by : (x : Gate) → get_or plan.gates g (Input 0) ≡ x → kind_of x ≤ 5 → at c g x i ≡ at d g x i
-      by (Input s) e k = input-seen g l s e i m
-      by (Add a b) e k = refl
-      by (Scale a b) e k = refl
-      by (Offset a b) e k = refl
-      by (Multiply a b) e k = multiply-seen g l a b e i m
-      by Random e k = absurd (omega arith)
-      by (Spend a b) e k = absurd (omega arith)
+      by : (x : Gate) → get_or plan.gates g (Input 0) ≡ x → at c g x i ≡ at d g x i
+      by (Input s) e = input-seen g l s e i m
+      by (Add a b) e = refl
+      by (Scale a b) e = refl
+      by (Offset a b) e = refl
+      by (Multiply a b) e = multiply-seen g l a b e i m
+      by Random e = random-seen g l e i m
+      by (Spend a b) e = refl

@@ -3,7 +3,10 @@
 use Rattle.std.proofs.Common.{Ok}
 use Prim.Native.Nat.{ℕ, ◌*◌}
 use mathlib.Core.Path.{◌≡◌, refl, sym, ap, ap₂, ◌∙◌}
+use mathlib.Core.Bool.{true}
 use mathlib.Core.List.{List, [], ◌∷◌, ◌++◌}
+use native.Mathlib.Omega.{arith}
+use borrow.Author.Tests.{ne_eqb}
 use lib.Dec.{eqb}
 use lib.ListN.{length, get_or}
 use Rattle.numbers.specs.Bytes.{width, numbers, bytes_of}
@@ -11,9 +14,9 @@ use Rattle.plan.specs.Refusals.{Checked}
 use Rattle.plan.specs.declared.Refusal.TheVariants as refusal
 use Rattle.plan.specs.Refusals.{first_of, need}
 use Rattle.plan.specs.Plans.{Plan, party_count, parties}
-use Rattle.plan.specs.File.{between, version_at, n_at, p_at, plan_checks, plan_check, plan_of}
+use Rattle.plan.specs.File.{between, rule_for, version_at, n_at, p_at, plan_checks, plan_check, plan_of}
 use Rattle.plan.proofs.Refusals.{first_of-append, and_then_passed, passed_both}
-use Rattle.plan.proofs.Planned.{passing, modulus_small}
+use Rattle.plan.proofs.Planned.{passing, between-true, modulus_small}
 use Rattle.plan_file.specs.Bodies.{file_as}
 use Rattle.plan_file.proofs.Files.{version_back}
 use Rattle.plan_file.proofs.Rewritten.{same-plan, same-passes}
@@ -114,14 +117,19 @@ module _ (bs file : List ℕ) (passes : plan_check bs ≡ Ok tt) (passes' : plan
   }
 
 pub same_versions : SameVersions
-same_versions bytes v passes known fits =
-    let passes' : plan_check (file_as v (plan_of bytes)) ≡ Ok tt = same-passes bytes passes v known fits in
-    let same : plan_of (file_as v (plan_of bytes)) ≡ plan_of bytes = same-plan bytes passes v known fits in
+same_versions bytes v passes known rule fits =
+    let passes' : plan_check (file_as v (plan_of bytes)) ≡ Ok tt = same-passes bytes passes v known rule fits in
+    let same : plan_of (file_as v (plan_of bytes)) ≡ plan_of bytes = same-plan bytes passes v known rule fits in
     record { passes = passes'; plan = same; calls = calls bytes (file_as v (plan_of bytes)) passes passes' same }
 
 old_parts : (bytes : List ℕ) (room : ℕ) → convert_answer bytes room ≡ Ok tt → first_of (old_checks bytes) ≡ Ok tt
 unfolding convert_answer convert_checks
 old_parts bytes room e = (passed_both (first_of (old_checks bytes)) _ (sym (first_of-append (old_checks bytes) _) ∙ e)).0
+
+-- the versions that are converted have the rule of version 3
+old-rule : (bytes : List ℕ) → between 1 2 (version_at bytes) ≡ true → (plan_of bytes).rule ≡ rule_for 3
+unfolding plan_of
+old-rule bytes old = rw (ne_eqb (version_at bytes) 4 (λ e. omega (arith, (between-true 1 2 (version_at bytes) old).1)))
 
 pub converts : Converts
 converts bytes out e =
@@ -131,5 +139,5 @@ converts bytes out e =
     record {
       old = old-version bytes both;
       new = ap version_at is ∙ version_back 3 (plan_of bytes);
-      same = rw is (same_versions bytes 3 passes (unfold between in refl) (third_fits (p_at bytes) (modulus_small (n_at bytes) (p_at bytes) (passing bytes passes).modulus)));
+      same = rw is (same_versions bytes 3 passes (unfold between in refl) (old-rule bytes (old-version bytes both)) (third_fits (p_at bytes) (modulus_small (n_at bytes) (p_at bytes) (passing bytes passes).modulus)));
     }

@@ -15,12 +15,9 @@ use Rattle.seat_messages.specs.Calls.{call_answer, state_after, out_after}
 unfoldable pub part_in : Plan → ℕ → Step → ℕ → ℕ
 part_in plan j DealInputs i = length (input_wires plan j)
 part_in plan j (DealProduct g a b) i = cond (leb j (dealer_count plan)) 1 0
-part_in plan j (DealZero g) i = 1
-part_in plan j (DealMasked g a b) i = 1
-part_in plan j (SendTruncated g) i = 1
-part_in plan j (DealDraws g) i = 1
 part_in plan j (OpenSpent g a b) i = 2
 part_in plan j SendOuts i = own_out_count plan i
+part_in plan j _ i = 1
 
 unfoldable pub part_count : Plan → ℕ → ℕ → ℕ → ℕ
 part_count plan j k i = part_in plan j (step_at plan k) i

@@ -1,11 +1,12 @@
 -- What else is claimed beside the demands: of the matching from its calls alone, of a view piece by piece, of the sizes that a host cuts by, of
--- the party that refusal 20 tells, and of a plan's file in another version.
+-- the party that refusal 20 tells, of a plan's file in another version, and of the two multiply rules.
 use Rattle.std.specs.Prelude.{Ok, Err, ℕ, suc, ◌+◌, ◌*◌, ◌≤◌, ◌<◌, ◌≡◌, true, List, [], length}
 use Rattle.numbers.specs.Bytes.{width, numbers, all_below}
 use Rattle.sharing_laws.specs.OffLine.{OnOne, OffAt}
+use Rattle.plan.specs.declared.Rule.{Rule}
 use Rattle.plan.specs.declared.Refusal.TheVariants as refusal
 use Rattle.plan.specs.Plans.{Plan, party_count, last_call, own_inputs, own_coins, own_out_count, mail_count, written_count}
-use Rattle.plan.specs.File.{between, version_at, p_at, plan_check, plan_of}
+use Rattle.plan.specs.File.{between, version_at, p_at, rule_for, plan_check, plan_of}
 use Rattle.plan_coalition.specs.Coalitions.{in_set, members}
 use Rattle.seat_messages.specs.Messages.{from_each}
 use Rattle.seat_messages.specs.Calls.{call_answer, state_after, out_after}
@@ -19,7 +20,8 @@ use Rattle.match_agreement.specs.MatchCalls.{match_answer, matched_after}
 use Rattle.record_laws.specs.Records.{record_answer, record_after, bench_read_answer, bench_read_after, plant_read_answer, plant_read_after}
 use Rattle.count_laws.specs.CountCalls.{count_answer, count_after}
 use Rattle.demands.specs.Apart.{part_count}
-use Rattle.demands.specs.Demands.{Alike, SameBytes}
+use Rattle.demands.specs.Apart as apart
+use Rattle.demands.specs.Demands.{Given, Alike, SameBytes}
 
 -- ---- for any lent bytes: where the matching refuses nothing, the bench refuses neither run, and writes the same bytes for both
 abbrev pub MatchedBytes : Type 0
@@ -96,9 +98,11 @@ pub record Rewritten (first second : List ℕ) : Type 0 where
   pub plan : plan_of second ≡ plan_of first
   pub calls : SameCalls first second
 
--- a plan may be written in every version that has points and room for its prime; so may that of a version 1 file, with its points 1 to n
+-- a plan may be written in every version that has points, its multiply rule and room for its prime; so may that of a version 1 file, with its points 1 to n
 abbrev pub SameVersions : Type 0
-SameVersions = (bytes : List ℕ) (version : ℕ) → plan_check bytes ≡ Ok tt → between 2 3 version ≡ true → p_at bytes < field_limit version → Rewritten bytes (file_as version (plan_of bytes))
+SameVersions =
+    (bytes : List ℕ) (version : ℕ) → plan_check bytes ≡ Ok tt → between 2 4 version ≡ true → (plan_of bytes).rule ≡ rule_for version → p_at bytes < field_limit version
+    → Rewritten bytes (file_as version (plan_of bytes))
 
 -- ---- the converter: what it writes is a version 3 file of the same plan
 pub record Converted (bytes out : List ℕ) : Type 0 where
@@ -108,3 +112,20 @@ pub record Converted (bytes out : List ℕ) : Type 0 where
 
 abbrev pub Converts : Type 0
 Converts = (bytes out : List ℕ) → convert_answer bytes (length out) ≡ Ok tt → Converted bytes out
+
+-- ---- the two multiply rules
+-- a plan under this rule
+unfoldable pub under : Rule → Plan → Plan
+under rule plan = record { t = plan.t; p = plan.p; points = plan.points; gates = plan.gates; outs = plan.outs; rule = rule }
+
+-- two files whose plans are one but for the rule: of parties run apart the last buffers hold the same, for the same figures and whatever the coins
+abbrev pub SameResults : Type 0
+SameResults =
+    (first second xs coins coins' : List ℕ) (lent lent' : ℕ → ℕ → List ℕ) (rule : Rule)
+    → all_below 256 first ≡ true → all_below 256 second ≡ true → plan_of second ≡ under rule (plan_of first)
+    → Given first xs coins → Given second xs coins'
+    → ((i k : ℕ) → length (lent i k) ≡ width * written_count (plan_of first) i k)
+    → ((i k : ℕ) → length (lent' i k) ≡ width * written_count (plan_of second) i k)
+    → (i : ℕ) → 1 ≤ i → i ≤ party_count (plan_of first)
+    → (apart.answer_of i (apart.run second xs coins' lent' (last_call (plan_of second)))).out
+    ≡ (apart.answer_of i (apart.run first xs coins lent (last_call (plan_of first)))).out

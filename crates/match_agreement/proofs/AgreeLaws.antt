@@ -1,28 +1,35 @@
 -- What each way through the checks of a matching says of its definition.
 --     inputting, coining       the set, the inputs, the coins and the buffer
+--     agreeing                 one input
+--     drawing, gating          the search among a gate's inputs
 --     Comparing, comparing     the search for an input that differs
 --     outing                   the search for an out that differs
 --     pairing                  all checks
 --     matchable                what a pair that passes is
 -- Assumes nothing.
 use Rattle.std.proofs.Common.{Option, Some, None, Ok, Err}
-use mathlib.Core.Path.{◌≡◌, refl, sym, ap, ap₂, ◌∙◌}
+use mathlib.Core.Path.{◌≡◌, refl, sym, ap, ◌∙◌}
 use mathlib.Core.Bool.{Bool, true, false, not, ◌||◌}
 use mathlib.Core.List.{List, [], ◌∷◌, ◌++◌, flat_map}
-use Prim.Native.Nat.{ℕ, suc, ◌+◌, ◌*◌, ◌<◌, ◌≤◌}
+use Prim.Native.Nat.{ℕ, suc, ◌+◌, ◌-◌, ◌*◌, ◌<◌, ◌≤◌}
+use native.Mathlib.Decide.{dec_le}
+use native.Mathlib.Numerals.{add-one}
 use native.Mathlib.Nat.{add-zero}
 use native.Mathlib.Omega.{arith}
 use borrow.Author.Rules.{rules}
 use borrow.Author.Tests.{not-true, not-false, eq-eqb, ne_eqb, eqb-true}
+use mir.Syntax.{w64}
+use mir.Val.{Fits}
 use lib.Dec.{eqb}
-use lib.ListN.{length, get_or, take, drop, length-append, take-append-drop}
-use lib.Seq.{take_all, drop-cons, get_or-append_seam}
-use Rattle.numbers.specs.Tables.{first_failing}
+use lib.ListN.{length, get_or, take, drop, length-append, take-append-drop, get_or-append}
+use lib.Seq.{take_all, drop-cons, get_or-append-add}
+use Rattle.numbers.specs.Tables.{tab, first_from, first_failing}
 use Rattle.numbers.specs.Bytes.{width, numbers, holds_count, first_over, all_below}
 use Rattle.numbers.proofs.Bytes.{holds-length}
 use Rattle.numbers.proofs.Below.{first_over-nothing}
 use Rattle.sharing_laws.proofs.Lists.{flat_map-append}
-use Rattle.numbers.proofs.Searches.{Seeking, begin, found, passed, nothing}
+use Rattle.numbers.proofs.Tables.{length-tab, get_or-tab}
+use Rattle.numbers.proofs.Searches.{Seeking, begin, found, passed, nothing, seeking, First, nothing_passes, passes-nothing, first_failing_lem, failing_first}
 use Rattle.plan.specs.declared.Gate.{Gate}
 use Rattle.plan.specs.declared.Gate.TheVariants.{Input, Add, Scale, Offset, Multiply, Random, Spend}
 use Rattle.plan.specs.declared.Output.{Output}
@@ -31,7 +38,7 @@ use Rattle.plan.specs.Refusals.{Checked}
 use Rattle.plan.specs.declared.Refusal.{Refusal}
 use Rattle.plan.specs.declared.Refusal.TheVariants as refusal
 use Rattle.plan.specs.Refusals.{and_then, first_of, need, unless_found}
-use Rattle.plan.specs.Plans.{Plan, input_owners_at, input_owners, input_count, coin_count}
+use Rattle.plan.specs.Plans.{Plan, parties, input_owners_at, input_owners, input_count, coin_count}
 use Rattle.plan.specs.File.{gate_at, out_at, plan_of}
 use Rattle.plan.specs.Planned.{Planned}
 use Rattle.plan_coalition.specs.Coalitions.{set_fits, set_ok, in_set}
@@ -41,8 +48,8 @@ use Rattle.seat_admission.specs.Parts.{list_checks}
 use Rattle.run_protocol.specs.Ideal.{inputs_taken, values}
 use Rattle.run_protocol.proofs.Values.{values_length}
 use Rattle.match_agreement.specs.MatchCalls.{inputs_agree, outs_agree, pair_checks}
-use Rattle.match_agreement.specs.MatchParts.{input_checks, coin_checks, agree_checks, input_agrees, gate_agrees, out_agrees, out_agrees_at, Matchable}
-use Rattle.run_ideal.proofs.IdealLaws.{no_random, taken_next}
+use Rattle.match_agreement.specs.MatchParts.{input_checks, coin_checks, agree_checks, same_input, input_agrees, gate_agrees, out_agrees, out_agrees_at, Matchable}
+use Rattle.run_ideal.proofs.IdealLaws.{taken_next}
 
 -- ---- the set and the inputs
 module _ (bs : List ℕ) (h : Header) (set : ℕ) (xs ys : List ℕ) (k : Planned bs h) (s : Bool) (es : s ≡ set_fits h.n h.t set) where
@@ -108,146 +115,185 @@ module _ (bs : List ℕ) (h : Header) (coins : List ℕ) (room : ℕ) (k : Plann
 
 pub ruleset coining = (rules, not-true, not-false, pair_coins, pair_room, pair_buffer)
 
--- ---- one gate's input
+-- ---- one input
 not_or : (a b : Bool) → a ≡ true → (not a || b) ≡ b
 not_or a b e = rw e
 
 not_in : (a b : Bool) → a ≡ false → (not a || b) ≡ true
 not_in a b e = rw e
 
-module _ (set : ℕ) (gate : Gate) (x y : ℕ) where
-  pub agrees_member : (s : ℕ) (m : Bool) → gate ≡ Input s → m ≡ in_set set s → m ≡ true → eqb x y ≡ gate_agrees set gate x y
-  unfolding gate_agrees
-  agrees_member s m e em hm = rw e (sym (not_or (in_set set s) (eqb x y) (sym em ∙ hm)))
+module _ (set s i : ℕ) (xs ys : List ℕ) (m : Bool) (em : m ≡ in_set set s) where
+  pub agrees_member : (x y : ℕ) → m ≡ true → x ≡ get_or xs i 0 → y ≡ get_or ys i 0 → eqb x y ≡ same_input set s xs ys i
+  unfolding same_input
+  agrees_member x y hm ex ey = rw (ex, ey) (sym (not_or (in_set set s) _ (sym em ∙ hm)))
 
-  pub agrees_other : (s : ℕ) (m : Bool) → gate ≡ Input s → m ≡ in_set set s → m ≡ false → true ≡ gate_agrees set gate x y
+  pub agrees_other : m ≡ false → true ≡ same_input set s xs ys i
+  unfolding same_input
+  agrees_other hm = sym (not_in (in_set set s) _ (sym em ∙ hm))
+
+pub ruleset agreeing = (rules, not-true, not-false, agrees_member, agrees_other)
+
+-- ---- the inputs of a gate
+-- a random wire's draws
+module _ (set n next : ℕ) (xs ys : List ℕ) (j : ℕ) (t : Bool) where
+  pub draw_is : j < n → t ≡ same_input set (j + 1) xs ys (next + j) → t ≡ gate_agrees set (tab suc n) xs ys next j
   unfolding gate_agrees
-  agrees_other s m e em hm = rw e (sym (not_in (in_set set s) (eqb x y) (sym em ∙ hm)))
+  draw_is l e = rw (get_or-tab suc n j 0 l, ← add-one) e
+
+pub ruleset drawing = (seeking, draw_is)
+
+-- the first of gate g's inputs that differs for a member
+abbrev Off : List ℕ → ℕ → ℕ → ℕ → List ℕ → List ℕ → Option ℕ → Type 0
+Off bs set next g xs ys r =
+    r ≡ first_failing (gate_agrees set (input_owners_at (plan_of bs) (gate_at bs g)) xs ys next) (inputs_taken (plan_of bs) (gate_at bs g))
+
+module _ (bs : List ℕ) (h : Header) (k : Planned bs h) (set next g : ℕ) (xs ys : List ℕ) (gate : Gate) (is : gate ≡ gate_at bs g) where
+  pub off-input : (s : ℕ) (t : Bool) → gate ≡ Input s → t ≡ same_input set s xs ys next → t ≡ false → Off bs set next g xs ys (Some 0)
+  unfolding input_owners_at inputs_taken gate_agrees first_failing first_from
+  off-input s t e et f = rw (← is, e, add-zero next, ← et, f)
+
+  pub on_input : (s : ℕ) (t : Bool) → gate ≡ Input s → t ≡ same_input set s xs ys next → t ≡ true → Off bs set next g xs ys None
+  unfolding input_owners_at inputs_taken gate_agrees first_failing first_from
+  on_input s t e et f = rw (← is, e, add-zero next, ← et, f)
+
+  pub off-draws : (r : Option ℕ) → gate ≡ Random → r ≡ first_failing (gate_agrees set (tab suc h.n) xs ys next) h.n → Off bs set next g xs ys r
+  unfolding input_owners_at inputs_taken parties
+  off-draws r e er = rw (← is, e, length-tab, plan_n k) er
 
 -- a gate that takes no input
-pub agrees_none : (set : ℕ) (gate : Gate) (x y : ℕ) → ((s : ℕ) → gate ≡ Input s → ⊥) → true ≡ gate_agrees set gate x y
-unfolding gate_agrees
-agrees_none set (Input s) x y n = absurd (n s refl)
-agrees_none set (Add a b) x y n = refl
-agrees_none set (Scale a c) x y n = refl
-agrees_none set (Offset a c) x y n = refl
-agrees_none set (Multiply a b) x y n = refl
-agrees_none set Random x y n = refl
-agrees_none set (Spend a b) x y n = refl
+takes_none : (plan : Plan) (gate : Gate) → ((s : ℕ) → gate ≡ Input s → ⊥) → (gate ≡ Random → ⊥) → input_owners_at plan gate ≡ []
+unfolding input_owners_at
+takes_none plan (Input s) i r = absurd (i s refl)
+takes_none plan (Add a b) i r = refl
+takes_none plan (Scale a c) i r = refl
+takes_none plan (Offset a c) i r = refl
+takes_none plan (Multiply a b) i r = refl
+takes_none plan Random i r = absurd (r refl)
+takes_none plan (Spend a b) i r = refl
 
-pub ruleset agreeing = (rules, not-true, not-false, agrees_member, agrees_other, agrees_none)
+pub off-none :
+    (bs : List ℕ) (set next g : ℕ) (xs ys : List ℕ) (gate : Gate) → gate ≡ gate_at bs g → ((s : ℕ) → gate ≡ Input s → ⊥) → (gate ≡ Random → ⊥)
+    → Off bs set next g xs ys None
+unfolding inputs_taken first_failing first_from
+off-none bs set next g xs ys gate is i r = rw (← is, takes_none (plan_of bs) gate i r)
+
+-- As it is: answers name this set, since the check leaves their goals open by `using` alone.
+pub ruleset gating = (rules, not-true, not-false, off-input, on_input, off-draws, off-none)
 
 -- ---- the search for an input that differs
--- the inputs that gates below gate g take
-abbrev inputs_below : Plan → ℕ → ℕ
-inputs_below plan g = length (flat_map (input_owners_at plan) (take g plan.gates))
+-- whose the inputs of gate g are
+module _ (plan : Plan) (g : ℕ) (l : g < length plan.gates) where
+  abbrev owners_below : List ℕ
+  owners_below = flat_map (input_owners_at plan) (take g plan.gates)
 
--- the owner of the input that gate g takes
-module _ (plan : Plan) (g s : ℕ) (l : g < length plan.gates) (e : get_or plan.gates g (Input 0) ≡ Input s) where
-  owners_split : input_owners plan ≡ flat_map (input_owners_at plan) (take g plan.gates) ++ (s ∷ flat_map (input_owners_at plan) (drop (suc g) plan.gates))
-  unfolding input_owners flat_map input_owners_at
+  abbrev owners_here : List ℕ
+  owners_here = input_owners_at plan (get_or plan.gates g (Input 0))
+
+  owners_split : input_owners plan ≡ owners_below ++ (owners_here ++ flat_map (input_owners_at plan) (drop (suc g) plan.gates))
+  unfolding input_owners flat_map
   owners_split =
       ap (flat_map (input_owners_at plan))
-      (sym (take-append-drop g plan.gates) ∙ ap (λ (r : List Gate). take g plan.gates ++ r) (drop-cons plan.gates g (Input 0) l ∙ ap (λ (x : Gate). x ∷ drop (suc g) plan.gates) e))
-      ∙ flat_map-append (input_owners_at plan) (take g plan.gates) (Input s ∷ drop (suc g) plan.gates)
+      (sym (take-append-drop g plan.gates) ∙ ap (λ (r : List Gate). take g plan.gates ++ r) (drop-cons plan.gates g (Input 0) l))
+      ∙ flat_map-append (input_owners_at plan) (take g plan.gates) (get_or plan.gates g (Input 0) ∷ drop (suc g) plan.gates)
 
-  owner_at : get_or (input_owners plan) (inputs_below plan g) 0 ≡ s
-  owner_at =
-      ap (λ (os : List ℕ). get_or os (inputs_below plan g) 0) owners_split
-      ∙ get_or-append_seam (flat_map (input_owners_at plan) (take g plan.gates)) s (flat_map (input_owners_at plan) (drop (suc g) plan.gates)) 0
+  owner_at : (j : ℕ) → j < length owners_here → get_or (input_owners plan) (length owners_below + j) 0 ≡ get_or owners_here j 0
+  owner_at j lt =
+      ap (λ (os : List ℕ). get_or os (length owners_below + j) 0) owners_split
+      ∙ get_or-append-add owners_below (owners_here ++ flat_map (input_owners_at plan) (drop (suc g) plan.gates)) j 0
+      ∙ get_or-append owners_here (flat_map (input_owners_at plan) (drop (suc g) plan.gates)) 0 j lt
 
-  -- and its number is below their count
-  input_within : inputs_below plan g < input_count plan
+  inputs_within : length owners_below + length owners_here ≤ input_count plan
   unfolding input_count
-  input_within =
+  inputs_within =
       omega (
         arith,
         ap (λ (os : List ℕ). length os) owners_split,
-        length-append (flat_map (input_owners_at plan) (take g plan.gates)) (s ∷ flat_map (input_owners_at plan) (drop (suc g) plan.gates)),
+        length-append owners_below (owners_here ++ flat_map (input_owners_at plan) (drop (suc g) plan.gates)),
+        length-append owners_here (flat_map (input_owners_at plan) (drop (suc g) plan.gates)),
       )
 
--- the invariant at gate g, with the next input's number
+-- the invariant at gate g, with the place of its first input: no input before it differs for a member
 pub record Comparing (bs : List ℕ) (gates set : ℕ) (xs ys : List ℕ) (next g : ℕ) : Type 0 where
   pub within : g ≤ gates
   pub few : next ≤ 15 * g
   pub taken : next ≡ length (flat_map (input_owners_at (plan_of bs)) (take g (plan_of bs).gates))
-  pub seek : Seeking (input_agrees (plan_of bs) set xs ys) (input_count (plan_of bs)) next
+  pub agree : first_failing (input_agrees (plan_of bs) set xs ys) next ≡ None
 
 module _ (bs : List ℕ) (set : ℕ) (xs ys : List ℕ) where
+  abbrev agrees : ℕ → Bool
+  agrees = input_agrees (plan_of bs) set xs ys
+
   pub compare-none : (gates : ℕ) → Comparing bs gates set xs ys 0 0
-  unfolding flat_map
-  compare-none gates = record {
-    within = omega arith;
-    few = omega arith;
-    taken = refl;
-    seek = begin (input_agrees (plan_of bs) set xs ys) (input_count (plan_of bs));
-  }
+  unfolding flat_map first_failing first_from
+  compare-none gates = record { within = omega arith; few = omega arith; taken = refl; agree = refl }
 
   module _ (h : Header) (k : Planned bs h) (next g : ℕ) (w : Comparing bs h.gates set xs ys next g) where
-    -- an input gate's test is that of the next input
-    module _ (s : ℕ) (l : g < h.gates) (e : gate_at bs g ≡ Input s) where
-      gate-is : get_or (plan_of bs).gates g (Input 0) ≡ Input s
-      gate-is = plan_gate k g l ∙ e
+    pub compare-few : g < h.gates → next ≤ 15360
+    compare-few l = omega (arith, w.few, k.gates-high)
 
-      gate_in_lem : g < length (plan_of bs).gates
-      gate_in_lem = rw (plan_gates k) l
+    module _ (l : g < h.gates) (r : Option ℕ) (er : Off bs set next g xs ys r) where
+      abbrev here : ℕ → Bool
+      here = gate_agrees set (input_owners_at (plan_of bs) (gate_at bs g)) xs ys next
 
-      next-in : next < input_count (plan_of bs)
-      next-in = rw w.taken (input_within (plan_of bs) g s gate_in_lem gate-is)
+      abbrev taken : ℕ
+      taken = inputs_taken (plan_of bs) (gate_at bs g)
 
-      test-is : gate_agrees set (Input s) (get_or xs next 0) (get_or ys next 0) ≡ input_agrees (plan_of bs) set xs ys next
-      unfolding gate_agrees input_agrees
-      test-is = rw (ap (λ (i : ℕ). get_or (input_owners (plan_of bs)) i 0) w.taken ∙ owner_at (plan_of bs) g s gate_in_lem gate-is)
+      inside : g < length (plan_of bs).gates
+      inside = rw (plan_gates k) l
 
-    compare-off-at : (gate : Gate) → g < h.gates → gate_at bs g ≡ gate → gate_agrees set gate (get_or xs next 0) (get_or ys next 0) ≡ false
-        → Some next ≡ first_failing (input_agrees (plan_of bs) set xs ys) (input_count (plan_of bs))
-    unfolding gate_agrees
-    compare-off-at (Input s) l e f = found (input_agrees (plan_of bs) set xs ys) (input_count (plan_of bs)) next w.seek (next-in s l e) (sym (test-is s l e) ∙ f)
-    compare-off-at (Add a b) l e f = let z : ◌≡◌ {A = ℕ} 0 1 = cc in absurd (omega arith)
-    compare-off-at (Scale a c) l e f = let z : ◌≡◌ {A = ℕ} 0 1 = cc in absurd (omega arith)
-    compare-off-at (Offset a c) l e f = let z : ◌≡◌ {A = ℕ} 0 1 = cc in absurd (omega arith)
-    compare-off-at (Multiply a b) l e f = let z : ◌≡◌ {A = ℕ} 0 1 = cc in absurd (omega arith)
-    compare-off-at Random l e f = let z : ◌≡◌ {A = ℕ} 0 1 = cc in absurd (omega arith)
-    compare-off-at (Spend a b) l e f = let z : ◌≡◌ {A = ℕ} 0 1 = cc in absurd (omega arith)
+      -- the test of the gate's input j is that of input next + j
+      test-is : (j : ℕ) → j < taken → agrees (next + j) ≡ here j
+      unfolding input_agrees gate_agrees inputs_taken
+      test-is j lt =
+          ap (λ (s : ℕ). same_input set s xs ys (next + j))
+          (ap (λ (i : ℕ). get_or (input_owners (plan_of bs)) (i + j) 0) w.taken
+          ∙ owner_at (plan_of bs) g inside j (rw (plan_gate k g l) lt) ∙ ap (λ (x : Gate). get_or (input_owners_at (plan_of bs) x) j 0) (plan_gate k g l))
 
-    stay : (next : ℕ) → Seeking (input_agrees (plan_of bs) set xs ys) (input_count (plan_of bs)) next → Seeking (input_agrees (plan_of bs) set xs ys) (input_count (plan_of bs)) (next + 0)
-    stay n q = rw add-zero q
+      fits : next + taken ≤ input_count (plan_of bs)
+      unfolding inputs_taken
+      fits =
+          omega (arith, w.taken, inputs_within (plan_of bs) g inside, ap (λ (x : Gate). length (input_owners_at (plan_of bs) x)) (plan_gate k g l))
 
-    compare-on-at : (gate : Gate) → g < h.gates → gate_at bs g ≡ gate → gate_agrees set gate (get_or xs next 0) (get_or ys next 0) ≡ true
-        → Seeking (input_agrees (plan_of bs) set xs ys) (input_count (plan_of bs)) (next + inputs_taken (plan_of bs) gate)
-    unfolding inputs_taken input_owners_at
-    compare-on-at (Input s) l e f = passed (input_agrees (plan_of bs) set xs ys) (input_count (plan_of bs)) next w.seek (next-in s l e) (sym (test-is s l e) ∙ f)
-    compare-on-at (Add a b) l e f = stay next w.seek
-    compare-on-at (Scale a c) l e f = stay next w.seek
-    compare-on-at (Offset a c) l e f = stay next w.seek
-    compare-on-at (Multiply a b) l e f = stay next w.seek
-    compare-on-at Random l e f = absurd (no_random bs h k g l e)
-    compare-on-at (Spend a b) l e f = stay next w.seek
+      -- every input below next + m agrees if those of the gate below m do
+      below : (m : ℕ) → m ≤ taken → ((j : ℕ) → j < m → here j ≡ true) → (i : ℕ) → i < next + m → agrees i ≡ true
+      below m le ok i lt = by (dec_le (suc i) next)
+        where
+          by : Dec (suc i ≤ next) → agrees i ≡ true
+          by (yes q) = nothing_passes agrees next w.agree i q
+          by (no q) =
+              let e : next + (i - next) ≡ i = omega arith in
+              ap agrees (sym e) ∙ test-is (i - next) (omega arith) ∙ ok (i - next) (omega arith)
 
-    module _ (gate : Gate) (x y : ℕ) (t : Bool) (l : g < h.gates) (eg : gate ≡ gate_at bs g) (ex : x ≡ get_or xs next 0) (ey : y ≡ get_or ys next 0) (et : t ≡ gate_agrees set gate x y) where
-      test_at : gate_agrees set gate (get_or xs next 0) (get_or ys next 0) ≡ t
-      test_at = ap₂ (gate_agrees set gate) (sym ex) (sym ey) ∙ sym et
+      pub compare-off : (j : ℕ) → r ≡ Some j → Some (next + j) ≡ first_failing agrees (input_count (plan_of bs))
+      compare-off j e =
+          let f : First here taken j = first_failing_lem here taken j (sym er ∙ e) in
+          sym (failing_first agrees (input_count (plan_of bs)) (next + j) (record {
+            within = omega (arith, fits, f.within);
+            fails = test-is j f.within ∙ f.fails;
+            before = below j (omega (arith, f.within)) f.before;
+          }))
 
-      pub compare-off : t ≡ false → Some next ≡ first_failing (input_agrees (plan_of bs) set xs ys) (input_count (plan_of bs))
-      compare-off f = compare-off-at gate l (sym eg) (test_at ∙ f)
+      pub compare-place : (j n : ℕ) → r ≡ Some j → n ≡ taken → n ≤ 15 → Fits w64 (next + j)
+      compare-place j n e en few =
+          let f : First here taken j = first_failing_lem here taken j (sym er ∙ e) in
+          record { fits = omega (arith, compare-few l, f.within) }
 
-      pub compare_on : (n : ℕ) → t ≡ true → n ≡ inputs_taken (plan_of bs) (gate_at bs g) → n ≤ 15 → Comparing bs h.gates set xs ys (next + n) (g + 1)
-      compare_on n f en few = record {
+      pub compare_on : (n : ℕ) → r ≡ None → n ≡ taken → n ≤ 15 → Comparing bs h.gates set xs ys (next + n) (g + 1)
+      compare_on n e en few = record {
         within = omega arith;
         few = omega (arith, w.few);
         taken = taken_next (input_owners_at (plan_of bs)) bs h next g n k w.taken l (unfold inputs_taken in en);
-        seek = rw (en, ← eg) (compare-on-at gate l (sym eg) (test_at ∙ f));
+        agree = rw en (passes-nothing agrees (next + taken) (below taken (omega arith) (nothing_passes here taken (sym er ∙ e))));
       }
 
-    pub compare-done : h.gates ≤ g → None ≡ first_failing (input_agrees (plan_of bs) set xs ys) (input_count (plan_of bs))
+    pub compare-done : h.gates ≤ g → None ≡ first_failing agrees (input_count (plan_of bs))
     unfolding input_count input_owners
     compare-done l =
         let all : take g (plan_of bs).gates ≡ (plan_of bs).gates = take_all g (plan_of bs).gates (rw (plan_gates k) l) in
-        nothing (input_agrees (plan_of bs) set xs ys) (input_count (plan_of bs)) next w.seek
-        (omega (arith, w.taken, ap (λ (gs : List Gate). length (flat_map (input_owners_at (plan_of bs)) gs)) all))
+        sym (ap (first_failing agrees) (sym (w.taken ∙ ap (λ (gs : List Gate). length (flat_map (input_owners_at (plan_of bs)) gs)) all)) ∙ w.agree)
 
 -- As it is: answers name this set, since the check leaves their goals open by `using` alone.
-pub ruleset comparing = (rules, not-true, not-false, compare-none, compare-off, compare_on, compare-done)
+pub ruleset comparing = (rules, not-true, not-false, compare-none, compare-few, compare-off, compare-place, compare_on, compare-done)
 
 -- ---- the search for an out that differs
 module _ (set : ℕ) (vs ws : List ℕ) (out : Output) (m : Bool) (em : m ≡ in_set set out.party) where
@@ -295,7 +341,7 @@ pub ruleset outs_by_values = (rules, values_count, outs_of_values)
 -- ---- refusals 21 and 22
 module _ (plan : Plan) (set : ℕ) (xs ys : List ℕ) (f : Option ℕ) (ef : f ≡ first_failing (input_agrees plan set xs ys) (input_count plan)) where
   inputs_are : inputs_agree plan set xs ys ≡ unless_found refusal.InputsDiffer f
-  unfolding inputs_agree input_agrees
+  unfolding inputs_agree input_agrees same_input
   inputs_are = ap (unless_found refusal.InputsDiffer) (sym ef)
 
   pub agree_inputs : (i : ℕ) → f ≡ Some i → Err (refusal.InputsDiffer i) ≡ first_of (agree_checks plan set xs ys)
@@ -374,7 +420,7 @@ pub ruleset pairing = (rules, refused-inputs, refused-coins, passed_on, listed_f
 pub matchable :
     (bs : List ℕ) (h : Header) (set : ℕ) (xs ys coins : List ℕ) (room : ℕ) (c : Checked) → Planned bs h → c ≡ first_of (pair_checks (plan_of bs) set xs ys coins room) → c ≡ Ok tt
     → Matchable bs h set xs ys coins room
-unfolding coin_checks first_of
+unfolding coin_checks agree_checks first_of
 matchable bs h set xs ys coins room c k e p =
     let a = passed_both _ _ (sym (pair_first_of (plan_of bs) set xs ys coins room) ∙ sym e ∙ p) in
     let b = passed_both _ _ a.1 in
@@ -382,8 +428,10 @@ matchable bs h set xs ys coins room c k e p =
     let d = passed_both _ _ b.0 in
     let f = passed_both _ _ d.1 in
     let g = passed_both _ _ f.1 in
+    let m = passed_both _ _ b.1 in
     record {
       set_ok_lem = l.set_ok_lem;
+      agree = m.0;
       first_below = rw (← plan_p k) l.first_below;
       second_below = rw (← plan_p k) l.second_below;
       coins_below = rw (← plan_p k) (first_over-nothing (plan_of bs).p (numbers coins) (passed_found refusal.CoinValue _ f.0));

@@ -1,1 +1,2 @@
 pub mod AgreeLaws
+pub mod Agreed

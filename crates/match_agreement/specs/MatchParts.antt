@@ -1,8 +1,6 @@
 -- The matching's checks in parts: the set and the inputs, the coins and the buffer, and where the two lists agree.
-use Rattle.std.specs.Prelude.{ℕ, ◌*◌, ◌≡◌, Bool, true, not, ◌||◌, List, [], ◌∷◌, eqb, length, get_or}
+use Rattle.std.specs.Prelude.{Ok, ℕ, ◌+◌, ◌*◌, ◌≡◌, Bool, true, not, ◌||◌, List, [], ◌∷◌, eqb, length, get_or}
 use Rattle.numbers.specs.Bytes.{width, numbers, holds_count, first_over, all_below}
-use Rattle.plan.specs.declared.Gate.{Gate}
-use Rattle.plan.specs.declared.Gate.TheVariants.{Input, Add, Scale, Offset, Multiply, Random, Spend}
 use Rattle.plan.specs.declared.Header.{Header}
 use Rattle.plan.specs.declared.Output.{Output}
 use Rattle.plan.specs.Refusals.{Checked}
@@ -39,19 +37,16 @@ agree_checks plan set xs ys =
     ∷ outs_agree plan set (values plan xs) (values plan ys)
     ∷ []
 
--- input i is no member's, or the same in both lists
-unfoldable pub input_agrees : Plan → ℕ → List ℕ → List ℕ → ℕ → Bool
-input_agrees plan set xs ys i = not (in_set set (get_or (input_owners plan) i 0)) || eqb (get_or xs i 0) (get_or ys i 0)
+-- input i, party s's, is no member's, or the same in both lists
+unfoldable pub same_input : ℕ → ℕ → List ℕ → List ℕ → ℕ → Bool
+same_input set s xs ys i = not (in_set set s) || eqb (get_or xs i 0) (get_or ys i 0)
 
--- a gate takes no member's input, or the same in both lists; a plan file has no gate of kinds 6 and 7
-unfoldable pub gate_agrees : ℕ → Gate → ℕ → ℕ → Bool
-gate_agrees set (Input s) x y = not (in_set set s) || eqb x y
-gate_agrees set (Add a b) x y = true
-gate_agrees set (Scale a c) x y = true
-gate_agrees set (Offset a c) x y = true
-gate_agrees set (Multiply a b) x y = true
-gate_agrees set Random x y = true
-gate_agrees set (Spend a b) x y = true
+unfoldable pub input_agrees : Plan → ℕ → List ℕ → List ℕ → ℕ → Bool
+input_agrees plan set xs ys i = same_input set (get_or (input_owners plan) i 0) xs ys i
+
+-- the same of input j of a gate that takes its inputs from these parties, from place `next` of both lists on
+unfoldable pub gate_agrees : ℕ → List ℕ → List ℕ → List ℕ → ℕ → ℕ → Bool
+gate_agrees set owners xs ys next j = same_input set (get_or owners j 0) xs ys (next + j)
 
 -- an out is no member's, or has the same value in both lists of values
 unfoldable pub out_agrees : ℕ → List ℕ → List ℕ → Output → Bool
@@ -68,3 +63,4 @@ pub record Matchable (bs : List ℕ) (h : Header) (set : ℕ) (xs ys coins : Lis
   pub coins_below : all_below h.field.p (numbers coins) ≡ true
   pub coins_long : length coins ≡ width * coin_count (plan_of bs)
   pub room_long : room ≡ width * coin_count (plan_of bs)
+  pub agree : inputs_agree (plan_of bs) set (numbers xs) (numbers ys) ≡ Ok tt

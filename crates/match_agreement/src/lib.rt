@@ -1,15 +1,15 @@
 // Refusals 9 to 13, 19, 21 and 22 of a matching, in their order.
 #![tactic(auto)]
 
-ghost use Rattle.std.specs.Prelude.{◌≡◌, true, length};
-ghost use Rattle.numbers.specs.Tables.{first_failing};
+ghost use Rattle.std.specs.Prelude.{◌≡◌, true, suc, ◌<◌, ◌≤◌, length};
+ghost use Rattle.numbers.specs.Tables.{tab, first_failing};
 ghost use Rattle.numbers.specs.Bytes.{numbers, all_below};
 ghost use Rattle.plan.specs.Refusals.{first_of};
-ghost use Rattle.plan.specs.Plans.{input_count};
-ghost use Rattle.plan.specs.File.{plan_of};
-ghost use Rattle.run_protocol.specs.Ideal.{values};
+ghost use Rattle.plan.specs.Plans.{input_owners_at, input_count};
+ghost use Rattle.plan.specs.File.{plan_of, gate_at};
+ghost use Rattle.run_protocol.specs.Ideal.{inputs_taken, values};
 ghost use Rattle.match_agreement.specs.MatchCalls.{pair_checks};
-ghost use Rattle.match_agreement.specs.MatchParts.{input_checks, coin_checks, agree_checks, input_agrees, gate_agrees, out_agrees, out_agrees_at};
+ghost use Rattle.match_agreement.specs.MatchParts.{input_checks, coin_checks, agree_checks, same_input, input_agrees, gate_agrees, out_agrees, out_agrees_at};
 
 use plan::{Gate, Output, PlanFile, Refusal};
 
@@ -20,17 +20,6 @@ pub struct InputPair<'a> {
     pub set: u16,
     pub first: &'a [u8],
     pub second: &'a [u8],
-}
-
-// Whether a gate takes no member's input, or x and y are the same.
-#[tactic(auto, using(crate::proofs::AgreeLaws::agreeing))]
-fn gate_agrees(set: u16, gate: Gate, x: u64, y: u64) -> bool
-    ensures { result ≡ gate_agrees set gate x y }
-{
-    match gate {
-        Gate::Input(party) => !plan_coalition::is_member(set, party) || x == y,
-        _ => true,
-    }
 }
 
 // Whether an out is no member's, or has the same value in both lists of values.
@@ -81,6 +70,49 @@ impl InputPair<'_> {
         Ok(())
     }
 
+    // Whether input i, a party's, is no member's, or the same in both lists.
+    #[tactic(auto, using(crate::proofs::AgreeLaws::agreeing))]
+    fn same_input(&self, party: usize, i: usize) -> bool
+        ensures { result ≡ same_input self.now.set party (numbers self.now.first.now) (numbers self.now.second.now) i }
+    {
+        !plan_coalition::is_member(self.set, party)
+            || numbers::read(self.first, i) == numbers::read(self.second, i)
+    }
+
+    // Of a random wire's draws, which stand party by party from place `next` on, the first that is a member's and differs.
+    #[tactic(auto, using(crate::proofs::AgreeLaws::drawing))]
+    fn first_draw_off(&self, next: usize) -> Option<usize>
+        requires { next ≤ 15360 }
+        ensures { result ≡ first_failing (gate_agrees self.now.set (tab suc self.now.plan.now.header.n) (numbers self.now.first.now) (numbers self.now.second.now) next) self.now.plan.now.header.n }
+    {
+        for j in 0..self.plan.header.n {
+            if !self.same_input(j + 1, next + j) {
+                return Some(j);
+            }
+        }
+        None
+    }
+
+    // Of gate g's inputs, which stand from place `next` on, the first that is a member's and differs.
+    #[tactic(auto, using(crate::proofs::AgreeLaws::gating))]
+    fn gate_off(&self, g: usize, next: usize) -> Option<usize>
+        requires g_lt_gates { g < self.now.plan.now.header.gates }
+        requires next_bound { next ≤ 15360 }
+        ensures { result ≡ first_failing (gate_agrees self.now.set (input_owners_at (plan_of self.now.plan.now.bytes.now) (gate_at self.now.plan.now.bytes.now g)) (numbers self.now.first.now) (numbers self.now.second.now) next) (inputs_taken (plan_of self.now.plan.now.bytes.now) (gate_at self.now.plan.now.bytes.now g)) }
+    {
+        match self.plan.gate(g) {
+            Gate::Input(party) => {
+                if self.same_input(party, next) {
+                    None
+                } else {
+                    Some(0)
+                }
+            }
+            Gate::Random => self.first_draw_off(next),
+            _ => None,
+        }
+    }
+
     // The first input of a member at which the two lists differ.
     #[tactic(auto, using(crate::proofs::AgreeLaws::comparing))]
     fn first_input_off(&self) -> Option<usize>
@@ -88,13 +120,11 @@ impl InputPair<'_> {
     {
         let mut next = 0;
         for g in 0..self.plan.header.gates {
-            let gate = self.plan.gate(g);
-            let x = numbers::read(self.first, next);
-            let y = numbers::read(self.second, next);
-            if !gate_agrees(self.set, gate, x, y) {
-                return Some(next);
+            let taken = run_ideal::inputs_taken(self.plan, g);
+            if let Some(j) = self.gate_off(g, next) {
+                return Some(next + j);
             }
-            next += run_ideal::inputs_taken(self.plan, g);
+            next += taken;
         }
         None
     }

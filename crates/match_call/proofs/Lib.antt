@@ -1,4 +1,6 @@
 pub mod MemberLaws
+pub mod LowestLaws
+pub mod TruncatedLaws
 pub mod StepMatchLaws
 pub mod RunsLaws
 pub mod PairLaws

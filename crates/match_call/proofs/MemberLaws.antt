@@ -36,7 +36,7 @@ use Rattle.sharing.proofs.Coding.{entry_below}
 use Rattle.seat_messages.proofs.PointLaws.{plan_points_below}
 use Rattle.match_privacy.specs.Matching.{is_member, matched_blocks}
 use Rattle.match_moves.specs.Moves.{member_points, moved, change_of, moved_blocks}
-use Rattle.match_call.specs.MatchSteps.{delta_tail}
+use Rattle.match_call.specs.MatchSteps.{delta_whole, delta_tail}
 use Rattle.match_privacy.proofs.Blocks.{matched_block, blocks-cons, block_member, block_other}
 use Rattle.match_privacy.proofs.SetMembers.{member_in, set_few}
 
@@ -87,6 +87,13 @@ below-tail : (p : ℕ) (f : List ℕ) → all_below p f ≡ true → all_below p
 below-tail p [] h = h
 below-tail p (x ∷ f) h = at-all_below p f (λ i l. all_below_at p (x ∷ f) (suc i) h (omega arith))
 
+zeros-above : (f : List ℕ) (m i : ℕ) → get_or (f ++ replicate m 0) i 0 ≡ get_or f i 0
+zeros-above [] zero i = refl
+zeros-above [] (suc m) zero = refl
+zeros-above [] (suc m) (suc i) = zeros-above [] m i
+zeros-above (x ∷ f) m zero = refl
+zeros-above (x ∷ f) m (suc i) = zeros-above f m i
+
 module _ (plan : Plan) (valid : Valid plan) (set : ℕ) (ok : set_ok plan set ≡ true) where
   abbrev points : List ℕ
   points = map (point_of plan) (members set)
@@ -95,7 +102,7 @@ module _ (plan : Plan) (valid : Valid plan) (set : ℕ) (ok : set_ok plan set �
   few_points = omega (arith, length-map (members set) (point_of plan), set_few plan set ok)
 
   tail-is : delta_tail plan set ≡ tail (delta plan.p points) ++ replicate (plan.t + 1 - length (delta plan.p points)) 0
-  unfolding delta_tail
+  unfolding delta_tail delta_whole
   tail-is = tail-padded (plan.t + 1) (delta plan.p points) (omega (arith, length-delta plan.p points))
 
   length-of-tail : (f : List ℕ) → 0 < length f → length (tail f) + 1 ≡ length f
@@ -113,8 +120,12 @@ module _ (plan : Plan) (valid : Valid plan) (set : ℕ) (ok : set_ok plan set �
         length-replicate {A = ℕ} (plan.t + 1 - length (delta plan.p points)) 0,
       )
 
+  -- entry i of it is delta's coefficient of X^(i + 1)
+  pub tail-entry : (i : ℕ) → get_or (delta_tail plan set) i 0 ≡ get_or (tail (delta plan.p points)) i 0
+  tail-entry i = ap (λ (f : List ℕ). get_or f i 0) tail-is ∙ zeros-above (tail (delta plan.p points)) (plan.t + 1 - length (delta plan.p points)) i
+
   pub tail-below : all_below plan.p (delta_tail plan set) ≡ true
-  unfolding delta_tail
+  unfolding delta_tail delta_whole
   tail-below =
       below-tail plan.p _ (padded-below plan.p (pos valid.prime) (plan.t + 1) _ (delta-below plan.p valid.prime.above _))
 

@@ -1,29 +1,53 @@
 -- The matching as the code works it: delta's coefficients once, then the coins of every dealing moved by them.
-use Rattle.std.specs.Prelude.{ℕ, ◌+◌, ◌*◌, ◌<◌, ◌≤◌, ◌≡◌, true, length, take, drop}
+use Rattle.std.specs.Prelude.{ℕ, ◌+◌, ◌*◌, ◌<◌, ◌≤◌, ◌≡◌, true, length, take, drop, get_or}
 use mathlib.Core.List.{List, ◌++◌, map, tail}
 use Rattle.numbers.specs.Bytes.{numbers, all_below}
-use Rattle.sharing_laws.specs.Poly.{padded}
+use Rattle.field.specs.Mod.{add, mul}
+use Rattle.sharing_laws.specs.Poly.{eval, padded}
 use Rattle.sharing_laws.specs.Interp.{delta}
 use Rattle.plan.specs.declared.Gate.{Gate}
+use Rattle.plan.specs.declared.Gate.TheVariants.{Multiply}
+use Rattle.plan.specs.declared.Rule.TheVariants.{Truncation}
 use Rattle.plan.specs.declared.Header.{Header}
 use Rattle.plan.specs.Plans.{Plan, point_of, coin_owners_at}
 use Rattle.plan.specs.File.{plan_of, gate_at}
 use Rattle.plan.specs.Planned.{Planned}
 use Rattle.plan_coalition.specs.Coalitions.{members, set_ok}
-use Rattle.run_protocol.specs.Shares.{Before, gate_share, past}
+use Rattle.run_protocol.specs.Shares.{Before, masked_at, gate_share, past}
 use Rattle.run_dealings.specs.Rows.{rows_of, Standing, Taking, Holds}
-use Rattle.match_privacy.specs.Matching.{with_coins, matched_at}
+use Rattle.match_privacy.specs.Matching.{lowest, change_of, zero_matched, with_coins, matched_at}
 use Rattle.match_moves.specs.Moves.{Lent}
+use Rattle.match_moves.specs.Truncations.{Fitted}
 
--- the coefficients of X to X^t of the members' delta
+-- the t + 1 coefficients of the members' delta, those of X to X^t, and its values at the parties' points
+unfoldable pub delta_whole : Plan → ℕ → List ℕ
+delta_whole plan set = padded (plan.t + 1) (delta plan.p (map (point_of plan) (members set)))
+
 unfoldable pub delta_tail : Plan → ℕ → List ℕ
-delta_tail plan set = tail (padded (plan.t + 1) (delta plan.p (map (point_of plan) (members set))))
+delta_tail plan set = tail (delta_whole plan set)
+
+unfoldable pub spares_of : Plan → ℕ → List ℕ
+spares_of plan set = map (eval plan.p (delta plan.p (map (point_of plan) (members set)))) plan.points
 
 -- what is worked out once for a matching: delta's coefficients of X to X^t
 pub record Equipped (bs : List ℕ) (h : Header) (set : ℕ) (es : List ℕ) : Type 0 where
   pub planned : Planned bs h
   pub set_ok_lem : set_ok (plan_of bs) set ≡ true
   pub coefficients : es ≡ delta_tail (plan_of bs) set
+
+-- and for the multiplies by truncation: the lowest party that is no member, delta's values, and the points that a change is fitted to
+pub record Absorbing (bs : List ℕ) (h : Header) (set low : ℕ) (spares : List ℕ) (p t : ℕ) (dealers : List ℕ) : Type 0 where
+  pub lowest_is : low ≡ lowest (plan_of bs) (members set)
+  pub spares_are : spares ≡ spares_of (plan_of bs) set
+  pub fitted : Fitted h (plan_of bs).points p t dealers
+
+-- where gate `gate` multiplies wires a and b by truncation, each masked product changes by the constant of the product's change times delta
+pub record Follows (plan : Plan) (ms : List ℕ) (gate : Gate) (s s' : Before) : Type 0 where
+  pub masked :
+      (a b j : ℕ) → gate ≡ Multiply a b → plan.rule ≡ Truncation
+      → masked_at plan (with_coins (zero_matched plan ms (lowest plan ms) (change_of plan s s' a b) s.coins) s') a b (get_or plan.points j 0)
+      ≡ add plan.p (masked_at plan s a b (get_or plan.points j 0))
+      (mul plan.p (get_or (change_of plan s s' a b) 0 0) (eval plan.p (delta plan.p (map (point_of plan) ms)) (get_or plan.points j 0)))
 
 -- the turn of gate g: both lists of inputs, the tables of both runs up to its wire, its coins and the room for the new ones
 pub record Turn (bs : List ℕ) (h : Header) (g : ℕ) (xs ys before after : List ℕ) (at : ℕ) (coins out : List ℕ) : Type 0 where
@@ -42,10 +66,10 @@ pub record NewCoins (plan : Plan) (ms : List ℕ) (n : ℕ) (gate : Gate) (g : �
   pub place : next ≡ at + length (coin_owners_at plan gate)
   pub taking : Taking plan gate at (numbers out')
   pub coins :
-      (s s' : Before) → Holds plan n g xs cs before s → Holds plan n g ys s'.coins after s'
+      (s s' : Before) → Holds plan n g xs cs before s → Holds plan n g ys s'.coins after s' → Follows plan ms gate s s'
       → take next (numbers out') ≡ take at (numbers out) ++ matched_at plan ms gate s s'
   pub shares :
-      (s s' : Before) → Holds plan n g xs cs before s → Holds plan n g ys s'.coins after s'
+      (s s' : Before) → Holds plan n g xs cs before s → Holds plan n g ys s'.coins after s' → Follows plan ms gate s s'
       → gate_share plan gate (with_coins (drop at (numbers out')) s') ≡ gate_share plan gate (with_coins (matched_at plan ms gate s s') s')
 
 -- what the steps of both tables over gate g take
@@ -66,8 +90,8 @@ pub record Matched (plan : Plan) (ms : List ℕ) (n : ℕ) (gate : Gate) (g : �
   pub place : next ≡ at + length (coin_owners_at plan gate)
   pub first : (s : Before) → Holds plan n g xs cs before s → take (n * (g + 1)) before' ≡ rows_of plan.points (past plan gate s).env
   pub second :
-      (s s' : Before) → Holds plan n g xs cs before s → Holds plan n g ys s'.coins after s'
+      (s s' : Before) → Holds plan n g xs cs before s → Holds plan n g ys s'.coins after s' → Follows plan ms gate s s'
       → take (n * (g + 1)) after' ≡ rows_of plan.points (past plan gate (with_coins (matched_at plan ms gate s s') s')).env
   pub coins :
-      (s s' : Before) → Holds plan n g xs cs before s → Holds plan n g ys s'.coins after s'
+      (s s' : Before) → Holds plan n g xs cs before s → Holds plan n g ys s'.coins after s' → Follows plan ms gate s s'
       → take next (numbers out') ≡ take at (numbers out) ++ matched_at plan ms gate s s'

@@ -1,20 +1,23 @@
 // The coins of the matched run. Both runs' tables of shares are worked side by side, gate by gate.
-ghost use Rattle.std.specs.Prelude.{◌≡◌, true, ◌+◌, ◌-◌, ◌*◌, ◌<◌, ◌≤◌, length, take, drop};
+ghost use Rattle.std.specs.Prelude.{◌≡◌, true, suc, ◌+◌, ◌-◌, ◌*◌, ◌<◌, ◌≤◌, length, take, drop};
+ghost use Rattle.numbers.specs.Tables.{tab};
 ghost use Rattle.numbers.specs.Bytes.{numbers, bytes_of};
 ghost use Rattle.plan.specs.File.{plan_of, gate_at};
 ghost use Rattle.plan_coalition.specs.Coalitions.{members, set_ok};
 ghost use Rattle.run_dealings.specs.Rows.{Stepped};
-ghost use Rattle.match_privacy.specs.Matching.{matched_coins};
+ghost use Rattle.match_privacy.specs.Matching.{lowest_of, matched_coins};
 ghost use Rattle.match_agreement.specs.MatchParts.{Matchable};
-ghost use Rattle.match_call.specs.MatchSteps.{delta_tail, Equipped, Turn, NewCoins, Both, Matched};
+ghost use Rattle.match_call.specs.MatchSteps.{delta_whole, delta_tail, spares_of, Equipped, Absorbing, Turn, NewCoins, Both, Matched};
 
 use match_agreement::InputPair;
 use match_moves::Mover;
-use plan::PlanFile;
+use match_moves::truncation::Truncation;
+use plan::{Gate, PlanFile, Rule};
 use run_dealings::Way;
 use run_tables::RunPlan;
 
-// What a matching is worked from: the plan with what its dealings need, the set, both lists, the first run's coins, and delta's coefficients.
+// What a matching is worked from: the plan with what its dealings need, the set, both lists, the first run's coins, delta's coefficients, and what the
+// coins of a multiply by truncation move by besides.
 // As it is: no `InputPair`, which would bring the plan a second time, with a ghost field more to say that the two plans are one.
 #[derive(Clone, Copy)]
 struct Matcher<'a> {
@@ -24,7 +27,9 @@ struct Matcher<'a> {
     second: &'a [u8],
     coins: &'a [u8],
     delta: &'a [u64],
+    truncation: Truncation<'a>,
     ghost equipped: { Equipped run.plan.now.bytes.now run.plan.now.header set delta.now },
+    ghost absorbing: { Absorbing run.plan.now.bytes.now run.plan.now.header set truncation.lowest truncation.spares.now truncation.bases.field.p truncation.bases.t truncation.bases.points.now },
 }
 
 // A gate, with the places of its first input in both lists and of its first coin.
@@ -53,8 +58,16 @@ impl Matcher<'_> {
             coins: self.coins,
             before,
             after,
+            truncation: &self.truncation,
         };
-        mover.gate(at.gate, self.run.plan.gate(at.gate), at.input, at.coin, out)
+        let gate = self.run.plan.gate(at.gate);
+        match self.run.plan.header.rule {
+            Rule::Reduction => mover.gate(at.gate, gate, at.input, at.coin, out),
+            Rule::Truncation => match gate {
+                Gate::Multiply(a, b) => mover.truncated(a, b, at.coin, out),
+                _ => mover.gate(at.gate, gate, at.input, at.coin, out),
+            },
+        }
     }
 
     // A gate's row in both tables: the first run's with the coins, the second run's with the new ones.
@@ -102,11 +115,26 @@ impl Matcher<'_> {
     }
 }
 
-// Delta's coefficients: from entry 1 on those of X to X^t.
+// The lowest of n parties that is no member of the set; 0 where all are.
+#[tactic(auto, using(crate::proofs::LowestLaws::seeking_lowest))]
+fn lowest(set: u16, n: usize) -> usize
+    requires { n ≤ 15 }
+    ensures { result ≡ lowest_of (members set) (tab suc n) }
+{
+    for i in 0..n {
+        if !plan_coalition::is_member(set, i + 1) {
+            return i + 1;
+        }
+    }
+    0
+}
+
+// Delta's coefficients; from entry 1 on those of X to X^t.
 #[tactic(auto, using(crate::proofs::RunsLaws::finding_delta))]
 fn delta(plan: &PlanFile, set: u16) -> [u64; 15]
     requires { set_ok (plan_of plan.now.bytes.now) set ≡ true }
-    ensures { take (plan.now.header.t + 1 - 1) (drop 1 result) ≡ delta_tail (plan_of plan.now.bytes.now) set }
+    ensures whole { take (plan.now.header.t + 1) result ≡ delta_whole (plan_of plan.now.bytes.now) set }
+    ensures rest { take (plan.now.header.t + 1 - 1) (drop 1 result) ≡ delta_tail (plan_of plan.now.bytes.now) set }
 {
     let e = plan.header.t + 1;
     let n = plan.header.n;
@@ -116,6 +144,19 @@ fn delta(plan: &PlanFile, set: u16) -> [u64; 15]
     let members = match_moves::members(set, &points[..n], &mut room);
     sharing_delta::vanishing(plan.header.field, members, &mut delta[..e]);
     delta
+}
+
+// Delta's values at the parties' points.
+#[tactic(auto, using(crate::proofs::RunsLaws::sparing))]
+fn spares(plan: &PlanFile, set: u16, delta: &[u64]) -> [u64; 15]
+    requires delta_value { delta.now ≡ delta_whole (plan_of plan.now.bytes.now) set }
+    ensures { take plan.now.header.n result ≡ spares_of (plan_of plan.now.bytes.now) set }
+{
+    let n = plan.header.n;
+    let points = seat_messages::points_of(plan);
+    let mut spares = [0u64; 15];
+    sharing::deal(plan.header.field, delta, &points[..n], &mut spares[..n]);
+    spares
 }
 
 // Writes the coins of the matched run, of two lists of inputs and coins that pass the checks.
@@ -128,23 +169,30 @@ pub fn matched(lists: &InputPair, coins: &[u8], out: &mut [u8])
     let mut before = [0u64; 15360];
     let mut after = [0u64; 15360];
     let mut rows = [0u64; 240];
+    let mut bases = [0u64; 225];
     let mut weights = [0u64; 15];
+    let mut matrix = [0u64; 225];
     let h = lists.plan.header;
     let delta = delta(lists.plan, lists.set);
+    let spares = spares(lists.plan, lists.set, &delta[..h.t + 1]);
     let points = seat_messages::points_of(lists.plan);
+    let points = &points[..h.n];
+    let lowest = lowest(lists.set, h.n);
     let matcher = Matcher {
         run: RunPlan::new(
             lists.plan,
             Way::Sum,
-            &points[..h.n],
+            points,
             &mut rows,
             &mut weights,
+            &mut matrix,
         ),
         set: lists.set,
         first: lists.first,
         second: lists.second,
         coins,
         delta: &delta[1..h.t + 1],
+        truncation: Truncation::new(h, lowest, &spares[..h.n], points, &mut bases),
     };
     matcher.work(&mut before, &mut after, out);
 }

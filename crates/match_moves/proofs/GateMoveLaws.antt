@@ -1,21 +1,22 @@
 -- What each way through the code that moves a gate's coins says of its definition.
 --     moving_products      a multiply gate's
+--     moving_draws         a random wire's
 --     moving_gate          a gate's, by its kind
 -- Assumes nothing.
-use mathlib.Core.Path.{◌≡◌, refl, sym, ap, ◌∙◌}
+use mathlib.Core.Path.{◌≡◌, refl, sym, ap, ap₂, ◌∙◌}
 use mathlib.Core.Bool.{true}
-use mathlib.Core.List.{List, [], append-nil}
-use Prim.Native.Nat.{ℕ, suc, ◌+◌, ◌*◌, ◌<◌, ◌≤◌}
+use mathlib.Core.List.{List, [], ◌∷◌, ◌++◌, append-nil}
+use Prim.Native.Nat.{ℕ, suc, ◌+◌, ◌*◌, ◌<◌}
 use native.Mathlib.Nat.{add-zero, mul-zero, mul-one}
 use native.Mathlib.Omega.{arith}
 use borrow.Author.Rules.{rules}
 use borrow.Author.Tests.{ltb-true}
 use lib.Dec.{ltb}
 use lib.ListN.{length, get_or, take, drop}
-use lib.Seq.{get_or-drop}
+use lib.Seq.{get_or-take, get_or-drop}
 use Rattle.numbers.specs.Tables.{tab}
 use Rattle.numbers.specs.Bytes.{all_below}
-use Rattle.numbers.proofs.Tables.{length-tab}
+use Rattle.numbers.proofs.Tables.{length-tab, get_or-tab}
 use Rattle.numbers.proofs.Below.{all_below-tab}
 use Rattle.numbers.proofs.Truth.{both_true}
 use Rattle.field.specs.Mod.{mul}
@@ -28,7 +29,7 @@ use Rattle.plan.specs.declared.Header.{Header}
 use Rattle.plan.specs.Plans.{kind_of, is_kind, multiplying}
 use Rattle.plan.specs.File.{gate_ok, majority_ok}
 use Rattle.plan_coalition.specs.Coalitions.{in_set}
-use Rattle.run_dealings.specs.Rows.{products_of, Rowed, Standing}
+use Rattle.run_dealings.specs.Rows.{products_of, draws_of, Rowed, Standing}
 use Rattle.sharing.proofs.Coding.{entry_below}
 use Rattle.run_dealings.proofs.RowLaws.{standing-row}
 use Rattle.match_moves.specs.Moves.{moved, change_of, moved_blocks, dealers_in, dealt_in, Lent, Written, Advanced}
@@ -47,6 +48,24 @@ pub products-moved :
 products-moved p n t m coalition a b at es before after first second cs old new r ef es' w = rw (← ef, ← es') w
 
 pub ruleset moving_products = (rules, products_below, products-moved)
+
+-- ---- a random wire
+module _ (p n next : ℕ) (xs ws row : List ℕ) (er : take n row ≡ draws_of n ws) (ew : ws ≡ drop next xs) where
+  pub draws-are : take n row ≡ draws_of n (drop next xs)
+  draws-are = er ∙ ap (draws_of n) ew
+
+  pub draws_below : Ready p → all_below p xs ≡ true → all_below p (take n row) ≡ true
+  unfolding draws_of
+  draws_below r b = rw er (all_below-tab p (λ j. get_or ws j 0) n (λ j l. rw (ew, get_or-drop next xs j 0) (entry_below p xs (next + j) r b)))
+
+pub draws-moved :
+    (p n t next coalition at : ℕ) (es xs ys xs' ys' first second cs old new : List ℕ) (r : ℕ) → take n first ≡ draws_of n xs' → xs' ≡ drop next xs
+    → take n second ≡ draws_of n ys' → ys' ≡ drop next ys
+    → Advanced at (t * n) (moved_blocks p t coalition es (tab suc n) (take n first) (take n second) cs) old new r
+    → Advanced at (t * n) (moved_blocks p t coalition es (tab suc n) (draws_of n (drop next xs)) (draws_of n (drop next ys)) cs) old new r
+draws-moved p n t next coalition at es xs ys xs' ys' first second cs old new r ef ex es' ey w = rw (← ex, ← ey, ← ef, ← es') w
+
+pub ruleset moving_draws = (rules, draws_below, draws-moved)
 
 -- ---- a gate by its kind
 pub multiply_majority : (n t : ℕ) (gate : Gate) (a b : ℕ) → majority_ok n t gate ≡ true → gate ≡ Multiply a b → 2 * t < n
@@ -67,9 +86,32 @@ module _ (h : Header) (p at : ℕ) (gate : Gate) (es coins out : List ℕ) (long
   unfolding dealers_in
   input-lent s e = rw (long) (rw (e, mul-one) at lent)
 
+  pub random_lent : gate ≡ Random → Lent p at (length es * h.n) coins out
+  unfolding dealers_in
+  random_lent e = rw (long) (rw (e, length-tab suc h.n) at lent)
+
   pub multiply-lent : (a b : ℕ) → gate ≡ Multiply a b → Lent p at (length es * (h.t + h.t + 1)) coins out
   unfolding dealers_in
   multiply-lent a b e = rw (long) (rw (e, length-tab suc (h.t + h.t + 1)) at lent)
+
+-- blocks moved by numbers that are the same for each dealer
+blocks-ext :
+    (p t coalition : ℕ) (es ds ss ss' zs zs' cs : List ℕ) → ((j : ℕ) → j < length ds → get_or ss j 0 ≡ get_or ss' j 0) → ((j : ℕ) → j < length ds → get_or zs j 0 ≡ get_or zs' j 0)
+    → moved_blocks p t coalition es ds ss zs cs ≡ moved_blocks p t coalition es ds ss' zs' cs
+unfolding moved_blocks
+blocks-ext p t coalition es [] ss ss' zs zs' cs s z = refl
+blocks-ext p t coalition es (d ∷ ds) ss ss' zs zs' cs s z =
+    ap₂ (λ (b r : List ℕ). b ++ r)
+    (ap₂ (λ (x y : ℕ). moved p (change_of p (in_set coalition d) x y) es (take t cs)) (s 0 (omega arith)) (z 0 (omega arith)))
+    (blocks-ext p t coalition es ds (drop 1 ss) (drop 1 ss') (drop 1 zs) (drop 1 zs') (drop t cs)
+    (λ j l. get_or-drop 1 ss j 0 ∙ s (1 + j) (omega arith) ∙ sym (get_or-drop 1 ss' j 0))
+    (λ j l. get_or-drop 1 zs j 0 ∙ z (1 + j) (omega arith) ∙ sym (get_or-drop 1 zs' j 0)))
+
+draw-taken : (n : ℕ) (xs : List ℕ) (j : ℕ) → j < length (tab suc n) → get_or (draws_of n xs) j 0 ≡ get_or (take n xs) j 0
+unfolding draws_of
+draw-taken n xs j l =
+    let m : j < n = rw (length-tab suc n) at l in
+    get_or-tab (λ j. get_or xs j 0) n j 0 m ∙ sym (get_or-take n xs j 0 m)
 
 -- an input that a list has is below p
 pub input_small : (p : ℕ) (xs : List ℕ) (i x : ℕ) → Ready p → all_below p xs ≡ true → x ≡ get_or xs i 0 → x < p
@@ -101,24 +143,37 @@ module _ (h : Header) (gate : Gate) (es : List ℕ) (coalition next at : ℕ) (x
   unfolding dealers_in dealt_in
   moved-multiply a b r long e w = rw (e, length-tab suc (h.t + h.t + 1)) (rw long at w)
 
--- nothing is dealt at the other gates of a plan file
+  pub moved-random :
+      (r : ℕ) → length es ≡ h.t → gate ≡ Random
+      → Advanced at (length es * h.n) (moved_blocks h.field.p (length es) coalition es (tab suc h.n) (draws_of h.n (drop next xs)) (draws_of h.n (drop next ys)) cs) old new r
+      → Moved r
+  unfolding dealers_in dealt_in
+  moved-random r long e w =
+      rw (e, length-tab suc h.n)
+      (rw (
+        long,
+        blocks-ext h.field.p h.t coalition es (tab suc h.n) (draws_of h.n (drop next xs)) (take h.n (drop next xs)) (draws_of h.n (drop next ys)) (take h.n (drop next ys)) cs
+            (draw-taken h.n (drop next xs)) (draw-taken h.n (drop next ys)),
+      ) at w)
+
+-- nothing is dealt at the other gates
 none_dealt :
-    (h : Header) (gate : Gate) → ((s : ℕ) → gate ≡ Input s → ⊥) → ((a b : ℕ) → gate ≡ Multiply a b → ⊥) → kind_of gate ≤ 5 → dealers_in h gate ≡ []
-unfolding dealers_in kind_of
-none_dealt h (Input s) i m low = absurd (i s refl)
-none_dealt h (Add a b) i m low = refl
-none_dealt h (Scale a c) i m low = refl
-none_dealt h (Offset a c) i m low = refl
-none_dealt h (Multiply a b) i m low = absurd (m a b refl)
-none_dealt h Random i m low = absurd (omega arith)
-none_dealt h (Spend a b) i m low = refl
+    (h : Header) (gate : Gate) → ((s : ℕ) → gate ≡ Input s → ⊥) → ((a b : ℕ) → gate ≡ Multiply a b → ⊥) → (gate ≡ Random → ⊥) → dealers_in h gate ≡ []
+unfolding dealers_in
+none_dealt h (Input s) i m r = absurd (i s refl)
+none_dealt h (Add a b) i m r = refl
+none_dealt h (Scale a c) i m r = refl
+none_dealt h (Offset a c) i m r = refl
+none_dealt h (Multiply a b) i m r = absurd (m a b refl)
+none_dealt h Random i m r = absurd (r refl)
+none_dealt h (Spend a b) i m r = refl
 
 module _ (h : Header) (gate : Gate) (es : List ℕ) (coalition next at : ℕ) (xs ys before after cs old : List ℕ) where
   pub moved_none :
-      ((s : ℕ) → gate ≡ Input s → ⊥) → ((a b : ℕ) → gate ≡ Multiply a b → ⊥) → kind_of gate ≤ 5
+      ((s : ℕ) → gate ≡ Input s → ⊥) → ((a b : ℕ) → gate ≡ Multiply a b → ⊥) → (gate ≡ Random → ⊥)
       → Moved h gate es coalition next at xs ys before after cs old old at
   unfolding moved_blocks
-  moved_none i m low = rw (none_dealt h gate i m low) (record { front = rw (mul-zero, add-zero, append-nil); place = omega (arith, mul-zero h.t) })
+  moved_none i m r = rw (none_dealt h gate i m r) (record { front = rw (mul-zero, add-zero, append-nil); place = omega (arith, mul-zero h.t) })
 
 -- As it is: answers name this set, since the check leaves their goals open by `using` alone.
-pub ruleset moving_gate = (rules, multiply_majority, left-stands, right-stands, input-lent, multiply-lent, input_small, moved-input, moved-multiply, moved_none)
+pub ruleset moving_gate = (rules, multiply_majority, left-stands, right-stands, input-lent, random_lent, multiply-lent, input_small, moved-input, moved-multiply, moved-random, moved_none)

@@ -1,2 +1,3 @@
 pub mod MoveLaws
 pub mod GateMoveLaws
+pub mod TruncationLaws

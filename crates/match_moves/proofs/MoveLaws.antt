@@ -1,6 +1,7 @@
 -- What each way through the code that moves coins says of its definition.
 --     Gathered, gathering        the points of a set's members
---     Moving, moving             the coins of one dealing
+--     Writing                    coins that are written one after the other
+--     moving                     the coins of one dealing
 --     shift_of                   by the change of what its dealer deals
 --     Blocking, moving_blocks    the coins of several dealings
 -- Assumes nothing.
@@ -29,8 +30,8 @@ use Rattle.plan_coalition.specs.Coalitions.{in_set, members_from, members}
 use Rattle.match_moves.specs.Moves.{member_points, moved, change_of, moved_blocks, Lent, Written, Advanced}
 
 -- ---- the points of a set's members: those of members below i stand in front
-pub point-past : (points : List ℕ) (i : ℕ) → length points ≤ i - 1 → 0 ≡ get_or points (i - 1) 0
-point-past points i l = sym (get_or-eq_default points 0 {n = i - 1} l)
+pub entry-past : (list : List ℕ) (i : ℕ) → length list ≤ i → 0 ≡ get_or list i 0
+entry-past list i l = sym (get_or-eq_default list 0 {n = i} l)
 
 pub record Gathered (points : List ℕ) (coalition : ℕ) (d : List ℕ) (k i : ℕ) : Type 0 where
   pub low : 1 ≤ i
@@ -84,7 +85,7 @@ module _ (points : List ℕ) (coalition : ℕ) (d : List ℕ) (k i : ℕ) (h : G
   unfolding member_points
   gathered_count l = sym (length-take-le k d (omega (arith, h.few, h.high, h.long))) ∙ ap length (gathered l) ∙ length-map (members coalition) at
 
-pub ruleset gathering = (rules, point-past, gather_none, gather_place, gather_next, gathered, gathered_few, gathered_count)
+pub ruleset gathering = (rules, entry-past, gather_none, gather_place, gather_next, gathered, gathered_few, gathered_count)
 
 -- ---- a change
 module _ (p : ℕ) (m : Bool) (s z : ℕ) where
@@ -115,51 +116,56 @@ moved-tab p d es cs at l =
     (λ m o. ap (λ (c : ℕ). add p c (mul p d (get_or es m 0))) (sym (get_or-drop at cs m 0)))
     ∙ moved_front p d es (drop at cs) (omega (arith, length-drop at cs))
 
--- the invariant at coin j
-pub record Moving (p d : ℕ) (es cs : List ℕ) (at : ℕ) (old new : List ℕ) (j : ℕ) : Type 0 where
-  pub within : j ≤ length es
-  pub room : at + length es ≤ length new / width
+-- ---- coins that are written one after the other
+-- the invariant at coin j of the k coins f 0, f 1, ..
+pub record Writing (f : ℕ → ℕ) (k at : ℕ) (old new : List ℕ) (j : ℕ) : Type 0 where
+  pub within : j ≤ k
+  pub room : at + k ≤ length new / width
   pub long : length new ≡ length old
-  pub front : take (at + j) (numbers new) ≡ take at (numbers old) ++ tab (moved_at p d es cs at) j
+  pub front : take (at + j) (numbers new) ≡ take at (numbers old) ++ tab f j
 
-module _ (p d : ℕ) (es : List ℕ) (at : ℕ) (coins old : List ℕ) where
-  pub move-none : Lent p at (length es) coins old → Moving p d es (numbers coins) at old old 0
-  move-none l = record {
-    within = omega arith;
-    room = l.there;
-    long = refl;
-    front = rw (add-zero, tab-zero (moved_at p d es (numbers coins) at), append-nil);
+module _ (f : ℕ → ℕ) (p k at : ℕ) (coins old : List ℕ) where
+  pub write-none : Lent p at k coins old → Writing f k at old old 0
+  write-none l = record { within = omega arith; room = l.there; long = refl; front = rw (add-zero, tab-zero f, append-nil) }
+
+module _ (f : ℕ → ℕ) (k at : ℕ) (old new : List ℕ) (j : ℕ) (w : Writing f k at old new j) where
+  pub write-place : (coins : List ℕ) → j < k → length coins * 1 < 2 ^ 63 → at + k ≤ length coins / width → Fits w64 (at + j)
+  write-place coins l m r = record { fits = omega arith }
+
+  pub write_next : (v : ℕ) (new' : List ℕ) → v < limit → j < k → v ≡ f j → new' ≡ stored new (at + j) v → Writing f k at old new' (j + 1)
+  write_next v new' small l ev en =
+      let e : at + (j + 1) ≡ suc (at + j) = omega arith in
+      record {
+        within = omega arith;
+        room = rw (en, length-stored) w.room;
+        long = ap length en ∙ length-stored new (at + j) v ∙ w.long;
+        front =
+            rw (en, numbers-stored new (at + j) v small, e, take-suc-set (numbers new) (at + j) v (omega (arith, w.room, numbers-length new)), w.front, append_assoc, tab-next, ev);
+      }
+
+  pub written_all : k ≤ j → take (at + k) (numbers new) ≡ take at (numbers old) ++ tab f k
+  written_all l = let e : j ≡ k = omega (arith, w.within) in rw (← e) w.front
+
+-- ---- moved
+pub move-none : (p d : ℕ) (es : List ℕ) (at : ℕ) (coins old : List ℕ) → Lent p at (length es) coins old → Writing (moved_at p d es (numbers coins) at) (length es) at old old 0
+move-none p d es at coins old l = write-none (moved_at p d es (numbers coins) at) p (length es) at coins old l
+
+module _ (p d : ℕ) (es : List ℕ) (at : ℕ) (coins old new : List ℕ) (j : ℕ) (w : Writing (moved_at p d es (numbers coins) at) (length es) at old new j) where
+  pub move-next :
+      (c : ℕ) (new' : List ℕ) → Ready p → j < length es → c ≡ get_or (numbers coins) (at + j) 0 → new' ≡ stored new (at + j) ((c + d * get_or es j 0) % p)
+      → Writing (moved_at p d es (numbers coins) at) (length es) at old new' (j + 1)
+  move-next c new' r l ec en =
+      let v : ℕ = (c + d * get_or es j 0) % p in
+      let small : v < limit = omega (arith, mod-lt (c + d * get_or es j 0) {m = p} (omega (arith, r.prime.above)), r.small) in
+      let is : v ≡ moved_at p d es (numbers coins) at j = step_value p c d (get_or es j 0) ∙ ap (λ (x : ℕ). add p x (mul p d (get_or es j 0))) ec in
+      write_next (moved_at p d es (numbers coins) at) (length es) at old new j w v new' small l is en
+
+  pub move-done : length es ≤ j → at + length es ≤ length coins / width → Written at (length es) (moved p d es (take (length es) (drop at (numbers coins)))) old new
+  move-done l m = record {
+    front =
+        written_all (moved_at p d es (numbers coins) at) (length es) at old new j w l
+        ∙ ap (λ (b : List ℕ). take at (numbers old) ++ b) (moved-tab p d es (numbers coins) at (omega (arith, numbers-length coins)));
   }
-
-  module _ (new : List ℕ) (j : ℕ) (w : Moving p d es (numbers coins) at old new j) where
-    pub move-place : j < length es → length coins * 1 < 2 ^ 63 → at + length es ≤ length coins / width → Fits w64 (at + j)
-    move-place l f m = record { fits = omega arith }
-
-    pub move-next :
-        (c : ℕ) (new' : List ℕ) → Ready p → j < length es → c ≡ get_or (numbers coins) (at + j) 0 → new' ≡ stored new (at + j) ((c + d * get_or es j 0) % p)
-        → Moving p d es (numbers coins) at old new' (j + 1)
-    move-next c new' r l ec en =
-        let v : ℕ = (c + d * get_or es j 0) % p in
-        let small : v < limit = omega (arith, mod-lt (c + d * get_or es j 0) {m = p} (omega (arith, r.prime.above)), r.small) in
-        let e : at + (j + 1) ≡ suc (at + j) = omega arith in
-        let is : v ≡ moved_at p d es (numbers coins) at j = step_value p c d (get_or es j 0) ∙ ap (λ (x : ℕ). add p x (mul p d (get_or es j 0))) ec in
-        record {
-          within = omega arith;
-          room = rw (en, length-stored) w.room;
-          long = ap length en ∙ length-stored new (at + j) v ∙ w.long;
-          front =
-              rw (en, numbers-stored new (at + j) v small, e, take-suc-set (numbers new) (at + j) v (omega (arith, w.room, numbers-length new)), w.front, append_assoc, tab-next, is);
-        }
-
-    pub move-done : length es ≤ j → at + length es ≤ length coins / width → Written at (length es) (moved p d es (take (length es) (drop at (numbers coins)))) old new
-    move-done l m =
-        let e : j ≡ length es = omega (arith, w.within) in
-        record {
-          front =
-              ap (λ (i : ℕ). take (at + i) (numbers new)) (sym e) ∙ w.front
-              ∙ ap (λ (i : ℕ). take at (numbers old) ++ tab (moved_at p d es (numbers coins) at) i) e
-              ∙ ap (λ (b : List ℕ). take at (numbers old) ++ b) (moved-tab p d es (numbers coins) at (omega (arith, numbers-length coins)));
-        }
 
 pub coin_fits : (p d c e : ℕ) → Ready p → d < p → c < limit → e < p → c + d * e < 2 ^ 64
 coin_fits p d c e r ld lc le = omega (arith, r.small, word d e (omega (arith, r.small)) (omega (arith, r.small)))
@@ -167,7 +173,7 @@ coin_fits p d c e r ld lc le = omega (arith, r.small, word d e (omega (arith, r.
 pub product_fits : (p d e : ℕ) → Ready p → d < p → e < p → d * e < 2 ^ 64
 product_fits p d e r ld le = omega (arith, r.small, word d e (omega (arith, r.small)) (omega (arith, r.small)))
 
-pub ruleset moving = (rules, entry_below, move-none, move-place, move-next, move-done, coin_fits, product_fits)
+pub ruleset moving = (rules, entry_below, move-none, write-place, move-next, move-done, coin_fits, product_fits)
 
 -- ---- by the change of what a dealer deals
 pub shift_of :

@@ -1,27 +1,29 @@
 // The points of a set's members, and the coins of a gate's dealings moved by delta's coefficients.
 #![tactic(auto)]
 
+pub mod truncation;
+
 ghost use Rattle.std.specs.Prelude.{◌≡◌, true, [], ◌∷◌, suc, ◌+◌, ◌-◌, ◌*◌, ◌<◌, ◌≤◌, length, get_or, take, drop};
 ghost use Rattle.numbers.specs.Tables.{tab};
 ghost use Rattle.numbers.specs.Bytes.{numbers, all_below};
 ghost use Rattle.field.specs.Field.{Below2, Is};
-ghost use Rattle.plan.specs.Plans.{kind_of};
 ghost use Rattle.plan.specs.File.{gate_ok, majority_ok};
 ghost use Rattle.plan_coalition.specs.Coalitions.{in_set, members};
-ghost use Rattle.run_dealings.specs.Rows.{products_of, Sized, Rowed, Standing};
+ghost use Rattle.run_dealings.specs.Rows.{products_of, draws_of, Sized, Rowed, Standing};
 ghost use Rattle.match_moves.specs.Moves.{member_points, moved, change_of, moved_blocks, dealers_in, dealt_in, Movable, Lent, Written, Advanced};
+ghost use Rattle.match_moves.specs.Truncations.{Truncating};
 
 use plan::{Gate, Header};
+use truncation::Truncation;
 
 // ---- the members
 
-// Party i's point; past the list's end there is none.
+// Entry i of a list; 0 past its end.
 #[tactic(auto, using(crate::proofs::MoveLaws::gathering))]
-fn point(points: &[u64], i: usize) -> u64
-    requires { 1 ≤ i }
-    ensures { result ≡ get_or points.now (i - 1) 0 }
+fn entry(list: &[u64], i: usize) -> u64
+    ensures { result ≡ get_or list.now i 0 }
 {
-    if i <= points.len() { points[i - 1] } else { 0 }
+    if i < list.len() { list[i] } else { 0 }
 }
 
 // The points of a set's members, ascending, which stand in front of the room.
@@ -33,7 +35,7 @@ pub fn members<'a>(set: u16, points: &[u64], room: &'a mut [u64]) -> &'a [u64]
 {
     let mut k = 0;
     for i in 1..17 {
-        room[k] = point(points, i);
+        room[k] = entry(points, i - 1);
         k += usize::from(plan_coalition::is_member(set, i));
     }
     &room[..k]
@@ -42,7 +44,7 @@ pub fn members<'a>(set: u16, points: &[u64], room: &'a mut [u64]) -> &'a [u64]
 // ---- the coins
 
 // How a matching moves the coins of a run: from a first list of inputs to a second one, by delta's coefficients of X to X^t, but for the coins of
-// a set's members. `before` and `after` are both runs' tables of shares.
+// a set's members. `before` and `after` are both runs' tables of shares; `truncation` has what the coins of a multiply by truncation move by besides.
 #[derive(Clone, Copy)]
 pub struct Mover<'a> {
     pub header: Header,
@@ -53,8 +55,10 @@ pub struct Mover<'a> {
     pub coins: &'a [u8],
     pub before: &'a [u64],
     pub after: &'a [u64],
+    pub truncation: &'a Truncation<'a>,
     pub ghost sized: { Sized header },
     pub ghost movable: { Movable header.field.p header.t delta.now first.now second.now },
+    pub ghost truncating: { Truncating header truncation.now.bases.field.p truncation.now.bases.t truncation.now.bases.points.now truncation.now.spares.now },
 }
 
 impl Mover<'_> {
@@ -71,18 +75,18 @@ impl Mover<'_> {
         }
     }
 
-    // Writes a dealing's coins, moved by d times delta's coefficients, with one remainder for each.
+    // Writes as many coins as there are coefficients, each moved by d times its own, with one remainder for each.
     // As it is: `at` is a place of both lists, of the coins that are read and of those that are written, so no struct of one of them can hold it.
     #[tactic(auto, using(crate::proofs::MoveLaws::moving))]
-    fn shift(&self, d: u64, at: usize, out: &mut [u8])
+    fn shift(&self, d: u64, coefficients: &[u64], at: usize, out: &mut [u8])
         requires d_lt_p { d < self.now.header.field.p }
-        requires lent { Lent self.now.header.field.p at (length self.now.delta.now) self.now.coins.now out.old }
-        ensures { Written at (length self.now.delta.now) (moved self.now.header.field.p d self.now.delta.now (take (length self.now.delta.now) (drop at (numbers self.now.coins.now)))) out.old out.new }
+        requires coefficients_value { all_below self.now.header.field.p coefficients.now ≡ true }
+        requires lent { Lent self.now.header.field.p at (length coefficients.now) self.now.coins.now out.old }
+        ensures { Written at (length coefficients.now) (moved self.now.header.field.p d coefficients.now (take (length coefficients.now) (drop at (numbers self.now.coins.now)))) out.old out.new }
     {
         let p = self.header.field.p;
         let coins = self.coins;
-        let delta = self.delta;
-        for (j, e) in delta.iter().enumerate() {
+        for (j, e) in coefficients.iter().enumerate() {
             let coin = numbers::read(coins, at + j);
             numbers::write(out, at + j, (coin + d * *e) % p);
         }
@@ -95,7 +99,7 @@ impl Mover<'_> {
         requires lent { Lent self.now.header.field.p at (length self.now.delta.now) self.now.coins.now out.old }
         ensures { Written at (length self.now.delta.now) (moved self.now.header.field.p (change_of self.now.header.field.p (in_set self.now.set dealer) before after) self.now.delta.now (take (length self.now.delta.now) (drop at (numbers self.now.coins.now)))) out.old out.new }
     {
-        self.shift(self.change(dealer, before, after), at, out);
+        self.shift(self.change(dealer, before, after), self.delta, at, out);
     }
 
     // Writes the moved coins of the dealings by parties 1, 2, .. of these numbers in both runs; answers the place after them.
@@ -144,11 +148,22 @@ impl Mover<'_> {
         self.dealings(&first[..m], &second[..m], at, out)
     }
 
-    // Writes the moved coins of a gate, which takes its inputs from place `next` of both lists on; answers the place after them. No plan file has a
-    // gate of the last two kinds.
+    // Writes the moved coins of a random wire's dealings; answers the place after them.
+    #[tactic(auto, using(crate::proofs::GateMoveLaws::moving_draws))]
+    fn random(&self, next: usize, at: usize, out: &mut [u8]) -> usize
+        requires { Lent self.now.header.field.p at (length self.now.delta.now * self.now.header.n) self.now.coins.now out.old }
+        ensures { Advanced at (length self.now.delta.now * self.now.header.n) (moved_blocks self.now.header.field.p (length self.now.delta.now) self.now.set self.now.delta.now (tab suc self.now.header.n) (draws_of self.now.header.n (drop next (numbers self.now.first.now))) (draws_of self.now.header.n (drop next (numbers self.now.second.now))) (drop at (numbers self.now.coins.now))) out.old out.new result }
+    {
+        let n = self.header.n;
+        let first = run_dealings::draws(n, numbers::rest(self.first, next));
+        let second = run_dealings::draws(n, numbers::rest(self.second, next));
+        self.dealings(&first[..n], &second[..n], at, out)
+    }
+
+    // Writes the moved coins of a gate, which takes its inputs from place `next` of both lists on; answers the place after them.
     #[tactic(auto, using(crate::proofs::GateMoveLaws::moving_gate))]
     pub fn gate(&self, g: usize, gate: Gate, next: usize, at: usize, out: &mut [u8]) -> usize
-        requires gate_value { (gate_ok self.now.header.n self.now.header.field.p g gate ≡ true) × (kind_of gate ≤ 5) }
+        requires gate_value { gate_ok self.now.header.n self.now.header.field.p g gate ≡ true }
         requires gate_value_2 { majority_ok self.now.header.n self.now.header.t gate ≡ true }
         requires standing { Standing self.now.header.field.p self.now.header.n g self.now.before.now }
         requires standing_2 { Standing self.now.header.field.p self.now.header.n g self.now.after.now }
@@ -163,6 +178,7 @@ impl Mover<'_> {
                 at + self.delta.len()
             }
             Gate::Multiply(a, b) => self.multiply(a, b, at, out),
+            Gate::Random => self.random(next, at, out),
             _ => at,
         }
     }

@@ -1,5 +1,6 @@
 -- A multiply by truncation with matched coins: the members see no change, and its wire changes by the change of its value times delta.
---     CutSame, cut_same
+--     masked_moves          its masked products
+--     CutSame, cut_same     what the members see, and the wire
 -- Assumes nothing.
 use mathlib.Core.Path.{◌≡◌, refl, sym, ap, ap₂, ◌∙◌, subst, fun_ext}
 use mathlib.Core.Bool.{Bool, true, false}
@@ -16,12 +17,13 @@ use Rattle.sharing_laws.specs.Interp.{All, dot, delta}
 use Rattle.sharing_laws.specs.Sharing.{opened}
 use Rattle.sharing_laws.specs.Basis.{row}
 use Rattle.seat_messages.specs.Messages.{from_each}
-use Rattle.match_privacy.specs.Matching.{is_member, lowest, with_coins, matched_at}
+use Rattle.match_privacy.specs.Matching.{is_member, lowest, change_of, with_coins, matched_at}
 use Rattle.sharing_laws.proofs.Lists.{in-tab}
 use Rattle.sharing_laws.proofs.Openings.{Shared}
 use Rattle.sharing_laws.proofs.Steps.{sum_over, sent_at, masked_by, piece_by, reduced_at, reduced_by, new_zeros, new_masks, Differ}
 use Rattle.sharing_laws.proofs.Steps as steps
 use Rattle.sharing_laws.proofs.ReducedStep.{Private, step-private, kept-mask}
+use Rattle.sharing_laws.proofs.ReducedPrivate.{change-value}
 use Rattle.plan.specs.declared.Gate.TheVariants.{Multiply}
 use Rattle.plan.specs.declared.Rule.TheVariants.{Truncation}
 use Rattle.plan.specs.Plans.{Plan, party_count, parties, point_of}
@@ -31,7 +33,7 @@ use Rattle.run_protocol.proofs.Gates.{zeros_of, masks_of, before-suc, masked-as,
 use Rattle.plan.proofs.Parties.{parties_points}
 use Rattle.match_privacy.proofs.Blocks.{matched_block, block_member, block_other}
 use Rattle.match_privacy.proofs.Cuts.{z_at, k_at}
-use Rattle.match_privacy.proofs.Matches.{Other, lowest_other, k-length, k_canon, up, old, new, zeros_law, zeros-new, masks-new}
+use Rattle.match_privacy.proofs.Matches.{Other, lowest_other, k-length, k_canon, up, old, new, change_as, zeros_law, zeros-new, masks-new}
 use Rattle.match_privacy.proofs.Deals.{spare-member}
 
 -- ---- sums and lists over the parties
@@ -179,6 +181,21 @@ module _ (plan : Plan) (by : plan.rule ≡ Truncation) (a b : ℕ) (valid : Vali
       ap (masked_at plan (with_coins (up plan by a b valid ms few s s' enough can) s') a b) (x-is j)
       ∙ masked-as plan (with_coins (up plan by a b valid ms few s s' enough can) s') a b (point_of plan (suc j))
       ∙ by_ext plan A' B' (zeros_of t (up plan by a b valid ms few s s' enough can)) zs' ks ks (λ i lt. up_are i) (λ i lt. refl) (point_of plan (suc j))
+
+  -- each masked product changes by the constant of the product's change times delta
+  pub masked_moves :
+      (j : ℕ) → new plan by a b valid ms few s s' enough can (get_or plan.points j 0)
+      ≡ add p (old plan by a b valid ms few s s' enough can (get_or plan.points j 0))
+      (mul p (get_or (change_of plan s s' a b) 0 0) (eval p (delta p pts) (get_or plan.points j 0)))
+  masked_moves j =
+      new_is j ∙ private.masked (point_of plan (suc j))
+      ∙ ap₂ (λ (h x : ℕ). add p h (mul p (sub p (mul p u' v') (mul p u v)) (eval p (delta p pts) x))) (sym (old-is j)) (sym (x-is j))
+      ∙ ap (λ (e : ℕ). add p (old plan by a b valid ms few s s' enough can (get_or plan.points j 0)) (mul p e (eval p (delta p pts) (get_or plan.points j 0)))) (sym value)
+    where
+      value : get_or (change_of plan s s' a b) 0 0 ≡ sub p (mul p u' v') (mul p u v)
+      value =
+          ap (λ (f : List ℕ). get_or f 0 0) (change_as plan by a b s s')
+          ∙ change-value valid.prime t plan.points A B A' B' valid.distinct wider u v u' v' sa sb sa' sb'
 
   masks_are : (j : ℕ) → j < n → masks_of t c (suc j) ≡ ks' (suc j)
   masks_are j lt =

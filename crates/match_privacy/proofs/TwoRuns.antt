@@ -1,13 +1,14 @@
 -- Two runs with matched coins, gate by gate: every wire's share changes by the change of its value times delta, and the members see no change.
 --     Spent                        the triples' values change as the wires that are spent on them
 --     gate_mail                     the mail of a gate's steps
+--     masked-moves                  the masked products at a truncated multiply
 --     Runs, gate_differ, mail_same, runs_after     two runs before some gates; the first of them; past it
 --     runs_past                    past several
 -- Assumes nothing.
 use mathlib.Core.Path.{◌≡◌, refl, sym, ap, ap₂, ◌∙◌, subst, fun_ext}
 use mathlib.Core.Bool.{Bool, true, false, cond}
 use mathlib.Core.List.{List, [], ◌∷◌, ◌++◌, map, flat_map, append-nil}
-use Prim.Native.Nat.{ℕ, zero, suc, ◌+◌, ◌≤◌, ◌<◌}
+use Prim.Native.Nat.{ℕ, zero, suc, ◌+◌, ◌*◌, ◌≤◌, ◌<◌}
 use native.Mathlib.Omega.{arith}
 use lib.Dec.{eqb, eqb-zero-suc, eqb-suc-zero, eqb-suc-suc}
 use lib.ListN.{length, take, drop, get_or, length-map, length-append, length-drop, length-take}
@@ -23,7 +24,7 @@ use Rattle.sharing_laws.proofs.Polys.{eval_canon}
 use Rattle.sharing_laws.proofs.Shares.{product-interpolation}
 use Rattle.sharing_laws.proofs.Alls.{all_drop}
 use Rattle.seat_messages.specs.Messages.{from_each}
-use Rattle.match_privacy.specs.Matching.{is_member, matched_blocks, absorbed_by, absorbed, with_coins, matched_at}
+use Rattle.match_privacy.specs.Matching.{is_member, matched_blocks, change_of, absorbed_by, absorbed, with_coins, matched_at}
 use Rattle.sharing_laws.proofs.Openings.{Shared}
 use Rattle.sharing_laws.proofs.Lists.{get_or-map-in}
 use Rattle.sharing_laws.proofs.Steps.{Differ}
@@ -43,10 +44,10 @@ use Rattle.run_protocol.proofs.Gates.{before-suc, spent-as}
 use Rattle.run_protocol.proofs.Sound.{Wide, RightTriples, triples-past, dealers_distinct, dealers-length, openers, after_shared}
 use Rattle.match_privacy.proofs.Blocks.{total, Ample, matched_block, blocks-cons, length_block}
 use Rattle.match_privacy.proofs.Cuts.{total_pairs}
-use Rattle.match_privacy.proofs.Matches.{dealings_cut, ample_first, ample_less, taken, taken_is}
+use Rattle.match_privacy.proofs.Matches.{dealings_cut, old, new, ample_first, ample_less, taken, taken_is}
 use Rattle.match_privacy.proofs.Bijections.{coins_of, coins-cons, past_matched}
 use Rattle.match_privacy.proofs.Deals.{spare, spare-member, deal-differ, Agree, agree-tab, firsts, firsts-tab, pieces-same, dot_differ, sum-differ, InputsAgree, inputs_here, inputs_rest}
-use Rattle.match_privacy.proofs.CutPrivate.{CutSame, cut_same}
+use Rattle.match_privacy.proofs.CutPrivate.{masked_moves, CutSame, cut_same}
 
 -- ---- triples: of the two runs' values us and us', those of a and b change as the wires that are spent on them
 abbrev pub SpentAt : Plan → Gate → List ℕ → List ℕ → List ℕ → List ℕ → Type 0
@@ -317,17 +318,33 @@ module _ (plan : Plan) (valid : Valid plan) (ms : List ℕ) (few : length ms ≤
 
   -- ---- kind 5 by either rule
   module _ (a b : ℕ) (gs : List Gate) (s s' : Before) (vals vals' us us' : List ℕ) (r : Runs (Multiply a b ∷ gs) s s' vals vals' us us') (rest : List ℕ) where
-    cut_all :
-        plan.rule ≡ Truncation
-        → CutSame plan ms a b s s' (matched_at plan ms (Multiply a b) s s' ++ rest) (mul p (get_or vals a 0) (get_or vals b 0)) (mul p (get_or vals' a 0) (get_or vals' b 0))
+    cut-wide : t + t < party_count plan
     unfolding is_kind kind_of
-    cut_all by =
-        cut_same plan by a b valid ms few parties_only (r.wide.0 refl) s s'
-        (omega (
+    cut-wide = r.wide.0 refl
+
+    pub cut-enough : plan.rule ≡ Truncation → 3 * plan.t * party_count plan ≤ length s.coins
+    cut-enough by =
+        omega (
           arith,
           here-enough (Multiply a b) gs s s' vals vals' us us' r,
           taken_is plan (Multiply a b) ∙ ap total (dealings_cut plan by a b) ∙ total_pairs t suc (party_count plan),
-        ))
+        )
+
+    -- each masked product changes by the constant of the product's change times delta
+    pub masked-moves :
+        (by : plan.rule ≡ Truncation) (j : ℕ)
+        → new plan by a b valid ms few s s' (cut-enough by) r.canon (get_or plan.points j 0)
+        ≡ add p (old plan by a b valid ms few s s' (cut-enough by) r.canon (get_or plan.points j 0))
+        (mul p (get_or (change_of plan s s' a b) 0 0) (eval p (delta p (map (point_of plan) ms)) (get_or plan.points j 0)))
+    masked-moves by j =
+        masked_moves plan by a b valid ms few parties_only cut-wide s s' (cut-enough by) r.canon (get_or vals a 0) (get_or vals b 0) (get_or vals' a 0) (get_or vals' b 0)
+        (r.first a) (r.first b) (r.second a) (r.second b) (r.differ a) (r.differ b) rest j
+
+    cut_all :
+        plan.rule ≡ Truncation
+        → CutSame plan ms a b s s' (matched_at plan ms (Multiply a b) s s' ++ rest) (mul p (get_or vals a 0) (get_or vals b 0)) (mul p (get_or vals' a 0) (get_or vals' b 0))
+    cut_all by =
+        cut_same plan by a b valid ms few parties_only cut-wide s s' (cut-enough by)
         r.canon (get_or vals a 0) (get_or vals b 0) (get_or vals' a 0) (get_or vals' b 0) (r.first a) (r.first b) (r.second a) (r.second b) (r.differ a) (r.differ b) rest
 
     multiply-differ :

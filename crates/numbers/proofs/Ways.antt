@@ -5,7 +5,7 @@ use Rattle.std.proofs.Common.{Option, Some, None}
 use mathlib.Core.Path.{◌≡◌, refl, sym, ap, ◌∙◌}
 use mathlib.Core.Bool.{Bool, true, false, cond, ◌&&◌}
 use mathlib.Core.List.{List, ◌++◌}
-use Prim.Native.Nat.{ℕ, suc, ◌+◌, ◌*◌, ◌/◌, ◌%◌, ◌<◌, ◌≤◌}
+use Prim.Native.Nat.{ℕ, suc, ◌+◌, ◌-◌, ◌*◌, ◌/◌, ◌%◌, ◌<◌, ◌≤◌}
 use native.Mathlib.Omega.{arith}
 use borrow.Author.Rules.{rules}
 use borrow.Author.Tests.{eqb-true, eqb-false, eq-eqb, ne_eqb, le-leb}
@@ -16,10 +16,10 @@ use Rattle.std.specs.Int.{to_le_bytes}
 use mir.Syntax.{w8, w64}
 use mir.Val.{Fits}
 use lib.Seq.{sets, sets-eq, take_all}
-use lib.ListN.{length, get_or, take, drop, get_or-eq_default}
+use lib.ListN.{length, get_or, take, drop, length-drop, drop_of_length-le, get_or-eq_default}
 use Rattle.numbers.specs.Tables.{first_failing}
 use Rattle.numbers.specs.Bytes.{width, limit, number_at, bytes_from, word_at, numbers, holds_count, stored, first_over, all_below}
-use Rattle.numbers.proofs.Bytes.{numbers-length, get_or-numbers, get_or-numbers-past, word-past, stored_in, stored_past, length-bytes_from, low_bytes, fits_below, numbers_below}
+use Rattle.numbers.proofs.Bytes.{numbers-length, numbers-nil, numbers-drop, get_or-numbers, get_or-numbers-past, word-past, stored_in, stored_past, length-bytes_from, low_bytes, fits_below, numbers_below}
 use Rattle.numbers.proofs.Below.{at-all_below, all_below-drop, all_below_more, all_below_at_first, all_below_end, nothing-first_over}
 
 -- ---- reads
@@ -47,6 +47,15 @@ number-some s i a b c d l ea eb ec ed =
 
 pub number-none : (s : List ℕ) (i : ℕ) → length s / width ≤ i → 0 ≡ get_or (numbers s) i 0
 number-none s i l = sym (get_or-numbers-past s i l)
+
+-- ---- the rest of a list
+pub rest_some : (s : List ℕ) (i : ℕ) → numbers (take (length s - width * i) (drop (width * i) s)) ≡ drop i (numbers s)
+rest_some s i = ap numbers (take_all (length s - width * i) (drop (width * i) s) (omega (arith, length-drop (width * i) s))) ∙ numbers-drop s i
+
+pub rest_none : (s : List ℕ) (i : ℕ) → length s / width ≤ i → numbers (take (length s - length s) (drop (length s) s)) ≡ drop i (numbers s)
+rest_none s i l =
+    let z : length s - length s ≡ 0 = omega arith in
+    rw z numbers-nil ∙ sym (drop_of_length-le (numbers s) {i = i} (rw numbers-length l))
 
 -- ---- a write
 pub write_some : (s ys : List ℕ) (i v k : ℕ) → i < length s / width → k ≡ width → ys ≡ take 4 (to_le_bytes w64 v) → put_mid (width * i) k s ys ≡ stored s i v
@@ -131,4 +140,4 @@ module _ (s : List ℕ) (from p : ℕ) (all : Bool) (i : ℕ) (h : Comparing s f
 pub over_none : (s : List ℕ) (p : ℕ) (t : Bool) → t ≡ all_below p (drop 0 (numbers s)) → t ≡ true → None ≡ first_over p (numbers s)
 over_none s p t e h = sym (nothing-first_over p (numbers s) (sym e ∙ h))
 
-pub ruleset coding = (rules, byte-none, word_some, word_none, number-some, number-none, write_some, write-none, count_left, count-whole, all_fit, also_yes, also_no, compare_begin, compare_next, compare_end, over_none)
+pub ruleset coding = (rules, byte-none, word_some, word_none, number-some, number-none, rest_some, rest_none, write_some, write-none, count_left, count-whole, all_fit, also_yes, also_no, compare_begin, compare_next, compare_end, over_none)

@@ -51,6 +51,16 @@ pub fn read(s: &[u8], i: usize) -> u64
     if i < s.len() / WIDTH { number(s, i) } else { 0 }
 }
 
+// The list from one place on; past the end there are no numbers.
+pub fn rest(s: &[u8], from: usize) -> &[u8]
+    ensures { numbers result.now ≡ drop from (numbers s.now) }
+{
+    if s.len() / WIDTH <= from {
+        return &s[s.len()..];
+    }
+    &s[WIDTH * from..]
+}
+
 // Sets number i of a list to v, of which the four low bytes are kept.
 pub fn write(s: &mut [u8], i: usize, v: u64)
     ensures { s.new ≡ stored s.old i v }

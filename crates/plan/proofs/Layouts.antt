@@ -1,16 +1,17 @@
 -- What each way through the code says of a gate, an out or a point.
+--     gate_read                        what holds of each kind's gate
 --     layout_rows                      what holds of each version's layout
 --     number_of_two .. point-four      the contents' fields and where gates, outs and points stand, by the bytes of a field and of a point
 --     reading     what closes the needs of the functions that read them
 -- Assumes nothing.
 use mathlib.Core.Path.{◌≡◌, refl, sym, ap, ◌∙◌}
-use mathlib.Core.Bool.{Bool, true, false, cond}
+use mathlib.Core.Bool.{Bool, true, false, cond, ◌&&◌}
 use mathlib.Core.List.{List, [], ◌∷◌, ◌++◌}
 use Prim.Native.Nat.{ℕ, suc, ◌+◌, ◌-◌, ◌*◌, ◌<◌, ◌≤◌}
 use native.Mathlib.Nat.{mul-le-mul_left, mul-le-mul_right}
 use native.Mathlib.Omega.{arith}
 use borrow.Author.Rules.{rules}
-use borrow.Author.Tests.{eq-eqb, ne_eqb}
+use borrow.Author.Tests.{eqb-true, eq-eqb, ne_eqb}
 use lib.Dec.{eqb}
 use lib.ListN.{get_or, length, take, drop, length-take, length-drop}
 use Rattle.std.proofs.lemmas.List.{get_or-take, get_or-drop}
@@ -19,7 +20,7 @@ use Rattle.numbers.specs.Bytes.{number_at, word_at}
 use Rattle.numbers.proofs.Bytes.{word_number, number_same}
 use Rattle.numbers.proofs.Ways.{byte-none, word_some}
 use Rattle.plan.specs.declared.Gate.{Gate}
-use Rattle.plan.specs.declared.Gate.TheVariants.{Input, Add, Scale, Offset, Multiply}
+use Rattle.plan.specs.declared.Gate.TheVariants.{Input, Add, Scale, Offset, Multiply, Random}
 use Rattle.plan.specs.declared.Layout.{Layout}
 use Rattle.plan.specs.File.{layout_for, layout_of, field_at, gate_start, gate_place, out_place, point_place, gate_of, gate_from, gate_at, out_at, point_at}
 use Rattle.plan.specs.Planned.{Gated}
@@ -49,9 +50,12 @@ module _ (k s a b : ℕ) where
   unfolding gate_of
   gate-multiply z e = rw (z, e)
 
-  pub gate-other : s ≡ 0 → (k ≡ 1 → ⊥) → (k ≡ 2 → ⊥) → (k ≡ 3 → ⊥) → (k ≡ 4 → ⊥) → (k ≡ 5 → ⊥) → Input 0 ≡ gate_of k s a b
+  pub gate-random : (r : Gate) → s ≡ 0 → k ≡ 6 → r ≡ gate_of 6 0 a b → r ≡ gate_of k s a b
+  gate-random r z e h = rw (z, e) h
+
+  pub gate-other : s ≡ 0 → (k ≡ 1 → ⊥) → (k ≡ 2 → ⊥) → (k ≡ 3 → ⊥) → (k ≡ 4 → ⊥) → (k ≡ 5 → ⊥) → (k ≡ 6 → ⊥) → Input 0 ≡ gate_of k s a b
   unfolding gate_of
-  gate-other z e1 e2 e3 e4 e5 = rw (z, ne_eqb k 1 e1, ne_eqb k 2 e2, ne_eqb k 3 e3, ne_eqb k 4 e4, ne_eqb k 5 e5)
+  gate-other z e1 e2 e3 e4 e5 e6 = rw (z, ne_eqb k 1 e1, ne_eqb k 2 e2, ne_eqb k 3 e3, ne_eqb k 4 e4, ne_eqb k 5 e5, ne_eqb k 6 e6)
 
 pub input-some : (a b : ℕ) → b ≡ 0 → Input a ≡ gate_of 1 0 a b
 unfolding gate_of
@@ -60,6 +64,48 @@ input-some a b e = rw (eq-eqb b 0 e)
 pub input_none : (a b : ℕ) → (b ≡ 0 → ⊥) → Input 0 ≡ gate_of 1 0 a b
 unfolding gate_of
 input_none a b h = rw (ne_eqb b 0 h)
+
+module _ (a b : ℕ) where
+  pub random-some : a ≡ 0 → b ≡ 0 → Random ≡ gate_of 6 0 a b
+  unfolding gate_of
+  random-some e f = rw (eq-eqb a 0 e, eq-eqb b 0 f)
+
+  pub random_first : (a ≡ 0 → ⊥) → Input 0 ≡ gate_of 6 0 a b
+  unfolding gate_of
+  random_first h = rw (ne_eqb a 0 h)
+
+  pub random_second : (b ≡ 0 → ⊥) → Input 0 ≡ gate_of 6 0 a b
+  unfolding gate_of
+  random_second h = pick (eqb a 0)
+    where
+      pick : (t : Bool) → Input 0 ≡ cond (t && eqb b 0) Random (Input 0)
+      pick true = rw (ne_eqb b 0 h)
+      pick false = refl
+
+-- what holds of each kind's gate, and of the input of party 0 that stands for what is none, holds of every gate that is read
+module _ (P : Gate → Type 0) (k second a b : ℕ) (none : P (Input 0)) where
+  either : (t : Bool) (x y : Gate) → (t ≡ true → P x) → P y → P (cond t x y)
+  either true x y h o = h refl
+  either false x y h o = o
+
+  -- the gate of kind c, or another
+  kind : (c : ℕ) (x y : Gate) → (k ≡ c → P x) → P y → P (cond (eqb k c) x y)
+  kind c x y h o = either (eqb k c) x y (λ e. h (eqb-true k c e)) o
+
+  pub gate_read :
+      (k ≡ 1 → P (Input a)) → (k ≡ 2 → P (Add a b)) → (k ≡ 3 → P (Scale a b)) → (k ≡ 4 → P (Offset a b)) → (k ≡ 5 → P (Multiply a b)) → (k ≡ 6 → P Random)
+      → P (gate_of k second a b)
+  unfolding gate_of
+  gate_read h1 h2 h3 h4 h5 h6 =
+      either (eqb second 0) _ (Input 0)
+      (λ s.
+      kind 1 _ _ (λ e. either (eqb b 0) (Input a) (Input 0) (λ z. h1 e) none)
+      (kind 2 (Add a b) _ h2
+      (kind 3 (Scale a b) _ h3
+      (kind 4 (Offset a b) _ h4
+      (kind 5 (Multiply a b) _ h5
+      (kind 6 _ (Input 0) (λ e. either (eqb a 0 && eqb b 0) Random (Input 0) (λ z. h6 e) none) none))))))
+      none
 
 -- ---- the layouts
 -- what holds of each row holds of every version's layout
@@ -262,4 +308,4 @@ pub ruleset fielding = (rules, field_number, field_high)
 
 pub ruleset starting = (rules, start_high)
 
-pub ruleset reading = (rules, byte-none, word_some, long-some, layout_first, layout_second, layout_third, layout_read, number_of_two, number_of_four, cut_there, point-none, point-two, point-four, size-some, out_places, out_some, number_read, place_of, place_there, gate-two, gate-four, gated_next, gate_second, gate-input, gate-add, gate-scale, gate-offset, gate-multiply, gate-other, input-some, input_none)
+pub ruleset reading = (rules, byte-none, word_some, long-some, layout_first, layout_second, layout_third, layout_read, number_of_two, number_of_four, cut_there, point-none, point-two, point-four, size-some, out_places, out_some, number_read, place_of, place_there, gate-two, gate-four, gated_next, gate_second, gate-input, gate-add, gate-scale, gate-offset, gate-multiply, gate-random, gate-other, input-some, input_none, random-some, random_first, random_second)

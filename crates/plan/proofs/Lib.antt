@@ -6,5 +6,6 @@ pub mod Worked
 pub mod Wires
 pub mod Parties
 pub mod Counts
+pub mod KindCounts
 pub mod Ranges
 pub mod Handed

@@ -158,6 +158,10 @@ module _ {bs : List ℕ} {h : Header} (k : Planned bs h) where
   unfolding plan_of
   plan_points = ap (tab (point_at bs)) (sym k.is.n)
 
+  pub plan_rule : (plan_of bs).rule ≡ h.rule
+  unfolding plan_of
+  plan_rule = sym k.is.rule
+
   pub plan_n : party_count (plan_of bs) ≡ h.n
   unfolding party_count
   plan_n = ap length plan_points ∙ length-tab (point_at bs) h.n

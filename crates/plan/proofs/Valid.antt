@@ -1,10 +1,10 @@
 -- What the proofs use of a plan, and that a plan that passes has it.
 --     Valid, valid            all that the protocol asks: 2t < n only where there is a gate of kind 5 or 7
 --     Sized, sized            what its lists and calls need beside
---     Plain, plain            what a plan file may have today: the rule of versions 1 to 3, and kinds 1 to 5
+--     Plain, plain            what a plan file may have today: the rule of versions 1 to 3, and kinds 1 to 6
 --     points-apart            no two points are the same
 --     none_or_majority        no gate of kind 5, or 2t < n
---     plain_no_6, plain_no_7  a plain plan has no gate of kind 6 or 7
+--     plain_no_7              a plain plan has no gate of kind 7
 -- Assumes nothing.
 use Rattle.std.proofs.Common.{Option, Some, None, Ok}
 use Prim.Native.Nat.{ℕ, zero, suc, ◌+◌, ◌*◌, ◌%◌, ◌<◌, ◌≤◌}
@@ -30,12 +30,13 @@ use Rattle.sharing_laws.specs.Interp.{All, Distinct}
 use Rattle.sharing_laws.proofs.Shares.{distinct-tab}
 use Rattle.sharing_laws.proofs.Alls.{all-tab, all_at}
 use Rattle.plan.specs.declared.Gate.{Gate}
-use Rattle.plan.specs.declared.Gate.TheVariants.{Input, Add, Scale, Offset, Multiply}
+use Rattle.plan.specs.declared.Gate.TheVariants.{Input, Scale, Offset}
 use Rattle.plan.specs.declared.Rule.TheVariants.{Reduction}
 use Rattle.plan.specs.declared.Header.{Header}
 use Rattle.plan.specs.Plans.{Plan, party_count, kind_of, is_kind, kind_count, multiplying}
-use Rattle.plan.specs.File.{n_at, t_at, p_at, gate_count_at, out_count_at, gate_of, gate_from, gate_at, out_at, point_at, gate_ok, out_ok, gate_kept, out_kept, found_none, point_apart, point_kept, plan_check, plan_of}
+use Rattle.plan.specs.File.{version_at, n_at, t_at, p_at, gate_count_at, out_count_at, gate_of, gate_from, gate_at, out_at, point_at, gate_ok, out_ok, gate_kept, out_kept, found_none, point_apart, point_kept, plan_check, plan_of}
 use Rattle.plan.specs.Planned.{Planned}
+use Rattle.plan.proofs.Layouts.{gate_read}
 use Rattle.plan.proofs.Planned.{Passing, passing, passing_majority, laid, between-true, modulus_prime, modulus_small, plan_t, plan_p, plan_n, plan_gates, plan_gate}
 
 pub record Valid (plan : Plan) : Type 0 where
@@ -56,7 +57,7 @@ pub record Sized (plan : Plan) : Type 0 where
 
 pub record Plain (plan : Plan) : Type 0 where
   pub rule : plan.rule ≡ Reduction
-  pub kinds : (g : ℕ) → kind_of (get_or plan.gates g (Input 0)) ≤ 5
+  pub kinds : (g : ℕ) → kind_of (get_or plan.gates g (Input 0)) ≤ 6
 
 -- ---- no two points are the same
 apart_from : (p : ℕ) (xs : List ℕ) → Distinct p xs → (i j : ℕ) → j < i → i < length xs → get_or xs i 0 ≢ get_or xs j 0
@@ -70,24 +71,14 @@ unfolding party_count
 points-apart plan valid = apart_from plan.p plan.points valid.distinct
 
 -- ---- a plan that passes
--- whatever its bytes, a gate that is read has kind 1 to 5
-kind_read : (second kind a b : ℕ) → kind_of (gate_of kind second a b) ≤ 5
-unfolding gate_of kind_of
-kind_read second kind a b = pick (eqb second 0) (eqb kind 1) (eqb b 0) (eqb kind 2) (eqb kind 3) (eqb kind 4) (eqb kind 5)
-  where
-    pick :
-        (s k1 z k2 k3 k4 k5 : Bool)
-        → kind_of (cond s (cond k1 (cond z (Input a) (Input 0)) (cond k2 (Add a b) (cond k3 (Scale a b) (cond k4 (Offset a b) (cond k5 (Multiply a b) (Input 0)))))) (Input 0)) ≤ 5
-    pick false k1 z k2 k3 k4 k5 = omega arith
-    pick true true true k2 k3 k4 k5 = omega arith
-    pick true true false k2 k3 k4 k5 = omega arith
-    pick true false z true k3 k4 k5 = omega arith
-    pick true false z false true k4 k5 = omega arith
-    pick true false z false false true k5 = omega arith
-    pick true false z false false false true = omega arith
-    pick true false z false false false false = omega arith
+-- whatever its bytes, a gate that is read has kind 1 to 6
+kind_read : (second kind a b : ℕ) → kind_of (gate_of kind second a b) ≤ 6
+unfolding kind_of
+kind_read second kind a b =
+    gate_read (λ x. kind_of x ≤ 6) kind second a b (omega arith)
+    (λ e. omega arith) (λ e. omega arith) (λ e. omega arith) (λ e. omega arith) (λ e. omega arith) (λ e. omega arith)
 
-kinds_read : (f : ℕ → Gate) (n g : ℕ) → ((i : ℕ) → kind_of (f i) ≤ 5) → kind_of (get_or (tab f n) g (Input 0)) ≤ 5
+kinds_read : (f : ℕ → Gate) (n g : ℕ) → ((i : ℕ) → kind_of (f i) ≤ 6) → kind_of (get_or (tab f n) g (Input 0)) ≤ 6
 unfolding tab kind_of
 kinds_read f zero g h = omega arith
 kinds_read f (suc n) zero h = h 0
@@ -175,21 +166,17 @@ module _ (bs : List ℕ) (h : plan_check bs ≡ (Ok tt)) where
   unfolding plan_of party_count gate_at gate_from
   plain =
       record {
-        rule = refl;
+        rule = rw (ne_eqb (version_at bs) 4 (λ e. omega (arith, e, (between-true 1 3 (version_at bs) checks.version).1)));
         kinds = λ g. kinds_read (gate_at bs) (gate_count_at bs) g (λ i. kind_read _ _ _ _);
       }
 
--- ---- of kinds above 5 a plain plan has none
-none_above : (k : ℕ) → 5 < k → (gs : List Gate) → ((g : ℕ) → kind_of (get_or gs g (Input 0)) ≤ 5) → count_where (is_kind k) gs ≡ 0
+-- ---- of kinds above 6 a plain plan has none
+none_above : (k : ℕ) → 6 < k → (gs : List Gate) → ((g : ℕ) → kind_of (get_or gs g (Input 0)) ≤ 6) → count_where (is_kind k) gs ≡ 0
 unfolding count_where is_kind
 none_above k l [] h = refl
 none_above k l (x ∷ gs) h = rw (ne_eqb (kind_of x) k (λ e. omega (arith, h 0))) (none_above k l gs (λ g. h (suc g)))
 
 module _ (plan : Plan) (p : Plain plan) where
-  pub plain_no_6 : kind_count plan 6 ≡ 0
-  unfolding kind_count
-  plain_no_6 = none_above 6 (omega arith) plan.gates p.kinds
-
   pub plain_no_7 : kind_count plan 7 ≡ 0
   unfolding kind_count
   plain_no_7 = none_above 7 (omega arith) plan.gates p.kinds

@@ -5,7 +5,8 @@ use Rattle.numbers.specs.Bytes.{number_at, word_at}
 use Rattle.field.specs.Prime.{is_prime}
 use Rattle.plan.specs.declared.Gate.{Gate}
 use Rattle.plan.specs.declared.Gate.TheVariants.{Input, Add, Scale, Offset, Multiply, Random, Spend}
-use Rattle.plan.specs.declared.Rule.TheVariants.{Reduction}
+use Rattle.plan.specs.declared.Rule.{Rule}
+use Rattle.plan.specs.declared.Rule.TheVariants.{Reduction, Truncation}
 use Rattle.plan.specs.declared.Output.{Output}
 use Rattle.plan.specs.declared.Layout.{Layout}
 use Rattle.plan.specs.declared.Refusal.TheVariants as refusal
@@ -18,9 +19,8 @@ magic = 80 ∷ 79 ∷ 79 ∷ 76 ∷ []
 
 unfoldable pub same_bytes : List ℕ → List ℕ → Bool
 same_bytes [] [] = true
-same_bytes [] (y ∷ ys) = false
-same_bytes (x ∷ xs) [] = false
 same_bytes (x ∷ xs) (y ∷ ys) = eqb x y && same_bytes xs ys
+same_bytes _ _ = false
 
 unfoldable pub between : ℕ → ℕ → ℕ → Bool
 between a b x = leb a x && leb x b
@@ -42,6 +42,10 @@ layout_for version =
     cond (eqb version 1) (record { head = 18; field = 2; point = 0 })
     (cond (eqb version 2) (record { head = 20; field = 2; point = 2 })
     (record { head = 32; field = 4; point = 4 }))
+
+-- its multiply rule
+abbrev pub rule_for : ℕ → Rule
+rule_for version = cond (eqb version 4) Truncation Reduction
 
 -- where gate g stands
 unfoldable pub gate_start : Layout → ℕ → ℕ
@@ -81,7 +85,8 @@ gate_of kind second a b =
     (cond (eqb kind 2) (Add a b)
     (cond (eqb kind 3) (Scale a b)
     (cond (eqb kind 4) (Offset a b)
-    (cond (eqb kind 5) (Multiply a b) (Input 0))))))
+    (cond (eqb kind 5) (Multiply a b)
+    (cond (eqb kind 6) (cond (eqb a 0 && eqb b 0) Random (Input 0)) (Input 0)))))))
     (Input 0)
 
 -- the gate at a place, its a and b of w bytes
@@ -200,7 +205,7 @@ plan_of bs =
       points = tab (point_at bs) (n_at bs);
       gates = tab (gate_at bs) (gate_count_at bs);
       outs = tab (out_at bs) (out_count_at bs);
-      rule = Reduction;
+      rule = rule_for (version_at bs);
     }
 
 -- ---- for the code alone: no other definition and no demand cites these

@@ -2,7 +2,7 @@
 use Rattle.std.specs.Prelude.{Ok, ℕ, ◌≤◌, ◌<◌, ◌≡◌, List, length}
 use Rattle.plan.specs.declared.Header.{Header}
 use Rattle.plan.specs.declared.Layout.{Layout}
-use Rattle.plan.specs.File.{layout_of, gate_place, plan_check, n_at, t_at, p_at, gate_count_at, out_count_at}
+use Rattle.plan.specs.File.{version_at, rule_for, layout_of, gate_place, plan_check, n_at, t_at, p_at, gate_count_at, out_count_at}
 
 -- the contents that a file's bytes say
 pub record HeaderOf (bs : List ℕ) (h : Header) : Type 0 where
@@ -11,6 +11,7 @@ pub record HeaderOf (bs : List ℕ) (h : Header) : Type 0 where
   pub p : h.field.p ≡ p_at bs
   pub gates : h.gates ≡ gate_count_at bs
   pub outs : h.outs ≡ out_count_at bs
+  pub rule : h.rule ≡ rule_for (version_at bs)
 
 -- the bounds follow from the first two fields; they stand here for arithmetic to find
 pub record Planned (bs : List ℕ) (h : Header) : Type 0 where

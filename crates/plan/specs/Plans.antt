@@ -91,12 +91,8 @@ out_wires plan i = out_wires_of i plan.outs
 -- the parties whose inputs (figures, and draws) a gate takes
 unfoldable pub input_owners_at : Plan → Gate → List ℕ
 input_owners_at plan (Input s) = s ∷ []
-input_owners_at plan (Add a b) = []
-input_owners_at plan (Scale a c) = []
-input_owners_at plan (Offset a c) = []
-input_owners_at plan (Multiply a b) = []
 input_owners_at plan Random = parties plan
-input_owners_at plan (Spend a b) = []
+input_owners_at plan _ = []
 
 -- k dealings of t coins by the parties 1 to k
 unfoldable pub first_dealings : Plan → ℕ → List Dealing
@@ -111,12 +107,9 @@ multiply_dealings plan Truncation =
 -- a gate's dealings, in the order of the coins
 unfoldable pub dealings_at : Plan → Gate → List Dealing
 dealings_at plan (Input s) = record { dealer = s; coins = plan.t } ∷ []
-dealings_at plan (Add a b) = []
-dealings_at plan (Scale a c) = []
-dealings_at plan (Offset a c) = []
 dealings_at plan (Multiply a b) = multiply_dealings plan plan.rule
 dealings_at plan Random = first_dealings plan (party_count plan)
-dealings_at plan (Spend a b) = []
+dealings_at plan _ = []
 
 -- the owner of each coin that a gate takes
 unfoldable pub coin_owners_at : Plan → Gate → List ℕ
@@ -165,13 +158,10 @@ multiply_steps Truncation g a b = DealZero g ∷ DealMasked g a b ∷ SendTrunca
 
 -- the steps of gate g
 unfoldable pub steps_at : Rule → ℕ → Gate → List Step
-steps_at rule g (Input s) = []
-steps_at rule g (Add a b) = []
-steps_at rule g (Scale a c) = []
-steps_at rule g (Offset a c) = []
 steps_at rule g (Multiply a b) = multiply_steps rule g a b
 steps_at rule g Random = DealDraws g ∷ []
 steps_at rule g (Spend a b) = OpenSpent g a b ∷ []
+steps_at rule g _ = []
 
 -- the steps of these gates, the first being gate g
 unfoldable pub steps_from : Rule → ℕ → List Gate → List Step
@@ -209,22 +199,16 @@ own_out_count plan i = length (out_wires plan i)
 unfoldable pub received : Plan → ℕ → Step → ℕ
 received plan i DealInputs = kind_count plan 1
 received plan i (DealProduct g a b) = dealer_count plan
-received plan i (DealZero g) = party_count plan
-received plan i (DealMasked g a b) = party_count plan
-received plan i (SendTruncated g) = party_count plan
-received plan i (DealDraws g) = party_count plan
 received plan i (OpenSpent g a b) = 2 * party_count plan
 received plan i SendOuts = party_count plan * own_out_count plan i
+received plan i _ = party_count plan
 
 unfoldable pub sent_by : Plan → ℕ → Step → ℕ
 sent_by plan i DealInputs = party_count plan * length (input_wires plan i)
 sent_by plan i (DealProduct g a b) = cond (leb i (dealer_count plan)) (party_count plan) 0
-sent_by plan i (DealZero g) = party_count plan
-sent_by plan i (DealMasked g a b) = party_count plan
-sent_by plan i (SendTruncated g) = party_count plan
-sent_by plan i (DealDraws g) = party_count plan
 sent_by plan i (OpenSpent g a b) = 2 * party_count plan
 sent_by plan i SendOuts = length plan.outs
+sent_by plan i _ = party_count plan
 
 -- the numbers of mail that party i's call number k takes, and those that it writes
 unfoldable pub mail_count : Plan → ℕ → ℕ → ℕ

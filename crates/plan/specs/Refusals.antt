@@ -42,36 +42,15 @@ number_of (refusal.OutputsDiffer o) = 22
 
 -- a refusal's place, 0 unless named
 unfoldable pub place_of : Refusal → ℕ
-place_of refusal.CircuitText = 0
-place_of refusal.SheetText = 0
-place_of refusal.TooLarge = 0
-place_of refusal.Magic = 0
-place_of refusal.Version = 0
-place_of refusal.Parties = 0
-place_of refusal.Threshold = 0
-place_of refusal.Modulus = 0
-place_of refusal.Layout = 0
 place_of (refusal.GateRule g) = g
 place_of (refusal.OutputRule o) = o
-place_of refusal.Majority = 0
-place_of refusal.Points = 0
-place_of refusal.Price = 0
-place_of refusal.Record = 0
-place_of refusal.Coalition = 0
-place_of refusal.InputCount = 0
 place_of (refusal.InputValue i) = i
-place_of refusal.CoinCount = 0
 place_of (refusal.CoinValue i) = i
-place_of refusal.Settings = 0
-place_of refusal.StateCount = 0
-place_of refusal.StateValue = 0
-place_of refusal.Finished = 0
-place_of refusal.MailCount = 0
 place_of (refusal.MailValue i) = i
-place_of refusal.BufferLength = 0
 place_of (refusal.OffPolynomial i) = i
 place_of (refusal.InputsDiffer i) = i
 place_of (refusal.OutputsDiffer o) = o
+place_of _ = 0
 
 -- the answer of a C call that gives no number of its own: bits 0 to 7 are the refusal's number, bits 8 to 39 its place; 0 where there is none
 unfoldable pub code_of : Checked → ℕ

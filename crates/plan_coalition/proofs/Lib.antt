@@ -1,2 +1,3 @@
 pub mod Coalitions
 pub mod Worked
+pub mod Owned

@@ -1,187 +1,191 @@
--- The sizes of a run: what each way through the code says of them, and their bounds.
---     seats, sizing, bringing, sending, mailing, totalling     what closes the needs of the functions that give them
+-- What follows from a tally, and the sizes of a run's lists, with their bounds.
+--     summing, seats, sizing     what closes the needs of the functions that give them
 -- Assumes nothing.
-use mathlib.Core.Path.{◌≡◌, sym, ap, ◌∙◌}
-use mathlib.Core.Logic.{◌⊎◌, ⊎_elim}
-use mathlib.Core.Bool.{cond}
-use mathlib.Core.List.{List}
-use Prim.Native.Nat.{ℕ, suc, ◌+◌, ◌-◌, ◌*◌, ◌<◌, ◌≤◌}
+use mathlib.Core.Path.{◌≡◌, sym, ap, ap₂, ◌∙◌}
+use mathlib.Core.List.{List, flat_map}
+use Prim.Native.Nat.{ℕ, ◌+◌, ◌*◌, ◌≤◌}
 use native.Mathlib.Nat.{mul-le-mul}
 use native.Mathlib.Omega.{arith}
 use borrow.Author.Rules.{rules}
-use borrow.Author.Tests.{lt-ltb, le-ltb, le-leb, lt-leb}
 use mir.Syntax.{w64}
 use mir.Val.{Fits}
-use lib.Dec.{leb}
+use lib.Dec.{eqb}
+use lib.ListN.{length, take}
+use lib.Seq.{take_all}
 use Rattle.numbers.specs.Tables.{count_where}
-use Rattle.plan.specs.declared.Step.{Step}
-use Rattle.plan.specs.declared.Step.TheVariants.{DealInputs, DealProduct, DealZero, DealMasked, SendTruncated, DealDraws, OpenSpent, SendOuts}
+use Rattle.plan.specs.declared.Gate.{Gate}
 use Rattle.plan.specs.declared.Header.{Header}
-use Rattle.plan.specs.Plans.{Plan, is_input_of, kind_count, own_input_count, own_out_count, last_call, step_at, received, sent_by, mail_count, written_count, sent_count}
+use Rattle.plan.specs.Plans.{party_count, is_kind, input_owners_at, input_owners, coin_owners_at, coin_owners, steps_from, last_call, input_count, own_input_count, coin_count, own_coin_count}
+use Rattle.plan.specs.Kinds.{multiply_coins, own_multiply_coins, multiply_rounds, own_draws, own_random_coins}
 use Rattle.plan.specs.File.{plan_of}
 use Rattle.plan.specs.Planned.{Planned}
-use Rattle.plan.proofs.Planned.{plan_n, plan_dealers, plan_outs}
-use Rattle.plan.proofs.Valid.{plain, planned_or}
-use Rattle.plan.proofs.Counts.{plain-sent}
-use Rattle.plan.proofs.Wires.{length-input_wires}
+use Rattle.plan.proofs.Planned.{plan_n, plan_t, plan_rule}
+use Rattle.plan.proofs.Counts.{steps-below, last-call}
+use Rattle.plan.proofs.KindCounts.{own-inputs-of, inputs-of, own-coins-of, coins-of, steps-of}
+use Rattle.plan_counts.specs.declared.Tally.{Tally}
 use Rattle.plan_counts.specs.declared.Seat.{Seat}
-use Rattle.plan_counts.proofs.Counts.{last-is, own_is, inputs_are, coins_are}
+use Rattle.plan_counts.specs.Counts.{Tallied}
 
--- ---- of a seat
-module _ (s : Seat) where
-  pub seat-last : s.tally.multiplies + 2 ≡ last_call (plan_of s.plan.now.bytes.now)
-  seat-last = last-is s.plan.now.bytes.now s.plan.now.header s.plan.now.planned s.tally.multiplies s.tallied.multiplies
+-- ---- a party's own, of the gates of a tally
+module _ (bs : List ℕ) (h : Header) (p : Planned bs h) (i : ℕ) (gs : List Gate) (c : Tally) (t : Tallied gs i c) (r : ℕ) where
+  pub own-inputs-are : r ≡ c.own + own_draws (plan_of bs) i * c.randoms → r ≡ count_where (eqb i) (flat_map (input_owners_at (plan_of bs)) gs)
+  own-inputs-are e = e ∙ rw (t.own, t.randoms) (sym (own-inputs-of (plan_of bs) i gs ∙ omega arith))
 
-  pub seat_own : s.tally.own ≡ own_input_count (plan_of s.plan.now.bytes.now) s.party
-  seat_own = own_is s.plan.now.bytes.now s.plan.now.header s.plan.now.planned s.party s.tally.own s.tallied.own
+  pub own-coins-are :
+      r ≡ h.t * c.own + own_multiply_coins (plan_of bs) h.rule i * c.multiplies + own_random_coins (plan_of bs) i * c.randoms
+      → r ≡ count_where (eqb i) (flat_map (coin_owners_at (plan_of bs)) gs)
+  own-coins-are e = e ∙ rw (t.own, t.multiplies, t.randoms) (sym (own-coins-of (plan_of bs) i gs ∙ rw (plan_t p, plan_rule p) (omega arith)))
 
-pub ruleset seats = (rules, seat-last, seat_own)
+-- ---- of all gates
+module _ (bs : List ℕ) (h : Header) (p : Planned bs h) (i : ℕ) (c : Tally) (t : Tallied (plan_of bs).gates i c) where
+  own-inputs-all : (r : ℕ) → r ≡ c.own + own_draws (plan_of bs) i * c.randoms → r ≡ own_input_count (plan_of bs) i
+  unfolding own_input_count input_owners
+  own-inputs-all r e = own-inputs-are bs h p i (plan_of bs).gates c t r e
 
--- ---- products that fit, by the bounds of the contents
-module _ (bs : List ℕ) (h : Header) (p : Planned bs h) where
-  -- with a multiply gate there are at most n dealers
-  module _ (a m : ℕ) (is : m ≡ kind_count (plan_of bs) 5) (l : a + m ≤ 1024) where
-    dealt-all : 2 * h.t < h.n → a + m * (h.t + h.t + 1) ≤ 15360
-    dealt-all two = omega (arith, mul-le-mul {n₁ = m} {m₁ = h.t + h.t + 1} {n₂ = m} {m₂ = 15} (omega arith) (omega (arith, p.n-high)))
+  own-coins-all : (r : ℕ) → r ≡ h.t * c.own + own_multiply_coins (plan_of bs) h.rule i * c.multiplies + own_random_coins (plan_of bs) i * c.randoms → r ≡ own_coin_count (plan_of bs) i
+  unfolding own_coin_count coin_owners
+  own-coins-all r e = own-coins-are bs h p i (plan_of bs).gates c t r e
 
-    none-dealt : kind_count (plan_of bs) 5 ≡ 0 → a + m * (h.t + h.t + 1) ≤ 1024
-    none-dealt e = let z : m ≡ 0 = is ∙ e in rw z (omega arith)
+  pub inputs-all : c.inputs + h.n * c.randoms ≡ input_count (plan_of bs)
+  unfolding input_count input_owners
+  inputs-all = rw (t.inputs, t.randoms) (sym (inputs-of (plan_of bs) (plan_of bs).gates ∙ rw (plan_n p) (omega arith)))
 
-    pub by-dealers-le : a + m * (h.t + h.t + 1) ≤ 15360
-    by-dealers-le = ⊎_elim (λ e. omega (arith, none-dealt e)) dealt-all (planned_or bs h p)
+  pub coins-all : (m : ℕ) → m ≡ multiply_coins (plan_of bs) h.rule → h.t * c.inputs + m * c.multiplies + h.t * h.n * c.randoms ≡ coin_count (plan_of bs)
+  unfolding coin_count coin_owners
+  coins-all m e =
+      let a1 : (plan_of bs).t * count_where (is_kind 1) (plan_of bs).gates ≡ h.t * c.inputs = ap₂ (λ (x y : ℕ). x * y) (plan_t p) (sym t.inputs) in
+      let a2 : multiply_coins (plan_of bs) (plan_of bs).rule * count_where (is_kind 5) (plan_of bs).gates ≡ m * c.multiplies =
+      ap₂ (λ (x y : ℕ). x * y) (ap (multiply_coins (plan_of bs)) (plan_rule p) ∙ sym e) (sym t.multiplies) in
+      let a3 : (plan_of bs).t * party_count (plan_of bs) * count_where (is_kind 6) (plan_of bs).gates ≡ h.t * h.n * c.randoms =
+      ap₂ (λ (x y : ℕ). x * y) (ap₂ (λ (x y : ℕ). x * y) (plan_t p) (plan_n p)) (sym t.randoms) in
+      omega (arith, a1, a2, a3, coins-of (plan_of bs) (plan_of bs).gates)
 
-    pub by-dealers-fits : Fits w64 (m * (h.t + h.t + 1))
-    by-dealers-fits = record { fits = omega (arith, by-dealers-le) }
+  last-all : (r : ℕ) → r ≡ multiply_rounds h.rule → r * c.multiplies + c.randoms + c.spends + 2 ≡ last_call (plan_of bs)
+  unfolding steps-below
+  last-all r e =
+      let all : length (steps_from (plan_of bs).rule 0 (take (length (plan_of bs).gates) (plan_of bs).gates)) ≡ length (steps_from (plan_of bs).rule 0 (plan_of bs).gates) =
+      ap (λ (gs : List Gate). length (steps_from (plan_of bs).rule 0 gs)) (take_all (length (plan_of bs).gates) (plan_of bs).gates (omega arith)) in
+      let five : r * c.multiplies ≡ multiply_rounds (plan_of bs).rule * count_where (is_kind 5) (plan_of bs).gates =
+      ap₂ (λ (x y : ℕ). x * y) (e ∙ ap multiply_rounds (sym (plan_rule p))) t.multiplies in
+      omega (arith, five, t.randoms, t.spends, last-call (plan_of bs), all, steps-of (plan_of bs) 0 (plan_of bs).gates)
 
-    pub dealt-fits : Fits w64 (a + m * (h.t + h.t + 1))
-    dealt-fits = record { fits = omega (arith, by-dealers-le) }
+-- of a seat
+module _ (s : Seat) (r : ℕ) where
+  pub seat-last : r ≡ multiply_rounds s.plan.now.header.rule → r * s.tally.multiplies + s.tally.randoms + s.tally.spends + 2 ≡ last_call (plan_of s.plan.now.bytes.now)
+  seat-last = last-all s.plan.now.bytes.now s.plan.now.header s.plan.now.planned s.party s.tally s.tallied r
 
-    pub coins-le : h.t * (a + m * (h.t + h.t + 1)) ≤ 107520
-    coins-le =
-        ⊎_elim
-        (λ e. omega (arith, mul-le-mul {n₁ = h.t} {m₁ = a + m * (h.t + h.t + 1)} {n₂ = 14} {m₂ = 1024} (omega (arith, p.threshold, p.n-high)) (none-dealt e)))
-        (λ (two : 2 * h.t < h.n). mul-le-mul {n₁ = h.t} {m₁ = a + m * (h.t + h.t + 1)} {n₂ = 7} {m₂ = 15360} (omega (arith, p.n-high)) (dealt-all two))
-        (planned_or bs h p)
+  pub seat_inputs : r ≡ s.tally.own + own_draws (plan_of s.plan.now.bytes.now) s.party * s.tally.randoms → r ≡ own_input_count (plan_of s.plan.now.bytes.now) s.party
+  seat_inputs = own-inputs-all s.plan.now.bytes.now s.plan.now.header s.plan.now.planned s.party s.tally s.tallied r
 
-    pub coins-fit : Fits w64 (h.t * (a + m * (h.t + h.t + 1)))
-    coins-fit = record { fits = omega (arith, coins-le) }
+  pub seat_coins :
+      r ≡ s.plan.now.header.t * s.tally.own + own_multiply_coins (plan_of s.plan.now.bytes.now) s.plan.now.header.rule s.party * s.tally.multiplies + own_random_coins (plan_of s.plan.now.bytes.now) s.party * s.tally.randoms
+      → r ≡ own_coin_count (plan_of s.plan.now.bytes.now) s.party
+  seat_coins = own-coins-all s.plan.now.bytes.now s.plan.now.header s.plan.now.planned s.party s.tally s.tallied r
 
-  pub one-to-each : (b : ℕ) → 15 ≤ b → h.n ≤ b
-  one-to-each b l = omega (arith, p.n-high)
+pub drawn_as : (a d e x : ℕ) → d ≡ e → a + d * x ≡ a + e * x
+drawn_as a d e x q = rw q
 
-  by_n : (x b : ℕ) → x ≤ b → h.n * x ≤ 15 * b
-  by_n x b l = mul-le-mul p.n-high l
+pub coins_as : (a m n x r s y : ℕ) → m ≡ n → r ≡ s → a + m * x + r * y ≡ a + n * x + s * y
+coins_as a m n x r s y q w = rw (q, w)
 
-  pub by-n-64 : (x : ℕ) → x ≤ 64 → h.n * x ≤ 1024
-  by-n-64 x l = omega (arith, by_n x 64 l)
+-- ---- products that fit
+times : (a x k : ℕ) → a ≤ k → a * x ≤ k * x
+times a x k l = mul-le-mul {n₁ = a} {m₁ = x} {n₂ = k} {m₂ = x} l (omega arith)
 
-  pub by-n-64-fits : (x : ℕ) → x ≤ 64 → Fits w64 (h.n * x)
-  by-n-64-fits x l = record { fits = omega (arith, by-n-64 x l) }
+module _ (c : Tally) (few : c.own + c.multiplies + c.randoms ≤ 1024) where
+  module _ (d : ℕ) (l : d ≤ 1) where
+    pub drawn-few : c.own + d * c.randoms ≤ 1024
+    drawn-few = omega (arith, times d c.randoms 1 l)
 
-  pub by-n-1024 : (x : ℕ) → x ≤ 1024 → h.n * x ≤ 15360
-  by-n-1024 x l = omega (arith, by_n x 1024 l)
+    pub drawn-fits : Fits w64 (d * c.randoms)
+    drawn-fits = record { fits = omega (arith, drawn-few) }
 
-  pub by-n-1024-fits : (x : ℕ) → x ≤ 1024 → Fits w64 (h.n * x)
-  by-n-1024-fits x l = record { fits = omega (arith, by-n-1024 x l) }
+    pub inputs-fit : Fits w64 (c.own + d * c.randoms)
+    inputs-fit = record { fits = omega (arith, drawn-few) }
 
-  module _ (a m : ℕ) (is : m ≡ kind_count (plan_of bs) 5) (l : a + m ≤ 1024) where
-    pub sum_fits : Fits w64 (a + m * (h.t + h.t + 1) + h.outs)
-    sum_fits = record { fits = omega (arith, by-dealers-le a m is l, p.outs-high) }
+  module _ (bs : List ℕ) (h : Header) (p : Planned bs h) where
+    t_few : h.t ≤ 14
+    t_few = omega (arith, p.threshold, p.n-high)
 
-    pub by-n-sent : h.n * (a + m * (h.t + h.t + 1) + h.outs) ≤ 231360
-    by-n-sent = omega (arith, by_n (a + m * (h.t + h.t + 1) + h.outs) 15424 (omega (arith, by-dealers-le a m is l, p.outs-high)))
+    pub own-fits : Fits w64 (h.t * c.own)
+    own-fits = record { fits = omega (arith, times h.t c.own 14 t_few) }
 
-    pub by-n-sent-fits : Fits w64 (h.n * (a + m * (h.t + h.t + 1) + h.outs))
-    by-n-sent-fits = record { fits = omega (arith, by-n-sent) }
+    module _ (m : ℕ) (l : m ≤ 42) where
+      pub dealt-fits : Fits w64 (m * c.multiplies)
+      dealt-fits = record { fits = omega (arith, times m c.multiplies 42 l) }
 
-  -- ---- what a step brings and what is sent in it
-  module _ (i : ℕ) (s : Step) where
-    pub brings-inputs : (r : ℕ) → s ≡ DealInputs → r ≡ kind_count (plan_of bs) 1 → r ≡ received (plan_of bs) i s
-    unfolding received
-    brings-inputs r e f = rw e f
+      pub two_fit : Fits w64 (h.t * c.own + m * c.multiplies)
+      two_fit = record { fits = omega (arith, times h.t c.own 14 t_few, times m c.multiplies 42 l) }
 
-    pub brings-product : (g a b : ℕ) → s ≡ DealProduct g a b → h.t + h.t + 1 ≡ received (plan_of bs) i s
-    unfolding received
-    brings-product g a b e = rw e (sym (plan_dealers p))
+      module _ (r : ℕ) (k : r ≤ 14) where
+        pub random-fits : Fits w64 (r * c.randoms)
+        random-fits = record { fits = omega (arith, times r c.randoms 14 k) }
 
-    pub brings_one : ((g : ℕ) × (s ≡ DealZero g)) ⊎ (((g : ℕ) × (a : ℕ) × (b : ℕ) × (s ≡ DealMasked g a b)) ⊎ (((g : ℕ) × (s ≡ SendTruncated g)) ⊎ ((g : ℕ) × (s ≡ DealDraws g)))) → h.n ≡ received (plan_of bs) i s
-    unfolding received
-    brings_one = ⊎_elim
-        (λ (e : (g : ℕ) × (s ≡ DealZero g)). rw e.1 (sym (plan_n p)))
-        (⊎_elim
-        (λ (e : (g : ℕ) × (a : ℕ) × (b : ℕ) × (s ≡ DealMasked g a b)). rw e.3 (sym (plan_n p)))
-        (⊎_elim (λ (e : (g : ℕ) × (s ≡ SendTruncated g)). rw e.1 (sym (plan_n p))) (λ (e : (g : ℕ) × (s ≡ DealDraws g)). rw e.1 (sym (plan_n p)))))
+        pub own-coins-few : h.t * c.own + m * c.multiplies + r * c.randoms ≤ 43008
+        own-coins-few = omega (arith, times h.t c.own 14 t_few, times m c.multiplies 42 l, times r c.randoms 14 k)
 
-    pub brings-spent : (g a b : ℕ) → s ≡ OpenSpent g a b → 2 * h.n ≡ received (plan_of bs) i s
-    unfolding received
-    brings-spent g a b e = rw (e, plan_n p)
+        pub own-coins-fit : Fits w64 (h.t * c.own + m * c.multiplies + r * c.randoms)
+        own-coins-fit = record { fits = omega (arith, own-coins-few) }
 
-    pub brings-outs : (o : ℕ) → s ≡ SendOuts → o ≡ own_out_count (plan_of bs) i → h.n * o ≡ received (plan_of bs) i s
-    unfolding received
-    brings-outs o e f = rw (e, f, plan_n p)
+module _ (i : ℕ) (gs : List Gate) (c : Tally) (t : Tallied gs i c) where
+  module _ (r : ℕ) (l : r ≤ 3) where
+    pub last-few : r * c.multiplies + c.randoms + c.spends + 2 ≤ 3074
+    last-few = omega (arith, t.few, times r c.multiplies 3 l)
 
-    pub sends-inputs : (o : ℕ) → s ≡ DealInputs → o ≡ count_where (is_input_of i) (plan_of bs).gates → h.n * o ≡ sent_by (plan_of bs) i s
-    unfolding sent_by
-    sends-inputs o e f = rw (e, f, plan_n p, length-input_wires)
+    pub rounds-fit : Fits w64 (r * c.multiplies)
+    rounds-fit = record { fits = omega (arith, last-few) }
 
-    pub sends-product : (g a b r : ℕ) → s ≡ DealProduct g a b → r ≡ cond (leb i (h.t + h.t + 1)) h.n 0 → r ≡ sent_by (plan_of bs) i s
-    unfolding sent_by
-    sends-product g a b r e f = rw (e, plan_dealers p, plan_n p) f
+    pub last-fits : Fits w64 (r * c.multiplies + c.randoms + c.spends + 2)
+    last-fits = record { fits = omega (arith, last-few) }
 
-    pub sends_one : ((g : ℕ) × (s ≡ DealZero g)) ⊎ (((g : ℕ) × (a : ℕ) × (b : ℕ) × (s ≡ DealMasked g a b)) ⊎ (((g : ℕ) × (s ≡ SendTruncated g)) ⊎ ((g : ℕ) × (s ≡ DealDraws g)))) → h.n ≡ sent_by (plan_of bs) i s
-    unfolding sent_by
-    sends_one = ⊎_elim
-        (λ (e : (g : ℕ) × (s ≡ DealZero g)). rw e.1 (sym (plan_n p)))
-        (⊎_elim
-        (λ (e : (g : ℕ) × (a : ℕ) × (b : ℕ) × (s ≡ DealMasked g a b)). rw e.3 (sym (plan_n p)))
-        (⊎_elim (λ (e : (g : ℕ) × (s ≡ SendTruncated g)). rw e.1 (sym (plan_n p))) (λ (e : (g : ℕ) × (s ≡ DealDraws g)). rw e.1 (sym (plan_n p)))))
+    pub last-fits-2 : Fits w64 (r * c.multiplies + c.randoms + c.spends)
+    last-fits-2 = record { fits = omega (arith, last-few) }
 
-    pub sends-spent : (g a b : ℕ) → s ≡ OpenSpent g a b → 2 * h.n ≡ sent_by (plan_of bs) i s
-    unfolding sent_by
-    sends-spent g a b e = rw (e, plan_n p)
+    pub last-fits-3 : Fits w64 (r * c.multiplies + c.randoms)
+    last-fits-3 = record { fits = omega (arith, last-few) }
 
-    pub sends-outs : s ≡ SendOuts → h.outs ≡ sent_by (plan_of bs) i s
-    unfolding sent_by
-    sends-outs e = rw e (sym (plan_outs p))
+  module _ (bs : List ℕ) (h : Header) (p : Planned bs h) where
+    threshold_few : h.t ≤ 14
+    threshold_few = omega (arith, p.threshold, p.n-high)
 
-  -- ---- elements sent
-  pub sent_all_lem : (a m : ℕ) → a ≡ kind_count (plan_of bs) 1 → m ≡ kind_count (plan_of bs) 5 → h.n * (a + m * (h.t + h.t + 1) + h.outs) ≡ sent_count (plan_of bs)
-  sent_all_lem a m e f =
-      sym (plain-sent (plan_of bs) (plain bs p.passes) ∙ rw (← e, ← f, plan_dealers p, plan_outs p, plan_n p))
+    both_few : h.t * h.n ≤ 210
+    both_few = mul-le-mul {n₁ = h.t} {m₁ = h.n} {n₂ = 14} {m₂ = 15} threshold_few p.n-high
 
--- ---- a call's mail and what it writes
-module _ (plan : Plan) (i k : ℕ) where
-  pub mail-zero : k ≡ 0 → 0 ≡ mail_count plan i k
-  unfolding mail_count
-  mail-zero e = rw e
+    pub inputs-few : c.inputs + h.n * c.randoms ≤ 15360
+    inputs-few = omega (arith, t.few, times h.n c.randoms 15 p.n-high)
 
-  pub mail-later : (s : Step) (r : ℕ) → (k ≡ 0 → ⊥) → s ≡ step_at plan (k - 1) → r ≡ received plan i s → r ≡ mail_count plan i k
-  unfolding mail_count
-  mail-later s r ne e f = let q : suc (k - 1) ≡ k = omega arith in f ∙ ap (received plan i) e ∙ ap (mail_count plan i) q
+    pub draws-fit : Fits w64 (h.n * c.randoms)
+    draws-fit = record { fits = omega (arith, inputs-few) }
 
-  pub written-sent : (l r : ℕ) (s : Step) → l ≡ last_call plan → k < l → s ≡ step_at plan k → r ≡ sent_by plan i s → r ≡ written_count plan i k
-  unfolding written_count
-  written-sent l r s el m e f = rw (← el, lt-ltb k l m) (f ∙ ap (sent_by plan i) e)
+    pub all-inputs-fit : Fits w64 (c.inputs + h.n * c.randoms)
+    all-inputs-fit = record { fits = omega (arith, inputs-few) }
 
-  pub written-results : (l r : ℕ) → l ≡ last_call plan → l ≤ k → r ≡ own_out_count plan i → r ≡ written_count plan i k
-  unfolding written_count
-  written-results l r el m f = rw (← el, le-ltb k l m) f
+    pub first-fits : Fits w64 (h.t * c.inputs)
+    first-fits = record { fits = omega (arith, t.few, times h.t c.inputs 14 threshold_few) }
 
-pub sent-some : (n i d : ℕ) → i ≤ d → n ≡ cond (leb i d) n 0
-sent-some n i d l = rw (le-leb i d l)
+    pub both-fit : Fits w64 (h.t * h.n)
+    both-fit = record { fits = omega (arith, both_few) }
 
-pub sent-none : (n i d : ℕ) → d < i → 0 ≡ cond (leb i d) n 0
-sent-none n i d l = rw (lt-leb i d l)
+    pub randoms-fit : Fits w64 (h.t * h.n * c.randoms)
+    randoms-fit = record { fits = omega (arith, t.few, times (h.t * h.n) c.randoms 210 both_few) }
+
+    module _ (m : ℕ) (l : m ≤ 630) where
+      pub coins-few : h.t * c.inputs + m * c.multiplies + h.t * h.n * c.randoms ≤ 645120
+      coins-few = omega (arith, t.few, times h.t c.inputs 14 threshold_few, times m c.multiplies 630 l, times (h.t * h.n) c.randoms 210 both_few)
+
+      pub multiplies-fit : Fits w64 (m * c.multiplies)
+      multiplies-fit = record { fits = omega (arith, coins-few) }
+
+      pub two-fit : Fits w64 (h.t * c.inputs + m * c.multiplies)
+      two-fit = record { fits = omega (arith, coins-few) }
+
+      pub coins-fit : Fits w64 (h.t * c.inputs + m * c.multiplies + h.t * h.n * c.randoms)
+      coins-fit = record { fits = omega (arith, coins-few) }
 
 -- As it is: answers name this set, since the check leaves their goals open by `using` alone.
-pub ruleset sizing = (rules, by-dealers-fits, dealt-fits, coins-le, coins-fit, last-is, own_is, inputs_are, coins_are)
+pub ruleset summing = (rules, drawn_as, coins_as, drawn-few, drawn-fits, inputs-fit, own-fits, dealt-fits, two_fit, random-fits, own-coins-few, own-coins-fit)
+
+pub ruleset seats = (rules, seat-last, seat_inputs, seat_coins, last-few, rounds-fit, last-fits, last-fits-2, last-fits-3)
 
 -- As it is: answers name this set, since the check leaves their goals open by `using` alone.
-pub ruleset bringing = (rules, one-to-each, by-n-64, by-n-64-fits, brings-inputs, brings-product, brings_one, brings-spent, brings-outs)
-
--- As it is: answers name this set, since the check leaves their goals open by `using` alone.
-pub ruleset sending = (rules, one-to-each, by-n-1024, by-n-1024-fits, sends-inputs, sends-product, sends_one, sends-spent, sends-outs, sent-some, sent-none)
-
-pub ruleset mailing = (rules, mail-zero, mail-later, written-sent, written-results)
-
-pub ruleset totalling = (rules, by-dealers-fits, dealt-fits, sum_fits, by-n-sent, by-n-sent-fits, sent_all_lem)
+pub ruleset sizing = (rules, own-inputs-are, own-coins-are, inputs-all, coins-all, inputs-few, draws-fit, all-inputs-fit, first-fits, both-fit, randoms-fit, coins-few, multiplies-fit, two-fit, coins-fit)

@@ -3,119 +3,177 @@
 --     stepped-product             the gate of a product's step
 -- Assumes nothing.
 use mathlib.Core.Path.{◌≡◌, refl, sym, ap, subst, ◌∙◌}
-use mathlib.Core.Bool.{Bool, true, false}
-use mathlib.Core.List.{List, [], ◌∷◌, ◌++◌}
+use mathlib.Core.Bool.{Bool, true, false, cond}
+use mathlib.Core.List.{List, [], ◌∷◌, ◌++◌, append_assoc}
 use Prim.Native.Nat.{ℕ, zero, suc, ◌+◌, ◌-◌, ◌<◌, ◌≤◌}
 use native.Mathlib.Numerals.{add-one}
 use native.Mathlib.Omega.{arith}
 use borrow.Author.Rules.{rules}
-use borrow.Author.Tests.{le-leb, lt-leb}
 use lib.Dec.{leb}
-use lib.ListN.{get_or, drop, drop_of_length-le}
-use lib.Seq.{drop-cons}
+use lib.ListN.{length, get_or, drop, drop_of_length-le, get_or-append}
+use lib.Seq.{drop-cons, get_or-append-add}
+use mir.Val.{bool_byte}
+use Rattle.numbers.specs.Tables.{count_where}
 use Rattle.plan.specs.declared.Gate.{Gate}
 use Rattle.plan.specs.declared.Gate.TheVariants.{Input, Add, Scale, Offset, Multiply, Random, Spend}
-use Rattle.plan.specs.declared.Rule.TheVariants.{Reduction}
+use Rattle.plan.specs.declared.Rule.{Rule}
+use Rattle.plan.specs.declared.Rule.TheVariants.{Reduction, Truncation}
 use Rattle.plan.specs.declared.Step.{Step}
-use Rattle.plan.specs.declared.Step.TheVariants.{DealInputs, DealProduct, SendOuts}
+use Rattle.plan.specs.declared.Step.TheVariants.{DealInputs, DealProduct, DealZero, DealMasked, SendTruncated, SendOuts}
 use Rattle.plan.specs.declared.Header.{Header}
-use Rattle.plan.specs.Plans.{Plan, kind_of, multiply_steps, steps_at, steps_from, steps, step_at}
+use Rattle.plan.specs.Plans.{Plan, kind_of, is_kind, kind_count, multiply_steps, steps_at, steps_from, steps, step_at}
 use Rattle.plan.specs.File.{gate_at, plan_of}
 use Rattle.plan.specs.Planned.{Planned}
-use Rattle.plan.proofs.Planned.{plan_gates, plan_gate}
-use Rattle.plan.proofs.Valid.{plain}
+use Rattle.plan.specs.Kinds.{multiply_rounds}
+use Rattle.plan.proofs.Planned.{plan_rule, plan_gates, plan_gate}
+use Rattle.plan.proofs.Valid.{plain, plain_no_7}
 use Rattle.plan_counts.specs.Counts.{IsGate, Stepped}
 
--- ---- a gate's step
-pub step_as : (g : ℕ) (x q : Gate) (s : Step) → x ≡ q → s ≡ get_or (steps_at Reduction g q) 0 SendOuts → s ≡ get_or (steps_at Reduction g x) 0 SendOuts
-step_as g x q s e f = f ∙ sym (ap (λ (y : Gate). get_or (steps_at Reduction g y) 0 SendOuts) e)
+-- ---- a gate's steps
+pub step_as : (rule : Rule) (g j : ℕ) (x q : Gate) (s : Step) → x ≡ q → s ≡ get_or (steps_at rule g q) j SendOuts → s ≡ get_or (steps_at rule g x) j SendOuts
+step_as rule g j x q s e f = f ∙ sym (ap (λ (y : Gate). get_or (steps_at rule g y) j SendOuts) e)
 
-no : (t : Bool) → t ≡ true → t ≡ false → ⊥
-no t e f = let z : ◌≡◌ {A = ℕ} 0 1 = cc in omega arith
+pub by_rule : (rule q : Rule) (g a b j : ℕ) (s : Step) → rule ≡ q → s ≡ get_or (multiply_steps q g a b) j SendOuts → s ≡ get_or (multiply_steps rule g a b) j SendOuts
+by_rule rule q g a b j s e f = f ∙ sym (ap (λ (r : Rule). get_or (multiply_steps r g a b) j SendOuts) e)
 
-one_step : (g : ℕ) (x : Gate) → leb 5 (kind_of x) ≡ true → steps_at Reduction g x ≡ get_or (steps_at Reduction g x) 0 SendOuts ∷ []
-unfolding steps_at multiply_steps kind_of
-one_step g (Input s) e = absurd (no true refl (sym e))
-one_step g (Add a b) e = absurd (no true refl (sym e))
-one_step g (Scale a c) e = absurd (no true refl (sym e))
-one_step g (Offset a c) e = absurd (no true refl (sym e))
-one_step g (Multiply a b) e = refl
-one_step g Random e = refl
-one_step g (Spend a b) e = refl
+pub only_first : (s : Step) (j : ℕ) → j ≡ 0 → s ≡ get_or (s ∷ []) j SendOuts
+only_first s j e = rw e
 
-no_step : (g : ℕ) (x : Gate) → leb 5 (kind_of x) ≡ false → steps_at Reduction g x ≡ []
-unfolding steps_at multiply_steps kind_of
-no_step g (Input s) e = refl
-no_step g (Add a b) e = refl
-no_step g (Scale a c) e = refl
-no_step g (Offset a c) e = refl
-no_step g (Multiply a b) e = absurd (no true refl e)
-no_step g Random e = absurd (no true refl e)
-no_step g (Spend a b) e = absurd (no true refl e)
+pub only_later : (s : Step) (j : ℕ) → (j ≡ 0 → ⊥) → SendOuts ≡ get_or (s ∷ []) j SendOuts
+only_later s zero n = absurd (n refl)
+only_later s (suc j) n = refl
 
-stepped_at : (plan : Plan) (g : ℕ) (x : Gate) → IsGate plan g x → kind_of x ≤ 5 → Stepped plan (get_or (steps_at Reduction g x) 0 SendOuts)
-unfolding Stepped steps_at multiply_steps kind_of
-stepped_at plan g (Input s) i l = tt
-stepped_at plan g (Add a b) i l = tt
-stepped_at plan g (Scale a c) i l = tt
-stepped_at plan g (Offset a c) i l = tt
-stepped_at plan g (Multiply a b) i l = i
-stepped_at plan g Random i l = absurd (omega arith)
-stepped_at plan g (Spend a b) i l = absurd (omega arith)
+module _ (g a b j : ℕ) where
+  pub zero-first : j ≡ 0 → DealZero g ≡ get_or (multiply_steps Truncation g a b) j SendOuts
+  unfolding multiply_steps
+  zero-first e = rw e
+
+  pub masked_second : j ≡ 1 → DealMasked g a b ≡ get_or (multiply_steps Truncation g a b) j SendOuts
+  unfolding multiply_steps
+  masked_second e = rw e
+
+  pub truncated_third : j ≡ 2 → SendTruncated g ≡ get_or (multiply_steps Truncation g a b) j SendOuts
+  unfolding multiply_steps
+  truncated_third e = rw e
+
+  pub no-fourth : (j ≡ 0 → ⊥) → (j ≡ 1 → ⊥) → (j ≡ 2 → ⊥) → SendOuts ≡ get_or (multiply_steps Truncation g a b) j SendOuts
+  unfolding multiply_steps
+  no-fourth n0 n1 n2 = past j n0 n1 n2
+    where
+      past : (j : ℕ) → (j ≡ 0 → ⊥) → (j ≡ 1 → ⊥) → (j ≡ 2 → ⊥) → SendOuts ≡ get_or (DealZero g ∷ DealMasked g a b ∷ SendTruncated g ∷ []) j SendOuts
+      past zero n0 n1 n2 = absurd (n0 refl)
+      past (suc zero) n0 n1 n2 = absurd (n1 refl)
+      past (suc (suc zero)) n0 n1 n2 = absurd (n2 refl)
+      past (suc (suc (suc j))) n0 n1 n2 = refl
+
+  pub reduced_step : (s : Step) → s ≡ get_or (DealProduct g a b ∷ []) j SendOuts → s ≡ get_or (multiply_steps Reduction g a b) j SendOuts
+  unfolding multiply_steps
+  reduced_step s e = e
+
+-- how many there are, by the gate's kind
+module _ (rule : Rule) (g k : ℕ) (x : Gate) (e : k ≡ kind_of x) where
+  pub steps-multiply : (r : ℕ) → k ≡ 5 → r ≡ multiply_rounds rule → r ≡ length (steps_at rule g x)
+  unfolding steps_at kind_of multiply_steps multiply_rounds
+  steps-multiply r l f = f ∙ of rule x (sym e ∙ l)
+    where
+      of : (q : Rule) (y : Gate) → kind_of y ≡ 5 → multiply_rounds q ≡ length (steps_at q g y)
+      of q (Input s) m = absurd (omega arith)
+      of q (Add a b) m = absurd (omega arith)
+      of q (Scale a c) m = absurd (omega arith)
+      of q (Offset a c) m = absurd (omega arith)
+      of Reduction (Multiply a b) m = refl
+      of Truncation (Multiply a b) m = refl
+      of q Random m = absurd (omega arith)
+      of q (Spend a b) m = absurd (omega arith)
+
+  pub steps_other : (r : ℕ) → (k ≡ 5 → ⊥) → r ≡ bool_byte (leb 6 k) → r ≡ length (steps_at rule g x)
+  unfolding steps_at kind_of
+  steps_other r n f = f ∙ ap (λ (m : ℕ). bool_byte (leb 6 m)) e ∙ of x (λ q. n (e ∙ q))
+    where
+      of : (y : Gate) → (kind_of y ≡ 5 → ⊥) → bool_byte (leb 6 (kind_of y)) ≡ length (steps_at rule g y)
+      of (Input s) o = refl
+      of (Add a b) o = refl
+      of (Scale a c) o = refl
+      of (Offset a c) o = refl
+      of (Multiply a b) o = absurd (o refl)
+      of Random o = refl
+      of (Spend a b) o = refl
+
+-- a plan file has no gate that spends
+no-spend : (gs : List Gate) (g a b : ℕ) → count_where (is_kind 7) gs ≡ 0 → g < length gs → get_or gs g (Input 0) ≡ Spend a b → ⊥
+unfolding count_where is_kind kind_of
+no-spend [] g a b none l e = omega arith
+no-spend (x ∷ gs) zero a b none l e = omega (arith, (rw e at none))
+no-spend (x ∷ gs) (suc g) a b none l e = no-spend gs g a b (rest (is_kind 7 x) (count_where (is_kind 7) gs) none) (omega arith) e
+  where
+    rest : (t : Bool) (n : ℕ) → cond t (suc n) n ≡ 0 → n ≡ 0
+    rest true n q = absurd (omega arith)
+    rest false n q = q
+
+stepped_at : (plan : Plan) (g j : ℕ) (x : Gate) → kind_count plan 7 ≡ 0 → IsGate plan g x → Stepped plan (get_or (steps_at plan.rule g x) j SendOuts)
+unfolding Stepped steps_at multiply_steps kind_of kind_count
+stepped_at plan g j (Input s) none i = tt
+stepped_at plan g j (Add a b) none i = tt
+stepped_at plan g j (Scale a c) none i = tt
+stepped_at plan g j (Offset a c) none i = tt
+stepped_at plan g j (Multiply a b) none i = of plan.rule refl j
+  where
+    of : (q : Rule) → plan.rule ≡ q → (j : ℕ) → Stepped plan (get_or (multiply_steps q g a b) j SendOuts)
+    of Reduction e zero = (i, e)
+    of Reduction e (suc j) = tt
+    of Truncation e zero = (record { within = i.within; is = ap kind_of i.is }, e)
+    of Truncation e (suc zero) = (i, e)
+    of Truncation e (suc (suc zero)) = (record { within = i.within; is = ap kind_of i.is }, e)
+    of Truncation e (suc (suc (suc j))) = tt
+stepped_at plan g zero Random none i = i
+stepped_at plan g (suc j) Random none i = tt
+stepped_at plan g j (Spend a b) none i = absurd (no-spend plan.gates g a b none i.within i.is)
 
 -- ---- the pass: at gate g, the step is the one after so many that are left
-pub record Stepping (bs : List ℕ) (gates k left g : ℕ) : Type 0 where
+pub record Stepping (bs : List ℕ) (rule : Rule) (gates k left g : ℕ) : Type 0 where
   pub within : g ≤ gates
-  pub is : get_or (steps_from Reduction g (drop g (plan_of bs).gates) ++ (SendOuts ∷ [])) left SendOuts ≡ step_at (plan_of bs) (suc k)
+  pub is : get_or (steps_from rule g (drop g (plan_of bs).gates) ++ (SendOuts ∷ [])) left SendOuts ≡ step_at (plan_of bs) (suc k)
 
 module _ (bs : List ℕ) (h : Header) (p : Planned bs h) where
-  pub steps_begin : (k : ℕ) → Stepping bs h.gates k k 0
+  pub steps_begin : (k : ℕ) → Stepping bs h.rule h.gates k k 0
   unfolding step_at steps
-  steps_begin k = record { within = omega arith; is = rw (plain bs p.passes).rule }
+  steps_begin k = record { within = omega arith; is = rw (plan_rule p) }
 
-  module _ (k left g : ℕ) (w : Stepping bs h.gates k left g) where
-    module _ (l : g < h.gates) (gate : Gate) (t : Bool) (eg : gate ≡ gate_at bs g) (et : t ≡ leb 5 (kind_of gate)) where
-      is-gate : IsGate (plan_of bs) g gate
-      is-gate = record { within = rw (plan_gates p) l; is = plan_gate p g l ∙ sym eg }
+  module _ (k left g : ℕ) (w : Stepping bs h.rule h.gates k left g) (l : g < h.gates) where
+    abbrev own : List Step
+    own = steps_at h.rule g (gate_at bs g)
 
-      here : drop g (plan_of bs).gates ≡ gate ∷ drop (suc g) (plan_of bs).gates
-      here = rw (eg, ← plan_gate p g l) (drop-cons (plan_of bs).gates g (Input 0) (rw (plan_gates p) l))
+    abbrev rest : List Step
+    rest = steps_from h.rule (suc g) (drop (suc g) (plan_of bs).gates)
 
-      at : get_or ((steps_at Reduction g gate ++ steps_from Reduction (suc g) (drop (suc g) (plan_of bs).gates)) ++ (SendOuts ∷ [])) left SendOuts ≡ step_at (plan_of bs) (suc k)
-      unfolding steps_from
-      at = rw here at w.is
+    at : get_or ((own ++ rest) ++ (SendOuts ∷ [])) left SendOuts ≡ step_at (plan_of bs) (suc k)
+    unfolding steps_from
+    at = rw (drop-cons (plan_of bs).gates g (Input 0) (rw (plan_gates p) l), plan_gate p g l) at w.is
 
-      found : (s : Step) → t ≡ true → left ≡ 0 → s ≡ get_or (steps_at Reduction g gate) 0 SendOuts → s ≡ step_at (plan_of bs) (suc k)
-      found s e z q = q ∙ (rw (one_step g gate (sym et ∙ e), z) at at)
+    in_row : get_or (own ++ (rest ++ (SendOuts ∷ []))) left SendOuts ≡ step_at (plan_of bs) (suc k)
+    in_row = ap (λ (m : List Step). get_or m left SendOuts) (sym (append_assoc own rest (SendOuts ∷ []))) ∙ at
 
-      stepped-here : (s : Step) → s ≡ get_or (steps_at Reduction g gate) 0 SendOuts → Stepped (plan_of bs) s
-      stepped-here s q =
-          subst (Stepped (plan_of bs)) (sym q) (stepped_at (plan_of bs) g gate is-gate (rw (plan_gate p g l, ← eg) at ((plain bs p.passes).kinds g)))
+    pub step_found : (r : ℕ) → r ≡ length own → left < r → (gate : Gate) (s : Step) → gate ≡ gate_at bs g → s ≡ get_or (steps_at h.rule g gate) left SendOuts → s ≡ step_at (plan_of bs) (suc k)
+    step_found r e m gate s eg q =
+        q ∙ ap (λ (x : Gate). get_or (steps_at h.rule g x) left SendOuts) eg ∙ sym (get_or-append own (rest ++ (SendOuts ∷ [])) SendOuts left (omega arith)) ∙ in_row
 
-      passed : t ≡ true → (left ≡ 0 → ⊥) → (n : ℕ) → n ≡ left - 1 → Stepping bs h.gates k n (g + 1)
-      passed e z n q =
-          let s : left ≡ suc n = omega arith in
-          record { within = omega arith; is = rw add-one (rw (one_step g gate (sym et ∙ e), s) at at) }
+    pub step_of : (gate : Gate) (s : Step) → gate ≡ gate_at bs g → s ≡ get_or (steps_at h.rule g gate) left SendOuts → Stepped (plan_of bs) s
+    step_of gate s eg q =
+        let is : IsGate (plan_of bs) g gate = record { within = rw (plan_gates p) l; is = plan_gate p g l ∙ sym eg } in
+        subst (Stepped (plan_of bs)) (sym (q ∙ ap (λ (rule : Rule). get_or (steps_at rule g gate) left SendOuts) (sym (plan_rule p))))
+        (stepped_at (plan_of bs) g left gate (plain_no_7 (plan_of bs) (plain bs p.passes)) is)
 
-      skipped : t ≡ false → (n : ℕ) → n ≡ left → Stepping bs h.gates k n (g + 1)
-      skipped e n q = record { within = omega arith; is = rw (add-one, q) (rw (no_step g gate (sym et ∙ e)) at at) }
+    pub step_passed : (r : ℕ) → r ≡ length own → r ≤ left → (n : ℕ) → n ≡ left - r → Stepping bs h.rule h.gates k n (g + 1)
+    step_passed r e m n q =
+        let there : left ≡ length own + n = omega arith in
+        record {
+          within = omega arith;
+          is =
+              rw add-one
+              (sym (get_or-append-add own (rest ++ (SendOuts ∷ [])) n SendOuts) ∙ ap (λ (j : ℕ). get_or (own ++ (rest ++ (SendOuts ∷ []))) j SendOuts) (sym there) ∙ in_row);
+        }
 
-    module _ (l : g < h.gates) (kind : ℕ) (ek : kind ≡ kind_of (gate_at bs g)) where
-      takes : 5 ≤ kind → leb 5 (kind_of (gate_at bs g)) ≡ true
-      takes m = le-leb 5 (kind_of (gate_at bs g)) (omega arith)
-
-      pub step_passed : 5 ≤ kind → (left ≡ 0 → ⊥) → (n : ℕ) → n ≡ left - 1 → Stepping bs h.gates k n (g + 1)
-      step_passed m = passed l (gate_at bs g) (leb 5 (kind_of (gate_at bs g))) refl refl (takes m)
-
-      pub step_skipped : kind < 5 → (n : ℕ) → n ≡ left → Stepping bs h.gates k n (g + 1)
-      step_skipped m = skipped l (gate_at bs g) (leb 5 (kind_of (gate_at bs g))) refl refl (lt-leb 5 (kind_of (gate_at bs g)) (omega arith))
-
-      pub step_found : (gate : Gate) (s : Step) → gate ≡ gate_at bs g → s ≡ get_or (steps_at Reduction g gate) 0 SendOuts → 5 ≤ kind → left ≡ 0 → s ≡ step_at (plan_of bs) (suc k)
-      step_found gate s eg q m z = found l gate (leb 5 (kind_of (gate_at bs g))) eg (ap (λ (x : Gate). leb 5 (kind_of x)) (sym eg)) s (takes m) z q
-
-    pub step_of : g < h.gates → (gate : Gate) → gate ≡ gate_at bs g → (s : Step) → s ≡ get_or (steps_at Reduction g gate) 0 SendOuts → Stepped (plan_of bs) s
-    step_of l gate eg s q = stepped-here l gate (leb 5 (kind_of gate)) eg refl s q
-
+  module _ (k left g : ℕ) (w : Stepping bs h.rule h.gates k left g) where
     pub step-none : h.gates ≤ g → SendOuts ≡ step_at (plan_of bs) (suc k)
     unfolding steps_from
     step-none l = sym (end left) ∙ (rw (drop_of_length-le (plan_of bs).gates {i = g} (rw (plan_gates p) l)) at w.is)
@@ -143,7 +201,8 @@ module _ (plan : Plan) where
   -- the gate of a product's step
   pub stepped-product : (s : Step) (g a b : ℕ) → Stepped plan s → s ≡ DealProduct g a b → IsGate plan g (Multiply a b)
   unfolding Stepped
-  stepped-product s g a b i e = subst (Stepped plan) e i
+  stepped-product s g a b i e = (subst (Stepped plan) e i).0
 
 -- As it is: answers name this set, since the check leaves their goals open by `using` alone.
-pub ruleset stepping = (rules, step_as, steps_begin, step_found, step_of, step_passed, step_skipped, step-none, outs_stepped, inputs_stepped, step_first, step_later)
+pub ruleset stepping =
+    (rules, step_as, by_rule, only_first, only_later, zero-first, masked_second, truncated_third, no-fourth, reduced_step, steps-multiply, steps_other, steps_begin, step_found, step_of, step_passed, step-none, outs_stepped, inputs_stepped, step_first, step_later)

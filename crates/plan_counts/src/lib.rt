@@ -1,18 +1,18 @@
 // Counts of a plan's gates, coins and steps, and the step that a call sends.
 #![tactic(auto)]
 
-ghost use Rattle.std.specs.Prelude.{◌≡◌, cond, suc, ◌+◌, ◌<◌, ◌≤◌, eqb, leb, length, take, get_or};
+ghost use Rattle.std.specs.Prelude.{◌≡◌, cond, suc, ◌+◌, ◌*◌, ◌<◌, ◌≤◌, eqb, leb, length, take, get_or, [], ◌∷◌};
 ghost use mathlib.Core.List.{flat_map};
 ghost use Rattle.numbers.specs.Tables.{count_where};
 ghost use Rattle.plan.specs.declared.Step.TheVariants.{SendOuts};
-ghost use Rattle.plan.specs.declared.Rule.TheVariants.{Reduction};
 ghost use Rattle.plan.specs.File.{between, gate_at, plan_of};
-ghost use Rattle.plan.specs.Plans.{kind_of, is_input_of, coin_owners_at, steps_at, step_at, last_call, input_count, own_input_count, coin_count, own_coin_count};
+ghost use Rattle.plan.specs.Plans.{kind_of, is_input_of, input_owners_at, coin_owners_at, multiply_steps, steps_at, step_at, last_call, input_count, own_input_count, coin_count, own_coin_count};
+ghost use Rattle.plan.specs.Kinds.{multiply_coins, own_multiply_coins, multiply_rounds, own_draws, own_random_coins};
 ghost use Rattle.plan_counts.specs.Counts.{Tallied, Stepped};
 
-use plan::{Gate, Gates, PlanFile, Step};
+use plan::{Gate, Gates, PlanFile, Rule, Step};
 
-// Counts of a plan's gates, for one party.
+// Counts of gates, for one party.
 #[derive(Clone, Copy)]
 pub struct Tally {
     // input gates
@@ -20,8 +20,10 @@ pub struct Tally {
     // the party's own
     pub own: usize,
     pub multiplies: usize,
-    // the party's own coins
-    pub coins: usize,
+    // random wires
+    pub randoms: usize,
+    // multiplies that spend a triple
+    pub spends: usize,
 }
 
 // The kinds of gates in the plan file: gates from ADD to OFFSET are worked on shares alone, those from MULTIPLY on take rounds.
@@ -39,13 +41,13 @@ const RANDOM: usize = 6;
 
 const SPEND: usize = 7;
 
-// A party's seat at a plan: the plan's tally for the party, with the plan and the party that it is of.
+// A party's seat at a plan: the tally of the plan's gates for the party, with the plan and the party that it is of.
 #[derive(Clone, Copy)]
 pub struct Seat<'a> {
     pub plan: &'a PlanFile<'a>,
     pub party: usize,
     pub tally: Tally,
-    pub ghost tallied: { Tallied (plan_of plan.now.bytes.now) party tally },
+    pub ghost tallied: { Tallied (plan_of plan.now.bytes.now).gates party tally },
 }
 
 impl<'a> Seat<'a> {
@@ -59,19 +61,30 @@ impl<'a> Seat<'a> {
         }
     }
 
-    // The call that gives the results: the steps are the inputs, one for each multiply gate, and the outs.
+    // The call that gives the results: the steps are the inputs, those of the gates that take rounds, and the outs.
     #[tactic(auto, using(crate::proofs::Sizes::seats))]
     pub fn last_call(&self) -> usize
-        ensures { record { eq : result ≡ last_call (plan_of self.now.plan.now.bytes.now); low : 2 ≤ result; le : result ≤ 1026 } }
+        ensures { record { eq : result ≡ last_call (plan_of self.now.plan.now.bytes.now); low : 2 ≤ result; le : result ≤ 3074 } }
     {
-        self.tally.multiplies + 2
+        multiply_rounds(self.plan.header.rule) * self.tally.multiplies
+            + self.tally.randoms
+            + self.tally.spends
+            + 2
     }
 
+    // Its inputs: figures, and draws.
     #[tactic(auto, using(crate::proofs::Sizes::seats))]
     pub fn own_inputs(&self) -> usize
         ensures { record { eq : result ≡ own_input_count (plan_of self.now.plan.now.bytes.now) self.now.party; le : result ≤ 1024 } }
     {
-        self.tally.own
+        inputs_in(self.plan, self.party, self.tally)
+    }
+
+    #[tactic(auto, using(crate::proofs::Sizes::seats))]
+    pub fn own_coins(&self) -> usize
+        ensures { record { eq : result ≡ own_coin_count (plan_of self.now.plan.now.bytes.now) self.now.party; le : result ≤ 43008 } }
+    {
+        coins_in(self.plan, self.party, self.tally)
     }
 }
 
@@ -109,34 +122,122 @@ pub fn is_input_of(i: usize, gate: Gate) -> bool
     }
 }
 
-// t coins where something holds, else none.
-fn coins_if(t: usize, b: bool) -> usize
-    ensures { record { eq : result ≡ cond b t 0; le : result ≤ t } }
+// ---- what a gate brings a party
+
+// So many coins where something holds, else none.
+fn coins_if(k: usize, b: bool) -> usize
+    ensures { record { eq : result ≡ cond b k 0; le : result ≤ k } }
 {
-    if b { t } else { 0 }
+    if b { k } else { 0 }
 }
 
-// Party i's coins at a multiply gate: t if it is one of the 2t + 1 dealers.
+// Whether i is one of the parties 1 to k.
 #[tactic(auto, using(plan::proofs::Ranges::contains_is))]
-fn dealer_coins(t: usize, i: usize) -> usize
-    requires { t ≤ 14 }
-    ensures { record { eq : result ≡ cond (between 1 (t + t + 1) i) t 0; le : result ≤ t } }
+fn is_among(k: usize, i: usize) -> bool
+    requires { k ≤ 29 }
+    ensures { result ≡ between 1 k i }
 {
-    coins_if(t, (1..=t + t + 1).contains(&i))
+    (1..=k).contains(&i)
 }
 
-// Party i's coins at a gate: t at its own inputs, t at each multiply gate if it is one of the 2t + 1 dealers.
-#[tactic(auto, using(crate::proofs::Counts::coining), unfolding(plan::specs::Plans::dealings_at))]
-pub fn own_coins_at(plan: &PlanFile, i: usize, gate: Gate) -> usize
-    ensures { record { eq : result ≡ count_where (eqb i) (coin_owners_at (plan_of plan.now.bytes.now) gate); le : result ≤ 14 } }
+// Party i's draws at a random wire: one, if it is one of the parties.
+#[tactic(auto, using(crate::proofs::Counts::by_kind))]
+fn own_draws(plan: &PlanFile, i: usize) -> usize
+    ensures { record { eq : result ≡ own_draws (plan_of plan.now.bytes.now) i; le : result ≤ 1 } }
 {
-    let t = plan.header.t;
+    usize::from(is_among(plan.header.n, i))
+}
+
+// Its coins there.
+#[tactic(auto, using(crate::proofs::Counts::by_kind))]
+fn own_random_coins(plan: &PlanFile, i: usize) -> usize
+    ensures { record { eq : result ≡ own_random_coins (plan_of plan.now.bytes.now) i; le : result ≤ 14 } }
+{
+    coins_if(plan.header.t, is_among(plan.header.n, i))
+}
+
+// Its coins at a multiply gate: of one dealing if it is one of the 2t + 1 dealers, or of two, of degrees 2t and t.
+#[tactic(auto, using(crate::proofs::Counts::by_kind))]
+fn own_multiply_coins(plan: &PlanFile, i: usize) -> usize
+    ensures { record { eq : result ≡ own_multiply_coins (plan_of plan.now.bytes.now) plan.now.header.rule i; le : result ≤ 42 } }
+{
+    let h = plan.header;
+    match h.rule {
+        Rule::Reduction => coins_if(h.t, is_among(h.t + h.t + 1, i)),
+        Rule::Truncation => coins_if(3 * h.t, is_among(h.n, i)),
+    }
+}
+
+// All parties' coins at a multiply gate.
+#[tactic(auto, using(crate::proofs::Counts::by_kind))]
+fn multiply_coins(plan: &PlanFile) -> usize
+    ensures { record { eq : result ≡ multiply_coins (plan_of plan.now.bytes.now) plan.now.header.rule; le : result ≤ 630 } }
+{
+    let h = plan.header;
+    match h.rule {
+        Rule::Reduction => h.t * (h.t + h.t + 1),
+        Rule::Truncation => 3 * h.t * h.n,
+    }
+}
+
+// The rounds of a multiply gate.
+#[tactic(auto, unfolding(plan::specs::Kinds::multiply_rounds))]
+fn multiply_rounds(rule: Rule) -> usize
+    ensures { record { eq : result ≡ multiply_rounds rule; le : result ≤ 3 } }
+{
+    match rule {
+        Rule::Reduction => 1,
+        Rule::Truncation => 3,
+    }
+}
+
+// Party i's inputs at a gate: its own figure, or its draw.
+#[tactic(auto, using(crate::proofs::Counts::coining), unfolding(plan::specs::Plans::input_owners_at))]
+pub fn own_inputs_at(plan: &PlanFile, i: usize, gate: Gate) -> usize
+    ensures { record { eq : result ≡ count_where (eqb i) (input_owners_at (plan_of plan.now.bytes.now) gate); le : result ≤ 1 } }
+{
     match gate {
-        Gate::Input(dealer) => coins_if(t, i == dealer),
-        Gate::Multiply(_, _) => dealer_coins(t, i),
-        Gate::Random => coins_if(t, (1..=plan.header.n).contains(&i)),
+        Gate::Input(dealer) => usize::from(i == dealer),
+        Gate::Random => own_draws(plan, i),
         _ => 0,
     }
+}
+
+// Party i's coins at a gate.
+#[tactic(auto, using(crate::proofs::Counts::coining), unfolding(plan::specs::Plans::dealings_at))]
+pub fn own_coins_at(plan: &PlanFile, i: usize, gate: Gate) -> usize
+    ensures { record { eq : result ≡ count_where (eqb i) (coin_owners_at (plan_of plan.now.bytes.now) gate); le : result ≤ 42 } }
+{
+    match gate {
+        Gate::Input(dealer) => coins_if(plan.header.t, i == dealer),
+        Gate::Multiply(_, _) => own_multiply_coins(plan, i),
+        Gate::Random => own_random_coins(plan, i),
+        _ => 0,
+    }
+}
+
+// Party i's inputs at the gates of a tally.
+#[tactic(auto, using(crate::proofs::Sizes::summing))]
+fn inputs_in(plan: &PlanFile, i: usize, c: Tally) -> usize
+    requires { c.own + c.multiplies + c.randoms ≤ 1024 }
+    ensures { record { eq : result ≡ c.own + own_draws (plan_of plan.now.bytes.now) i * c.randoms; le : result ≤ 1024 } }
+{
+    c.own + own_draws(plan, i) * c.randoms
+}
+
+// Its coins there.
+#[tactic(auto, using(crate::proofs::Sizes::summing))]
+fn coins_in(plan: &PlanFile, i: usize, c: Tally) -> usize
+    requires { c.own + c.multiplies + c.randoms ≤ 1024 }
+    ensures { record {
+      eq : result ≡ plan.now.header.t * c.own + own_multiply_coins (plan_of plan.now.bytes.now) plan.now.header.rule i * c.multiplies
+          + own_random_coins (plan_of plan.now.bytes.now) i * c.randoms;
+      le : result ≤ 43008;
+    } }
+{
+    plan.header.t * c.own
+        + own_multiply_coins(plan, i) * c.multiplies
+        + own_random_coins(plan, i) * c.randoms
 }
 
 // ---- by a gate's kind, which its first byte gives: every gate of a plan that passes keeps its kind's rule
@@ -187,99 +288,83 @@ impl<'a> PlanGates<'a> {
         k == INPUT && is_input_of(i, self.gate(g))
     }
 
-    // Party i's coins at gate g, of kind k.
-    #[tactic(auto, using(crate::proofs::Counts::coining))]
-    fn coins(&self, i: usize, g: usize, k: usize) -> usize
-        requires g_lt_gates { g < self.now.plan.now.header.gates }
-        requires k_value { k ≡ kind_of (gate_at self.now.plan.now.bytes.now g) }
-        ensures { record {
-          eq : result ≡ count_where (eqb i) (coin_owners_at (plan_of self.now.plan.now.bytes.now) (gate_at self.now.plan.now.bytes.now g));
-          le : result ≤ 14;
-        } }
-    {
-        let t = self.plan.header.t;
-        if k == MULTIPLY {
-            return dealer_coins(t, i);
-        }
-        if is_local(k) {
-            return 0;
-        }
-        own_coins_at(self.plan, i, self.gate(g))
-    }
-
+    // A tally for party i of the gates below gate `top`, in one pass.
     #[tactic(auto, using(crate::proofs::Counts::counting))]
-    fn tally(&self, i: usize) -> Tally
-        ensures { Tallied (plan_of self.now.plan.now.bytes.now) i result }
+    fn tally_below(&self, i: usize, top: usize) -> Tally
+        requires top_le_gates { top ≤ self.now.plan.now.header.gates }
+        ensures { Tallied (take top (plan_of self.now.plan.now.bytes.now).gates) i result }
     {
         let mut tally = Tally {
             inputs: 0,
             own: 0,
             multiplies: 0,
-            coins: 0,
+            randoms: 0,
+            spends: 0,
         };
-        for g in 0..self.plan.header.gates {
+        for g in 0..top {
             let k = self.kind(g);
             tally.inputs += usize::from(k == INPUT);
             tally.own += usize::from(self.is_own(i, g, k));
             tally.multiplies += usize::from(k == MULTIPLY);
-            tally.coins += self.coins(i, g, k);
+            tally.randoms += usize::from(k == RANDOM);
+            tally.spends += usize::from(k == SPEND);
         }
         tally
     }
 
-    // Party i's coins at gates below g.
-    #[tactic(auto, using(crate::proofs::Counts::counting))]
-    fn coins_below(&self, i: usize, g: usize) -> usize
-        requires g_le_gates { g ≤ self.now.plan.now.header.gates }
-        ensures { record {
-          eq : result ≡ count_where (eqb i) (flat_map (coin_owners_at (plan_of self.now.plan.now.bytes.now)) (take g (plan_of self.now.plan.now.bytes.now).gates));
-          le : result ≤ 14336;
-        } }
+    // How many steps gate g has, where a multiply gate has so many.
+    #[tactic(auto, using(crate::proofs::Steps::stepping))]
+    fn steps(&self, multiply: usize, g: usize) -> usize
+        requires g_lt_gates { g < self.now.plan.now.header.gates }
+        requires multiply_value { multiply ≡ multiply_rounds self.now.plan.now.header.rule }
+        ensures { result ≡ length (steps_at self.now.plan.now.header.rule g (gate_at self.now.plan.now.bytes.now g)) }
     {
-        let mut k = 0;
-        for below in 0..g {
-            k += self.coins(i, below, self.kind(below));
+        let k = self.kind(g);
+        if k == MULTIPLY {
+            return multiply;
         }
-        k
+        usize::from(MULTIPLY < k)
     }
 
-    // The step of calls k + 1: that of the gate number k of those that take rounds, or the outs'.
+    // The step of calls k + 1: those of the gates that take rounds come one by one, then the outs'.
     #[tactic(auto, using(crate::proofs::Steps::stepping))]
     fn step_after(&self, k: usize) -> Step
         ensures { record { eq : result ≡ step_at (plan_of self.now.plan.now.bytes.now) (suc k); of : Stepped (plan_of self.now.plan.now.bytes.now) result } }
     {
+        let rule = self.plan.header.rule;
+        let multiply = multiply_rounds(rule);
         let mut left = k;
         for g in 0..self.plan.header.gates {
-            if MULTIPLY <= self.kind(g) {
-                if left == 0 {
-                    return step_of(g, self.gate(g));
-                }
-                left -= 1;
+            let steps = self.steps(multiply, g);
+            if left < steps {
+                return step_of(rule, g, self.gate(g), left);
             }
+            left -= steps;
         }
         Step::SendOuts
     }
 }
 
-// Whether the gates of a kind are worked on shares alone.
-#[tactic(auto, using(crate::proofs::Counts::coining))]
-fn is_local(k: usize) -> bool
-    ensures { result ≡ between 2 4 k }
+// A tally for party i of the gates below gate `top`.
+fn tally_below(plan: &PlanFile, i: usize, top: usize) -> Tally
+    requires top_le_gates { top ≤ plan.now.header.gates }
+    ensures { Tallied (take top (plan_of plan.now.bytes.now).gates) i result }
 {
-    (ADD..=OFFSET).contains(&k)
+    PlanGates::new(plan).tally_below(i, top)
 }
 
-// A plan's tally for party i, in one pass over its gates.
+// Of all gates.
+#[tactic(auto, using(crate::proofs::Counts::tallied_all))]
 pub fn tally_of(plan: &PlanFile, i: usize) -> Tally
-    ensures { Tallied (plan_of plan.now.bytes.now) i result }
+    ensures { Tallied (plan_of plan.now.bytes.now).gates i result }
 {
-    PlanGates::new(plan).tally(i)
+    tally_below(plan, i, plan.header.gates)
 }
 
 // ---- the same from the plan alone
 
 pub fn last_call(plan: &PlanFile) -> usize
-    ensures { record { eq : result ≡ last_call (plan_of plan.now.bytes.now); low : 2 ≤ result; le : result ≤ 1026 } }
+    ensures { record { eq : result ≡ last_call (plan_of plan.now.bytes.now); low : 2 ≤ result; le : result ≤ 3074 } }
 {
     Seat::new(plan, 0).last_call()
 }
@@ -291,49 +376,93 @@ pub fn own_input_count(plan: &PlanFile, i: usize) -> usize
 }
 
 pub fn own_coin_count(plan: &PlanFile, i: usize) -> usize
-    ensures { record { eq : result ≡ own_coin_count (plan_of plan.now.bytes.now) i; le : result ≤ 14336 } }
+    ensures { record { eq : result ≡ own_coin_count (plan_of plan.now.bytes.now) i; le : result ≤ 43008 } }
 {
-    tally_of(plan, i).coins
+    Seat::new(plan, i).own_coins()
 }
 
+// The inputs of a run: figures, and a draw of every party at each random wire.
 #[tactic(auto, using(crate::proofs::Sizes::sizing))]
 pub fn input_count(plan: &PlanFile) -> usize
-    ensures { record { eq : result ≡ input_count (plan_of plan.now.bytes.now); le : result ≤ 1024 } }
-{
-    tally_of(plan, 0).inputs
-}
-
-// The coins of a run: t for each input gate, and for each of the 2t + 1 dealings of each multiply gate.
-#[tactic(auto, using(crate::proofs::Sizes::sizing))]
-pub fn coin_count(plan: &PlanFile) -> usize
-    ensures { record { eq : result ≡ coin_count (plan_of plan.now.bytes.now); le : result ≤ 107520 } }
+    ensures { record { eq : result ≡ input_count (plan_of plan.now.bytes.now); le : result ≤ 15360 } }
 {
     let c = tally_of(plan, 0);
-    plan.header.t * (c.inputs + c.multiplies * (plan.header.t + plan.header.t + 1))
+    c.inputs + plan.header.n * c.randoms
 }
 
-// Party i's coins at gates below g.
+// The coins of a run.
+#[tactic(auto, using(crate::proofs::Sizes::sizing))]
+pub fn coin_count(plan: &PlanFile) -> usize
+    ensures { record { eq : result ≡ coin_count (plan_of plan.now.bytes.now); le : result ≤ 645120 } }
+{
+    let c = tally_of(plan, 0);
+    let h = plan.header;
+    h.t * c.inputs + multiply_coins(plan) * c.multiplies + h.t * h.n * c.randoms
+}
+
+// Party i's inputs at gates below g.
+#[tactic(auto, using(crate::proofs::Sizes::sizing))]
+pub fn inputs_below(plan: &PlanFile, i: usize, g: usize) -> usize
+    requires g_le_gates { g ≤ plan.now.header.gates }
+    ensures { record {
+      eq : result ≡ count_where (eqb i) (flat_map (input_owners_at (plan_of plan.now.bytes.now)) (take g (plan_of plan.now.bytes.now).gates));
+      le : result ≤ 1024;
+    } }
+{
+    inputs_in(plan, i, tally_below(plan, i, g))
+}
+
+// Its coins there.
+#[tactic(auto, using(crate::proofs::Sizes::sizing))]
 pub fn coins_below(plan: &PlanFile, i: usize, g: usize) -> usize
     requires g_le_gates { g ≤ plan.now.header.gates }
     ensures { record {
       eq : result ≡ count_where (eqb i) (flat_map (coin_owners_at (plan_of plan.now.bytes.now)) (take g (plan_of plan.now.bytes.now).gates));
-      le : result ≤ 14336;
+      le : result ≤ 43008;
     } }
 {
-    PlanGates::new(plan).coins_below(i, g)
+    coins_in(plan, i, tally_below(plan, i, g))
 }
 
 // ---- steps
 
-// The step of gate g, where it takes rounds.
-#[tactic(auto, unfolding(plan::specs::Plans::steps_at, plan::specs::Plans::multiply_steps))]
-fn step_of(g: usize, gate: Gate) -> Step
-    ensures { result ≡ get_or (steps_at Reduction g gate) 0 SendOuts }
+// Step j of a multiply gate.
+// As it is: j is the number of calls past the gate's first, so it is compared.
+#[tactic(auto, using(crate::proofs::Steps::stepping))]
+fn multiply_step(rule: Rule, g: usize, a: usize, b: usize, j: usize) -> Step
+    ensures { result ≡ get_or (multiply_steps rule g a b) j SendOuts }
+{
+    match rule {
+        Rule::Reduction => only(Step::DealProduct(g, a, b), j),
+        Rule::Truncation => match j {
+            0 => Step::DealZero(g),
+            1 => Step::DealMasked(g, a, b),
+            2 => Step::SendTruncated(g),
+            _ => Step::SendOuts,
+        },
+    }
+}
+
+// Step j of a gate that has one.
+#[tactic(auto, using(crate::proofs::Steps::stepping))]
+fn only(s: Step, j: usize) -> Step
+    ensures { result ≡ get_or (s ∷ []) j SendOuts }
+{
+    if j == 0 {
+        return s;
+    }
+    Step::SendOuts
+}
+
+// Step j of gate g.
+#[tactic(auto, using(crate::proofs::Steps::stepping), unfolding(plan::specs::Plans::steps_at))]
+fn step_of(rule: Rule, g: usize, gate: Gate, j: usize) -> Step
+    ensures { result ≡ get_or (steps_at rule g gate) j SendOuts }
 {
     match gate {
-        Gate::Multiply(a, b) => Step::DealProduct(g, a, b),
-        Gate::Random => Step::DealDraws(g),
-        Gate::Spend(a, b) => Step::OpenSpent(g, a, b),
+        Gate::Multiply(a, b) => multiply_step(rule, g, a, b, j),
+        Gate::Random => only(Step::DealDraws(g), j),
+        Gate::Spend(a, b) => only(Step::OpenSpent(g, a, b), j),
         _ => Step::SendOuts,
     }
 }

@@ -33,7 +33,8 @@ use Rattle.plan.specs.Refusals.{Checked}
 use Rattle.plan.specs.declared.Refusal.TheVariants as refusal
 use Rattle.plan.specs.Refusals.{and_then, first_of, need, unless_found}
 use Rattle.plan.specs.Plans.{Plan, party_count, kind_of, operands_of}
-use Rattle.plan.specs.File.{version_at, layout_for, field_at, gate_start, gate_place, out_place, point_place, point_at, points_placed, magic, same_bytes, between, gate_of, gate_from, gate_at, out_at, gate_ok, out_ok, gate_kept, out_kept, gate_count_at, out_count_at, n_at, t_at, p_at, parties_ok, threshold_ok, modulus_ok, layout_ok, point_kept, majority_check, points_check, plan_checks, plan_check, plan_of}
+use Rattle.plan.proofs.Layouts.{gate_read}
+use Rattle.plan.specs.File.{version_at, rule_for, layout_for, field_at, gate_start, gate_place, out_place, point_place, point_at, points_placed, magic, same_bytes, between, gate_of, gate_from, gate_at, out_at, gate_ok, out_ok, gate_kept, out_kept, gate_count_at, out_count_at, n_at, t_at, p_at, parties_ok, threshold_ok, modulus_ok, layout_ok, majority_check, points_check, plan_checks, plan_check, plan_of}
 use Rattle.plan.proofs.Layouts.{layout_rows}
 use Rattle.plan.proofs.Planned.{between-true, modulus_small, modulus_above}
 use Rattle.plan_reading.proofs.Ways.{majority-all, majority-there, points-pass}
@@ -132,7 +133,11 @@ gate-numbers v g l m =
     number_right w (kind_of g ∷ 0 ∷ []) both w (2 + w) refl ∙ ap₂ (λ (bs : List ℕ) (k : ℕ). number_at w bs k) plain (omega arith) ∙ each_at w (operands_of g) [] 1 (omega (arith, two)) m in
     ap₂ (gate_of (kind_of g) 0) a b
 
-gate_of_kind : (g : Gate) → kind_of g ≤ 5 → gate_of (kind_of g) 0 (get_or (operands_of g) 0 0) (get_or (operands_of g) 1 0) ≡ g
+-- a gate that a file may have: it is read from its kind and its operands
+abbrev pub Readable : Gate → Type 0
+Readable g = gate_of (kind_of g) 0 (get_or (operands_of g) 0 0) (get_or (operands_of g) 1 0) ≡ g
+
+gate_of_kind : (g : Gate) → kind_of g ≤ 5 → Readable g
 unfolding gate_of kind_of operands_of
 gate_of_kind (Input s) low = refl
 gate_of_kind (Add a b) low = refl
@@ -142,13 +147,18 @@ gate_of_kind (Multiply a b) low = refl
 gate_of_kind Random low = absurd (omega arith)
 gate_of_kind (Spend a b) low = absurd (omega arith)
 
+-- such is every gate that is read, whatever its bytes
+pub gate-readable : (kind second a b : ℕ) → Readable (gate_of kind second a b)
+unfolding gate_of kind_of operands_of
+gate-readable kind second a b = gate_read Readable kind second a b refl (λ e. refl) (λ e. refl) (λ e. refl) (λ e. refl) (λ e. refl) (λ e. refl)
+
 -- ---- the file
 abbrev no_out : Output
 no_out = record { party = 0; wire = 0 }
 
--- gates of the kinds that a file may have, numbers that have room in their bytes, and points 1 to n in a version without points
+-- gates that a file may have, numbers that have room in their bytes, and points 1 to n in a version without points
 pub record Roomy (v : ℕ) (plan : Plan) : Type 0 where
-  pub low : (g : ℕ) → g < length plan.gates → kind_of (get_or plan.gates g (Input 0)) ≤ 5
+  pub readable : (g : ℕ) → g < length plan.gates → Readable (get_or plan.gates g (Input 0))
   pub a_small : (g : ℕ) → g < length plan.gates → get_or (operands_of (get_or plan.gates g (Input 0))) 0 0 < span (layout_for v).field
   pub b_small : (g : ℕ) → g < length plan.gates → get_or (operands_of (get_or plan.gates g (Input 0))) 1 0 < span (layout_for v).field
   pub wire_small : (o : ℕ) → o < length plan.outs → (get_or plan.outs o no_out).wire < 65536
@@ -356,7 +366,7 @@ module _ (v : ℕ) (plan : Plan) where
           rw (version_back, gate-place-back g)
           (gate-among g l x refl
           ∙ gate-numbers v x (roomy.a_small g l) (roomy.b_small g l)
-          ∙ gate_of_kind x (roomy.low g l))
+          ∙ roomy.readable g l)
         where
           gate-among : (g : ℕ) → g < length plan.gates → (x : Gate) → x ≡ get_or plan.gates g (Input 0) → gate_from (layout_for v).field (file_as v plan) (place_in v g) ≡ gate_from (layout_for v).field (gate_bytes v x) 0
           gate-among g l x e =
@@ -399,8 +409,8 @@ module _ (v : ℕ) (plan : Plan) where
               (λ k h. ap (λ (j : ℕ). get_or (file_as v plan) j 0) (omega arith) ∙ at_point (w * i + k) ∙ ap (λ (r : List ℕ). get_or r (w * i + k) 0) (sym (append-nil point_rows)))
               ∙ (unfold points_bytes in each_at w plan.points [] i l (roomy.point_small i l some))
 
-      -- the plan, but for its rule
-      pub plan-back : plan.rule ≡ Reduction → plan_of (file_as v plan) ≡ plan
+      -- the plan, where its rule is the version's
+      pub plan-back : plan.rule ≡ rule_for v → plan_of (file_as v plan) ≡ plan
       unfolding plan_of
       plan-back rule =
           rw (
@@ -409,6 +419,7 @@ module _ (v : ℕ) (plan : Plan) where
             n_back,
             p_back,
             t_back,
+            version_back,
             ← is-tab (gate_at (file_as v plan)) (length plan.gates) plan.gates (Input 0) refl (λ g l. sym (gate-back g l)),
             ← is-tab (out_at (file_as v plan)) (length plan.outs) plan.outs no_out refl (λ o l. sym (out-back o l)),
             ← is-tab (point_at (file_as v plan)) (party_count plan) plan.points 0 (unfold party_count in refl) (λ i l. sym (point-back i (unfold party_count in l))),
@@ -471,7 +482,7 @@ module _ (n t p : ℕ) (b : Bodies) where
       unfolding plan_with
       its-room =
           record {
-            low = made.low;
+            readable = λ g l. gate_of_kind (get_or b.gates g (Input 0)) (made.low g l);
             a_small = made.a_small;
             b_small = made.b_small;
             wire_small = made.wire_small;
@@ -502,7 +513,7 @@ module _ (n t p : ℕ) (b : Bodies) where
       -- the plan that was made
       pub made-back : plan_of (file_of_plan n t p b) ≡ plan_with n t p b
       unfolding file_of_plan plan_with
-      made-back = plan-back (version_for p) (plan_with n t p b) few-gates few_outs its-room refl
+      made-back = plan-back (version_for p) (plan_with n t p b) few-gates few_outs its-room (version_cases (λ v. Reduction ≡ rule_for v) p (λ l. refl) refl)
 
 -- ---- the checks
 -- gates of the kinds that a file may have, and gates and outs that keep their rules

@@ -1,4 +1,4 @@
--- The file of a plan that passes, written in a version that has points, passes and has the same plan.
+-- The file of a plan that passes, written in a version that has points and the plan's rule, passes and has the same plan.
 --     same-plan     it reads back as the plan
 --     same-passes   no refusal falls on it
 -- Assumes nothing.
@@ -8,7 +8,7 @@ use mathlib.Core.Path.{◌≡◌, refl, sym, ap, ◌∙◌}
 use mathlib.Core.Bool.{Bool, true, false, cond, ◌&&◌}
 use mathlib.Core.List.{List}
 use native.Mathlib.Omega.{arith}
-use borrow.Author.Tests.{le-leb, ne_eqb}
+use borrow.Author.Tests.{le-leb, eqb-true, eqb-false, ne_eqb}
 use lib.Dec.{eqb, leb}
 use lib.ListN.{length, take, get_or}
 use Rattle.numbers.specs.Tables.{first_failing}
@@ -17,21 +17,22 @@ use Rattle.numbers.proofs.Bytes.{span}
 use Rattle.numbers.proofs.Searches.{first_ext}
 use Rattle.sharing_laws.proofs.Alls.{all_at}
 use Rattle.plan.specs.declared.Gate.TheVariants.{Input}
+use Rattle.plan.specs.declared.Rule.TheVariants.{Reduction, Truncation}
 use Rattle.plan.specs.declared.Layout.{Layout}
 use Rattle.plan.specs.declared.Refusal.{Refusal}
 use Rattle.plan.specs.declared.Refusal.TheVariants as refusal
 use Rattle.plan.specs.Refusals.{unless_found}
 use Rattle.plan.specs.Plans.{Plan, party_count}
-use Rattle.plan.specs.File.{magic, same_bytes, between, layout_for, gate_start, version_at, n_at, t_at, p_at, gate_count_at, out_count_at, gate_at, out_at, point_at, gate_kept, out_kept, majority_kept, point_apart, point_kept, layout_ok, majority_check, points_check, plan_checks, plan_check, plan_of}
+use Rattle.plan.specs.File.{magic, same_bytes, between, rule_for, layout_for, gate_start, version_at, n_at, t_at, p_at, gate_count_at, out_count_at, gate_at, out_at, point_at, gate_from, gate_kept, out_kept, majority_kept, point_apart, point_kept, layout_ok, majority_check, points_check, plan_checks, plan_check, plan_of}
 use Rattle.plan.proofs.Refusals.{need-true, next_passes, first_of-nil}
 use Rattle.plan.proofs.Layouts.{layout_rows}
 use Rattle.plan.proofs.Planned.{Passing, passing, laid, between-true, length_gates, length_outs}
-use Rattle.plan.proofs.Valid.{Valid, valid, plain}
+use Rattle.plan.proofs.Valid.{Valid, valid}
 use Rattle.plan_file.specs.Bodies.{started, contents, place_in, out_start, file_size, file_as, field_limit}
 use Rattle.plan_file.proofs.Writing.{limit_span}
-use Rattle.plan_file.proofs.Files.{Roomy, a_room, b_room, out_parts, field_room, file_long, version_back, n_back, t_back, p_back, gates-back, outs_back, layout-back, gate-back, out-back, point-back, plan-back}
+use Rattle.plan_file.proofs.Files.{Readable, gate-readable, Roomy, a_room, b_room, out_parts, field_room, file_long, version_back, n_back, t_back, p_back, gates-back, outs_back, layout-back, gate-back, out-back, point-back, plan-back}
 
-module _ (bs : List ℕ) (passes : plan_check bs ≡ (Ok tt)) (v : ℕ) (known : between 2 3 v ≡ true) (fits : p_at bs < field_limit v) where
+module _ (bs : List ℕ) (passes : plan_check bs ≡ (Ok tt)) (v : ℕ) (known : between 2 4 v ≡ true) (rule : (plan_of bs).rule ≡ rule_for v) (fits : p_at bs < field_limit v) where
   abbrev plan : Plan
   plan = plan_of bs
 
@@ -44,8 +45,8 @@ module _ (bs : List ℕ) (passes : plan_check bs ≡ (Ok tt)) (v : ℕ) (known :
   holds : Valid plan
   holds = valid bs passes
 
-  version : (2 ≤ v) × (v ≤ 3)
-  version = between-true 2 3 v known
+  version : (2 ≤ v) × (v ≤ 4)
+  version = between-true 2 4 v known
 
   count : party_count plan ≡ n_at bs
   unfolding plan_of party_count
@@ -78,7 +79,7 @@ module _ (bs : List ℕ) (passes : plan_check bs ≡ (Ok tt)) (v : ℕ) (known :
       let m : ℕ = span (layout_for v).field in
       let room : 65536 ≤ m = field_room v in
       record {
-        low = λ g l. (plain bs passes).kinds g;
+        readable = read-gates;
         a_small = λ g l. a_room (party_count plan) plan.p g m (omega (arith, count, n-small)) (omega (arith, p-fits)) (omega (arith, gates_few)) (get_or plan.gates g (Input 0)) (holds.gates g l);
         b_small = λ g l. b_room (party_count plan) plan.p g m (omega (arith, count, n-small)) (omega (arith, p-fits)) (omega (arith, gates_few)) (get_or plan.gates g (Input 0)) (holds.gates g l);
         wire_small = λ o l. omega (arith, gates_few, (out_parts (party_count plan) (length plan.gates) (get_or plan.outs o (record { party = 0; wire = 0 })) (holds.outs o l)).1);
@@ -86,11 +87,14 @@ module _ (bs : List ℕ) (passes : plan_check bs ≡ (Ok tt)) (v : ℕ) (known :
         first = λ e. absurd (none (sym points-wide ∙ e));
       }
     where
+      read-gates : (g : ℕ) → g < length (plan_of bs).gates → Readable (get_or (plan_of bs).gates g (Input 0))
+      read-gates g l = unfold plan_of in rw (get_or-tab (gate_at bs) (gate_count_at bs) g (Input 0) (rw (length_gates bs) at l)) (unfold gate_at in unfold gate_from in gate-readable _ _ _ _)
+
       none : (layout_for v).field ≡ 0 → ⊥
       none = layout_rows (λ l. l.field ≡ 0 → ⊥) (λ e. omega arith) (λ e. omega arith) (λ e. omega arith) v
 
   pub same-plan : plan_of file ≡ plan_of bs
-  same-plan = plan-back v plan gates_few outs_few roomy (plain bs passes).rule
+  same-plan = plan-back v plan gates_few outs_few roomy rule
 
   -- ---- its contents
   n-same : n_at file ≡ n_at bs
@@ -131,9 +135,22 @@ module _ (bs : List ℕ) (passes : plan_check bs ≡ (Ok tt)) (v : ℕ) (known :
       letters : same_bytes (take 4 file) magic ≡ true
       letters = unfold file_as in unfold contents in unfold started in unfold magic in unfold same_bytes in refl
 
+  -- the one version with the rule of truncation is that of the plan
+  fourth : v ≡ 4 → version_at bs ≡ v
+  unfolding plan_of
+  fourth e = by (eqb (version_at bs) 4) refl (rule ∙ ap rule_for e)
+    where
+      by : (b : Bool) → eqb (version_at bs) 4 ≡ b → cond b Truncation Reduction ≡ Truncation → version_at bs ≡ v
+      by true q r = eqb-true (version_at bs) 4 q ∙ sym e
+      by false q r = let z : ◌≡◌ {A = ℕ} 0 1 = cc in absurd (omega arith)
+
   versioned : between 1 3 (version_at file) ≡ true
-  unfolding between
-  versioned = rw (version_back v plan, le-leb 1 v (omega (arith, version.0)), le-leb v 3 version.1)
+  versioned = rw (version_back v plan) (by (eqb v 2) (eqb v 3) refl refl)
+    where
+      by : (a b : Bool) → eqb v 2 ≡ a → eqb v 3 ≡ b → between 1 3 v ≡ true
+      by true b e f = rw (eqb-true v 2 e) (unfold between in refl)
+      by false true e f = rw (eqb-true v 3 f) (unfold between in refl)
+      by false false e f = rw (← fourth (omega (arith, version.0, version.1, eqb-false v 2 e, eqb-false v 3 f))) checks.version
 
   laid-file : layout_ok file ≡ true
   laid-file = layout-back v plan gates_few outs_few ∙ rw (length_gates bs, length_outs bs, (laid bs checks.layout).gates, (laid bs checks.layout).outs)

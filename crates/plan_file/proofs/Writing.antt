@@ -11,7 +11,6 @@ use native.Mathlib.Nat.{mul-le-mul, min-le_left, min-le_right, min-eq_right}
 use borrow.Rule.Slice.PartMut.{put_mid}
 use Rattle.std.proofs.lemmas.Slice.{put_mid-paste}
 use native.Mathlib.Omega.{arith}
-use Rattle.std.specs.Int.{to_le_bytes}
 use native.Mathlib.Numerals.{add-one}
 use borrow.Author.Rules.{rules}
 use borrow.Author.Tests.{not-true, not-false, ltb-true, lt-ltb, le-ltb, eq-eqb, ne_eqb}

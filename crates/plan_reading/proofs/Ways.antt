@@ -21,6 +21,7 @@ use Rattle.field.specs.Field.{made_of}
 use Rattle.plan.specs.declared.Gate.{Gate}
 use Rattle.plan.specs.declared.Output.{Output}
 use Rattle.plan.specs.declared.Layout.{Layout}
+use Rattle.plan.specs.declared.Rule.{Rule}
 use Rattle.plan.specs.Planned.{HeaderOf}
 use Rattle.plan.specs.Refusals.{Checked}
 use Rattle.plan.specs.declared.Refusal.{Refusal}
@@ -29,7 +30,7 @@ use Rattle.plan.specs.Refusals.{first_of, and_then, need, unless_found}
 use Rattle.plan.specs.Plans.{multiplying}
 use Rattle.plan.proofs.Ranges.{contains_is}
 use Rattle.plan.proofs.Refusals.{and_then_passed, and_then_refused, first_of-append}
-use Rattle.plan.specs.File.{magic, same_bytes, between, parties_ok, threshold_ok, modulus_limit, modulus_ok, field_above, layout_of, field_at, gate_place, out_place, point_place, gate_at, point_at, out_ok, majority_ok, gate_kept, out_kept, majority_kept, found_none, point_apart, point_kept, points_placed, layout_ok, majority_check, points_check, plan_checks, plan_check}
+use Rattle.plan.specs.File.{magic, same_bytes, between, parties_ok, threshold_ok, modulus_limit, modulus_ok, field_above, rule_for, layout_of, field_at, gate_place, out_place, point_place, gate_at, point_at, out_ok, majority_ok, gate_kept, out_kept, majority_kept, found_none, point_apart, point_kept, points_placed, layout_ok, majority_check, points_check, plan_checks, plan_check}
 
 -- ---- an out's rule
 module _ (n gates : ℕ) (o : Output) (t : Bool) (e : t ≡ between 1 n o.party) where
@@ -300,8 +301,9 @@ module _ (s : List ℕ) (p : ℕ) (ep : p ≡ field_at s 0) (n : ℕ) (en : n �
     reading-on c ec = rw (ec, ← ep, ← en, its.0)
 
     pub reading-header :
-        (t g o : ℕ) → t ≡ get_or s 6 0 → g ≡ field_at s 2 → o ≡ field_at s 4 → HeaderOf s (record { n = n; t = t; field = f; gates = g; outs = o })
-    reading-header t g o et eg eo = record { n = en; t = et; p = its.1 ∙ ep; gates = eg; outs = eo }
+        (t g o v : ℕ) (r : Rule) → t ≡ get_or s 6 0 → g ≡ field_at s 2 → o ≡ field_at s 4 → v ≡ get_or s 4 0 → r ≡ rule_for v
+        → HeaderOf s (record { n = n; t = t; field = f; gates = g; outs = o; rule = r })
+    reading-header t g o v r et eg eo ev er = record { n = en; t = et; p = its.1 ∙ ep; gates = eg; outs = eo; rule = er ∙ ap rule_for ev }
 
 -- the four before
 module _ (s : List ℕ) (c : Checked) (ec : c ≡ first_of (take 4 (plan_checks s))) where

@@ -310,6 +310,7 @@ fn read_on(plan: &[u8]) -> Result<Header, Refusal>
         field,
         gates: plan::field(plan, 2),
         outs: plan::field(plan, 4),
+        rule: plan::rule_for(plan::byte(plan, 4)),
     })
 }
 

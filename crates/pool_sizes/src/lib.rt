@@ -18,12 +18,12 @@ use plan_counts::Seat;
 // As it is: the C interface names the lists by numbers, here and of a run.
 #[tactic(auto, using(crate::proofs::Sized::counting))]
 fn seat_count(seat: &Seat, call: usize, what: u16) -> usize
-    ensures { record { eq : result ≡ seat_count (plan_of seat.now.plan.now.bytes.now) seat.now.party call what; le : result ≤ 15360 } }
+    ensures { record { eq : result ≡ seat_count (plan_of seat.now.plan.now.bytes.now) seat.now.party call what; le : result ≤ 43008 } }
 {
     let is_made = call <= seat.last_call();
     match what {
         0 => seat.own_inputs(),
-        1 => seat.tally.coins,
+        1 => seat.own_coins(),
         2 => 1 + seat.plan.header.gates,
         3 if is_made => plan_sizes::mail_by(seat, call),
         4 if is_made => plan_sizes::written_by(seat, call),
@@ -34,7 +34,7 @@ fn seat_count(seat: &Seat, call: usize, what: u16) -> usize
 // How many numbers one of a run's lists has.
 #[tactic(auto, using(crate::proofs::Sized::counting))]
 fn run_count(plan: &PlanFile, set: u16, what: u16) -> usize
-    ensures { record { eq : result ≡ run_count (plan_of plan.now.bytes.now) set what; le : result ≤ 524288 } }
+    ensures { record { eq : result ≡ run_count (plan_of plan.now.bytes.now) set what; le : result ≤ 2097152 } }
 {
     match what {
         0 => plan_counts::input_count(plan),

@@ -83,7 +83,7 @@ none_found f false e = refl
 pub record Tiled (bs : List ℕ) (h : Header) (s : List ℕ) (k at : ℕ) : Type 0 where
   pub within : k ≤ h.n
   pub room : 8 * h.n ≤ length s
-  pub few : at ≤ 120 + 131072 * k
+  pub few : at ≤ 120 + 274432 * k
   pub start : at ≡ body_start (plan_of bs) k
   pub kept : Seeking (content_kept (plan_of bs) s) h.n k
 
@@ -124,7 +124,7 @@ module _ (bs : List ℕ) (h : Header) (pl : Planned bs h) (s : List ℕ) where
       pub tile-not : b ≡ false → Err refusal.Record ≡ need refusal.Record (record_ok (plan_of bs) s)
       tile-not e = untiled (not_found _ (eqb (length s) (record_size (plan_of bs))) k (found (content_kept (plan_of bs) s) h.n k t.kept l (sym kept-is ∙ e)) ∙ sym ok-is)
 
-      pub tile-next : not b ≡ false → size ≤ 131072 → Tiled bs h s (k + 1) (at + size)
+      pub tile-next : not b ≡ false → size ≤ 274432 → Tiled bs h s (k + 1) (at + size)
       tile-next e few = record {
         within = omega arith;
         room = t.room;

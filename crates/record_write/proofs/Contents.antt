@@ -68,19 +68,19 @@ module _ {bs : List ℕ} {h : Header} (pl : Planned bs h) where
       ap₂ (λ (n x : ℕ). 8 * n + width * x) (sym (plan_n pl)) (e ∙ ap (view_count (plan_of bs)) (everyone set es))
       ∙ sym (size_is (plan_of bs))
 
-  pub size_most : (k : ℕ) → k ≤ 524288 → 8 * h.n + width * k ≤ 2097272
+  pub size_most : (k : ℕ) → k ≤ 1097728 → 8 * h.n + width * k ≤ 4391032
   size_most k l = omega (arith, pl.n-high)
 
-  pub size_fits : (k : ℕ) → k ≤ 524288 → Fits w64 (8 * h.n + width * k)
+  pub size_fits : (k : ℕ) → k ≤ 1097728 → Fits w64 (8 * h.n + width * k)
   size_fits k l = record { fits = omega (arith, pl.n-high) }
 
-pub body_most : (k : ℕ) → k ≤ 32768 → width * k ≤ 131072
+pub body_most : (k : ℕ) → k ≤ 68608 → width * k ≤ 274432
 body_most k l = omega arith
 
-pub body_fits : (k : ℕ) → k ≤ 32768 → Fits w64 (width * k)
+pub body_fits : (k : ℕ) → k ≤ 68608 → Fits w64 (width * k)
 body_fits k l = record { fits = omega arith }
 
-pub bodies_fit : (k : ℕ) → k ≤ 524288 → Fits w64 (width * k)
+pub bodies_fit : (k : ℕ) → k ≤ 1097728 → Fits w64 (width * k)
 bodies_fit k l = record { fits = omega arith }
 
 pub contents_fit : (n : ℕ) → n ≤ 15 → Fits w64 (8 * n)
@@ -95,7 +95,7 @@ pub record Listed (plan : Plan) (n : ℕ) (d₀ d : List ℕ) (at k : ℕ) : Typ
   pub room : 8 * n ≤ length d₀
   pub long : length d ≡ length d₀
   pub place : at ≡ body_start plan k
-  pub few : at ≤ 120 + 131072 * k
+  pub few : at ≤ 120 + 274432 * k
   pub front : take (8 * k) d ≡ flat_map (content_of plan) (tab (λ i. i) k)
 
 module _ {bs : List ℕ} {h : Header} (pl : Planned bs h) where
@@ -114,11 +114,11 @@ module _ {bs : List ℕ} {h : Header} (pl : Planned bs h) where
     pub listed-few : k < h.n → k ≤ 15
     listed-few l = omega (arith, pl.n-high)
 
-    pub listed-fits : (size : ℕ) → k < h.n → size ≤ 131072 → Fits w64 (at + size)
+    pub listed-fits : (size : ℕ) → k < h.n → size ≤ 274432 → Fits w64 (at + size)
     listed-fits size l s = record { fits = omega (arith, f.few, pl.n-high) }
 
     pub listed_next :
-        (size : ℕ) (new : List ℕ) → k < h.n → size ≡ body_size (plan_of bs) (k + 1) → size ≤ 131072 → new ≡ stored (stored d (2 * k) at) (2 * k + 1) size
+        (size : ℕ) (new : List ℕ) → k < h.n → size ≡ body_size (plan_of bs) (k + 1) → size ≤ 274432 → new ≡ stored (stored d (2 * k) at) (2 * k + 1) size
         → Listed (plan_of bs) h.n d₀ new (at + size) (k + 1)
     unfolding body_start bodies_before content_of bytes_of
     listed_next size new l es s e =

@@ -22,7 +22,7 @@ fn everyone(n: usize) -> u16
 // The bytes of party i's body.
 #[tactic(auto, using(crate::proofs::Contents::sizing))]
 pub fn body_size(plan: &PlanFile, i: usize) -> usize
-    ensures { record { eq : result ≡ body_size (plan_of plan.now.bytes.now) i; le : result ≤ 131072 } }
+    ensures { record { eq : result ≡ body_size (plan_of plan.now.bytes.now) i; le : result ≤ 274432 } }
 {
     numbers::WIDTH * run_bench::checking::view_count_of(plan, i)
 }
@@ -30,7 +30,7 @@ pub fn body_size(plan: &PlanFile, i: usize) -> usize
 // The bytes of a record.
 #[tactic(auto, using(crate::proofs::Contents::sizing))]
 pub fn record_size(plan: &PlanFile) -> usize
-    ensures { record { eq : result ≡ record_size (plan_of plan.now.bytes.now); le : result ≤ 2097272 } }
+    ensures { record { eq : result ≡ record_size (plan_of plan.now.bytes.now); le : result ≤ 4391032 } }
 {
     let set = everyone(plan.header.n);
     8 * plan.header.n + numbers::WIDTH * run_bench::checking::view_count(plan, set)

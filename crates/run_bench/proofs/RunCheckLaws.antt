@@ -1,21 +1,20 @@
 -- What each way through the checks of a run says of its definition.
---     mail-total               how many numbers all steps bring a party
 --     sizing                   how long a view is
 --     Sizing                   the loop over the parties
 --     giving, running          the checks of what a run is given, and all of them
 -- Assumes nothing.
 use Rattle.std.proofs.Common.{Ok, Err}
-use mathlib.Core.Path.{◌≡◌, refl, sym, ap, ap₂, ◌∙◌}
+use mathlib.Core.Path.{◌≡◌, sym, ap, ap₂, ◌∙◌}
+use mathlib.Core.Logic.{⊎_elim}
 use mathlib.Core.Bool.{Bool, true, false, cond}
-use mathlib.Core.List.{List, [], ◌∷◌, ◌++◌, map}
+use mathlib.Core.List.{List, [], ◌∷◌}
 use Prim.Native.Nat.{ℕ, suc, ◌+◌, ◌-◌, ◌*◌, ◌<◌, ◌≤◌}
 use native.Mathlib.Numerals.{add-one}
-use native.Mathlib.Nat.{mul-zero, mul-suc, mul_comm, mul-le-mul}
+use native.Mathlib.Nat.{mul-zero, zero-mul, mul-le-mul}
 use native.Mathlib.Omega.{arith}
 use borrow.Author.Rules.{rules}
 use borrow.Author.Tests.{not-true, not-false, eq-eqb, ne_eqb}
 use lib.Dec.{eqb}
-use lib.ListN.{get_or}
 use mir.Syntax.{w64}
 use mir.Val.{Fits}
 use Rattle.numbers.specs.Tables.{count_where, total}
@@ -25,94 +24,156 @@ use Rattle.plan.specs.Refusals.{Checked}
 use Rattle.plan.specs.declared.Refusal.{Refusal}
 use Rattle.plan.specs.declared.Refusal.TheVariants as refusal
 use Rattle.plan.specs.Refusals.{and_then, first_of, need}
-use Rattle.plan.specs.declared.Gate.{Gate}
-use Rattle.plan.specs.declared.Gate.TheVariants.{Input, Add, Scale, Offset, Multiply, Random, Spend}
 use Rattle.plan.specs.declared.Rule.{Rule}
-use Rattle.plan.specs.declared.Rule.TheVariants.{Reduction}
-use Rattle.plan.specs.declared.Step.{Step}
-use Rattle.plan.specs.declared.Step.TheVariants.{DealProduct, SendOuts}
-use Rattle.plan.specs.Plans.{Plan, party_count, dealer_count, kind_of, is_kind, kind_count, is_input_of, multiply_steps, steps_at, steps_from, steps, received, input_count, coin_count, own_coin_count, own_out_count}
-use Rattle.plan.specs.File.{plan_of}
+use Rattle.plan.specs.declared.Rule.TheVariants.{Reduction, Truncation}
+use Rattle.plan.specs.Plans.{Plan, party_count, dealer_count, is_kind, kind_count, input_owners, coin_owners, input_count, own_input_count, coin_count, own_coin_count, own_out_count, per_multiply}
+use Rattle.plan.specs.Kinds.{own_multiply_coins, own_draws, own_random_coins}
+use Rattle.plan.specs.File.{between, plan_of}
 use Rattle.plan.specs.Planned.{Planned}
 use Rattle.plan_coalition.specs.Coalitions.{in_set, members_from, members, set_fits, set_ok}
 use Rattle.plan.proofs.Refusals.{and_then_passed, and_then_refused, and_then_end, first_of-append, need-true, need-false}
-use Rattle.plan.proofs.Planned.{plan_p, plan_n, plan_dealers}
-use Rattle.plan.proofs.Valid.{Plain, plain}
-use Rattle.plan_counts.proofs.Counts.{own_is}
-use Rattle.plan_counts.proofs.Sizes.{by-dealers-le, by-dealers-fits, dealt-fits}
+use Rattle.plan.proofs.Planned.{plan_p, plan_n, plan_t}
+use Rattle.plan.proofs.Valid.{plain, plain_no_7, planned_or}
+use Rattle.plan.proofs.KindCounts.{own-inputs-of, own-coins-of}
+use Rattle.plan_counts.specs.declared.Tally.{Tally}
+use Rattle.plan_counts.specs.Counts.{Tallied}
 use Rattle.plan_coalition.proofs.Coalitions.{set_ok_lem}
 use Rattle.seat_admission.specs.Parts.{list_checks}
 use Rattle.run_bench.specs.Checks.{given_checks}
 use Rattle.run_protocol.specs.Rounds.{view_count_of, view_count}
+use Rattle.run_protocol.proofs.ViewCounts.{view-count-by}
 use Rattle.run_bench.specs.BenchCalls.{run_checks}
 
--- ---- the mail of all steps
-total-append : (r : Step → ℕ) (ss us : List Step) → total (map r (ss ++ us)) ≡ total (map r ss) + total (map r us)
-unfolding total
-total-append r [] us = omega arith
-total-append r (s ∷ ss) us = omega (arith, total-append r ss us)
-
--- of gates of kinds 1 to 5, where each multiply brings d numbers
-steps-total : (r : Step → ℕ) (d : ℕ) → ((g a b : ℕ) → r (DealProduct g a b) ≡ d) → (g : ℕ) (gs : List Gate) → ((k : ℕ) → kind_of (get_or gs k (Input 0)) ≤ 5)
-    → total (map r (steps_from Reduction g gs)) ≡ d * count_where (is_kind 5) gs
-unfolding total steps_from steps_at multiply_steps count_where is_kind kind_of
-steps-total r d each g [] kinds = sym (mul-zero d)
-steps-total r d each g (Input s ∷ gs) kinds = steps-total r d each (suc g) gs (λ k. kinds (suc k))
-steps-total r d each g (Add a b ∷ gs) kinds = steps-total r d each (suc g) gs (λ k. kinds (suc k))
-steps-total r d each g (Scale a c ∷ gs) kinds = steps-total r d each (suc g) gs (λ k. kinds (suc k))
-steps-total r d each g (Offset a c ∷ gs) kinds = steps-total r d each (suc g) gs (λ k. kinds (suc k))
-steps-total r d each g (Multiply a b ∷ gs) kinds = omega (arith, each g a b, steps-total r d each (suc g) gs (λ k. kinds (suc k)), mul-suc d (count_where (is_kind 5) gs))
-steps-total r d each g (Random ∷ gs) kinds = absurd (omega (arith, kinds 0))
-steps-total r d each g (Spend a b ∷ gs) kinds = absurd (omega (arith, kinds 0))
-
-pub mail-total : (plan : Plan) → Plain plan → (i : ℕ) → total (map (received plan i) (steps plan)) ≡ kind_count plan 1 + (dealer_count plan * kind_count plan 5 + party_count plan * own_out_count plan i)
-unfolding steps total received kind_count
-mail-total plan p i =
-    omega (
-      arith,
-      total-append (received plan i) (steps_from plan.rule 0 plan.gates) (SendOuts ∷ []),
-      ap (λ (q : Rule). total (map (received plan i) (steps_from q 0 plan.gates))) p.rule,
-      steps-total (received plan i) (dealer_count plan) (λ g a b. refl) 0 plan.gates p.kinds,
-    )
-
 -- ---- how long a party's view is
+-- what a multiply gate has of a party's view, at most, where 2t is below n
+multiply-coins-few : (plan : Plan) (i : ℕ) (rule : Rule) → 3 * plan.t ≤ 21 → own_multiply_coins plan rule i ≤ 21
+unfolding own_multiply_coins
+multiply-coins-few plan i rule l = by rule
+  where
+    some : (b : Bool) (c : ℕ) → c ≤ 21 → cond b c 0 ≤ 21
+    some true c m = m
+    some false c m = omega arith
+
+    by : (r : Rule) → own_multiply_coins plan r i ≤ 21
+    by Reduction = some (between 1 (dealer_count plan) i) plan.t (omega arith)
+    by Truncation = some (between 1 (party_count plan) i) (3 * plan.t) l
+
+multiply-mail-few : (plan : Plan) (rule : Rule) → party_count plan ≤ 15 → 2 * plan.t < party_count plan → per_multiply plan rule ≤ 45
+unfolding per_multiply dealer_count
+multiply-mail-few plan Reduction l m = omega arith
+multiply-mail-few plan Truncation l m = omega arith
+
 module _ (bs : List ℕ) (h : Header) (pl : Planned bs h) where
+  abbrev plan : Plan
+  plan = plan_of bs
+
   few_outs : (o : ℕ) → o ≤ 64 → h.n * o ≤ 960
   few_outs o l = mul-le-mul {n₂ = 15} {m₂ = 64} pl.n-high l
 
   pub outs_fits : (o : ℕ) → o ≤ 64 → Fits w64 (h.n * o)
   outs_fits o l = record { fits = omega (arith, few_outs o l) }
 
-  module _ (m o k x c i : ℕ) (em : m ≡ kind_count (plan_of bs) 5) (lm : k + m ≤ 1024) (lo : o ≤ 64) where
-    pieces : k + m * (h.t + h.t + 1) ≤ 15360
-    pieces = by-dealers-le bs h pl k m em lm
+  module _ (i : ℕ) (c : Tally) (t : Tallied plan.gates i c) where
+    times : (a b k : ℕ) → b ≤ k → a * b ≤ a * k
+    times a b k q = mul-le-mul {n₁ = a} {m₁ = b} {n₂ = a} {m₂ = k} (omega arith) q
 
-    pub all-mail-fits : Fits w64 (k + m * (h.t + h.t + 1) + h.n * o)
-    all-mail-fits = record { fits = omega (arith, pieces, few_outs o lo) }
+    by_times : (a b k : ℕ) → a ≤ k → a * b ≤ k * b
+    by_times a b k q = mul-le-mul {n₁ = a} {m₁ = b} {n₂ = k} {m₂ = b} q (omega arith)
 
-    pub rest-fits : Fits w64 (k + m * (h.t + h.t + 1) + h.n * o + o)
-    rest-fits = record { fits = omega (arith, pieces, few_outs o lo) }
+    if_few : (b : Bool) (k m : ℕ) → k ≤ m → cond b k 0 ≤ m
+    if_few true k m l = l
+    if_few false k m l = omega arith
 
-    pub drawn-fits : c ≤ 14336 → Fits w64 (c + (k + m * (h.t + h.t + 1) + h.n * o + o))
-    drawn-fits lc = record { fits = omega (arith, pieces, few_outs o lo) }
+    abbrev mail : ℕ
+    mail = kind_count plan 1 + kind_count plan 5 * per_multiply plan plan.rule + kind_count plan 6 * party_count plan + kind_count plan 7 * (2 * party_count plan)
 
-    pub view_fits : c ≤ 14336 → x ≤ 1024 → Fits w64 (x + (c + (k + m * (h.t + h.t + 1) + h.n * o + o)))
-    view_fits lc lx = record { fits = omega (arith, pieces, few_outs o lo) }
+    -- a multiply gate's coins and mail
+    abbrev multiplied : ℕ
+    multiplied = own_multiply_coins plan plan.rule i * c.multiplies + c.multiplies * per_multiply plan plan.rule
 
-    pub view-few : c ≤ 14336 → x ≤ 1024 → x + (c + (k + m * (h.t + h.t + 1) + h.n * o + o)) ≤ 32768
-    view-few lc lx = omega (arith, pieces, few_outs o lo)
+    multiplied-few : multiplied ≤ 66 * c.multiplies
+    unfolding kind_count
+    multiplied-few = ⊎_elim none majority (planned_or bs h pl)
+      where
+        none : kind_count plan 5 ≡ 0 → multiplied ≤ 66 * c.multiplies
+        none e = let z : c.multiplies ≡ 0 = t.multiplies ∙ e in rw z (omega (arith, mul-zero (own_multiply_coins plan plan.rule i), zero-mul (per_multiply plan plan.rule)))
 
-    pub view-is :
-        c ≡ own_coin_count (plan_of bs) i → o ≡ own_out_count (plan_of bs) i → k ≡ kind_count (plan_of bs) 1 → x ≡ count_where (is_input_of i) (plan_of bs).gates
-        → x + (c + (k + m * (h.t + h.t + 1) + h.n * o + o)) ≡ view_count_of (plan_of bs) i
-    unfolding view_count_of
-    view-is ec eo ek ex =
-        let brought : h.n * o ≡ party_count (plan_of bs) * own_out_count (plan_of bs) i = ap₂ (λ (a b : ℕ). a * b) (sym (plan_n pl)) eo in
-        let dealt : m * (h.t + h.t + 1) ≡ dealer_count (plan_of bs) * kind_count (plan_of bs) 5 = mul_comm m (h.t + h.t + 1) ∙ ap₂ (λ (a b : ℕ). a * b) (sym (plan_dealers pl)) em in
-        omega (arith, own_is bs h pl i x ex, mail-total (plan_of bs) (plain bs pl.passes) i)
+        majority : 2 * h.t < h.n → multiplied ≤ 66 * c.multiplies
+        majority two =
+            let least : 3 * plan.t ≤ 21 = omega (arith, plan_t pl, pl.n-high) in
+            let mail-least : per_multiply plan plan.rule ≤ 45 = multiply-mail-few plan plan.rule (omega (arith, plan_n pl, pl.n-high)) (omega (arith, plan_t pl, plan_n pl)) in
+            omega (
+              arith,
+              by_times (own_multiply_coins plan plan.rule i) c.multiplies 21 (multiply-coins-few plan i plan.rule least),
+              times c.multiplies (per_multiply plan plan.rule) 45 mail-least,
+            )
+
+    spent : c.spends ≡ 0
+    unfolding kind_count
+    spent = t.spends ∙ plain_no_7 plan (plain bs pl.passes)
+
+    module _ (m k x : ℕ) (em : m ≡ mail) (ek : k ≡ own_coin_count plan i) (ex : x ≡ own_input_count plan i) where
+      coins-by : k ≡ plan.t * c.own + own_multiply_coins plan plan.rule i * c.multiplies + own_random_coins plan i * c.randoms
+      unfolding own_coin_count coin_owners
+      coins-by =
+          ek ∙ own-coins-of plan i plan.gates
+          ∙ sym (rw (t.own, t.multiplies, t.randoms) (omega (arith, zero-mul (count_where (is_kind 7) plan.gates))))
+
+      inputs-by : x ≡ c.own + own_draws plan i * c.randoms
+      unfolding own_input_count input_owners
+      inputs-by =
+          ex ∙ own-inputs-of plan i plan.gates
+          ∙ sym (rw (t.own, t.randoms) (omega (arith, zero-mul (count_where (is_kind 7) plan.gates), zero-mul (count_where (is_kind 5) plan.gates))))
+
+      mail-by : m ≡ c.inputs + c.multiplies * per_multiply plan plan.rule + c.randoms * party_count plan
+      unfolding kind_count
+      mail-by = em ∙ sym (rw (t.inputs, t.multiplies, t.randoms) (omega (arith, ap (λ (s : ℕ). s * (2 * party_count plan)) (sym t.spends ∙ spent), zero-mul (2 * party_count plan))))
+
+      gates-few : m + k + x ≤ 67584
+      unfolding own_draws own_random_coins
+      gates-few =
+          let high : party_count plan ≤ 15 = omega (arith, plan_n pl, pl.n-high) in
+          let least : plan.t ≤ 14 = omega (arith, plan_t pl, pl.threshold, pl.n-high) in
+          omega (
+            arith,
+            mail-by,
+            coins-by,
+            inputs-by,
+            multiplied-few,
+            t.few,
+            t.own_few,
+            by_times plan.t c.own 14 least,
+            times c.randoms (party_count plan) 15 high,
+            by_times (cond (between 1 (party_count plan) i) plan.t 0) c.randoms 14 (if_few (between 1 (party_count plan) i) plan.t 14 least),
+            by_times (cond (between 1 (party_count plan) i) 1 0) c.randoms 1 (if_few (between 1 (party_count plan) i) 1 1 (omega arith)),
+          )
+
+      module _ (o : ℕ) (lo : o ≤ 64) where
+        few : x + (k + (m + h.n * o + o)) ≤ 68608
+        few = omega (arith, gates-few, few_outs o lo)
+
+        pub mail-fits : Fits w64 (m + h.n * o)
+        mail-fits = record { fits = omega (arith, few) }
+
+        pub rest-fits : Fits w64 (m + h.n * o + o)
+        rest-fits = record { fits = omega (arith, few) }
+
+        pub drawn-fits : Fits w64 (k + (m + h.n * o + o))
+        drawn-fits = record { fits = omega (arith, few) }
+
+        pub view_fits : Fits w64 (x + (k + (m + h.n * o + o)))
+        view_fits = record { fits = omega (arith, few) }
+
+        pub view-few : x + (k + (m + h.n * o + o)) ≤ 68608
+        view-few = few
+
+        pub view-is : o ≡ own_out_count plan i → x + (k + (m + h.n * o + o)) ≡ view_count_of plan i
+        view-is eo =
+            let brought : h.n * o ≡ party_count plan * own_out_count plan i = ap₂ (λ (a b : ℕ). a * b) (sym (plan_n pl)) eo in
+            omega (arith, view-count-by plan i)
 
 -- As it is: answers name this set, since the check leaves their goals open by `using` alone.
-pub ruleset sizing = (rules, by-dealers-fits, dealt-fits, outs_fits, all-mail-fits, rest-fits, drawn-fits, view_fits, view-few, view-is)
+pub ruleset sizing = (rules, outs_fits, mail-fits, rest-fits, drawn-fits, view_fits, view-few, view-is)
 
 -- ---- a member's
 module _ (set i k : ℕ) (b : Bool) (e : b ≡ in_set set i) where
@@ -128,7 +189,7 @@ pub ruleset sizing_one = (rules, not-true, not-false, size-not, size_member)
 pub record Sizing (plan : Plan) (set k i : ℕ) : Type 0 where
   pub low : 1 ≤ i
   pub high : i ≤ 17
-  pub few : k + 32768 ≤ 32768 * i
+  pub few : k + 68608 ≤ 68608 * i
   pub is : k + view_count plan (members_from set i (17 - i)) ≡ view_count plan (members set)
 
 pub size_none : (plan : Plan) (set : ℕ) → Sizing plan set 0 1
@@ -147,7 +208,7 @@ module _ (plan : Plan) (set k i : ℕ) (s : Sizing plan set k i) where
       let q : 17 - i ≡ suc (17 - (i + 1)) = omega arith in
       ap (members_from set i) q ∙ ap (λ (j : ℕ). cond (in_set set i) (i ∷ members_from set j (17 - (i + 1))) (members_from set j (17 - (i + 1)))) (sym (add-one i))
 
-  pub size_next : (d : ℕ) → i ≤ 16 → d ≡ cond (in_set set i) (view_count_of plan i) 0 → d ≤ 32768 → Sizing plan set (k + d) (i + 1)
+  pub size_next : (d : ℕ) → i ≤ 16 → d ≡ cond (in_set set i) (view_count_of plan i) 0 → d ≤ 68608 → Sizing plan set (k + d) (i + 1)
   size_next d l e m = record {
     low = omega arith;
     high = omega arith;
@@ -162,7 +223,7 @@ module _ (plan : Plan) (set k i : ℕ) (s : Sizing plan set k i) where
       let e : k + view_count plan (members_from set i 0) ≡ view_count plan (members set) = ap (λ (j : ℕ). k + view_count plan (members_from set i j)) (sym q) ∙ s.is in
       omega (arith, e)
 
-  pub size_most : k ≤ 524288
+  pub size_most : k ≤ 1097728
   size_most = omega (arith, s.few, s.high)
 
 -- As it is: answers name this set, since the check leaves their goals open by `using` alone.

@@ -8,23 +8,29 @@ ghost use Rattle.run_bench.specs.Checks.{given_checks};
 ghost use Rattle.run_bench.specs.BenchCalls.{run_checks};
 
 use plan::{PlanFile, Refusal};
+use plan_counts::Seat;
 
-// The numbers of party i's view.
+// The numbers of a seat's view: its inputs and coins, what all steps bring it, and its results.
 #[tactic(auto, using(crate::proofs::RunCheckLaws::sizing))]
-pub fn view_count_of(plan: &PlanFile, i: usize) -> usize
-    ensures { record { eq : result ≡ view_count_of (plan_of plan.now.bytes.now) i; le : result ≤ 32768 } }
+fn view_by(seat: &Seat) -> usize
+    ensures { record { eq : result ≡ view_count_of (plan_of seat.now.plan.now.bytes.now) seat.now.party; le : result ≤ 68608 } }
 {
-    let tally = plan_counts::tally_of(plan, i);
-    let pieces = tally.multiplies * (plan.header.t + plan.header.t + 1);
-    let outs = plan_sizes::own_out_count(plan, i);
-    let mail = tally.inputs + pieces + plan.header.n * outs;
-    tally.own + (tally.coins + (mail + outs))
+    let outs = plan_sizes::own_out_count(seat.plan, seat.party);
+    let mail = plan_sizes::gate_mail(seat) + seat.plan.header.n * outs;
+    seat.own_inputs() + (seat.own_coins() + (mail + outs))
+}
+
+// The same from the plan alone.
+pub fn view_count_of(plan: &PlanFile, i: usize) -> usize
+    ensures { record { eq : result ≡ view_count_of (plan_of plan.now.bytes.now) i; le : result ≤ 68608 } }
+{
+    view_by(&Seat::new(plan, i))
 }
 
 // The same, where it is a member.
 #[tactic(auto, using(crate::proofs::RunCheckLaws::sizing_one))]
 pub fn member_view_count(plan: &PlanFile, set: u16, i: usize) -> usize
-    ensures { record { eq : result ≡ cond (in_set set i) (view_count_of (plan_of plan.now.bytes.now) i) 0; le : result ≤ 32768 } }
+    ensures { record { eq : result ≡ cond (in_set set i) (view_count_of (plan_of plan.now.bytes.now) i) 0; le : result ≤ 68608 } }
 {
     if plan_coalition::is_member(set, i) {
         view_count_of(plan, i)
@@ -36,7 +42,7 @@ pub fn member_view_count(plan: &PlanFile, set: u16, i: usize) -> usize
 // The numbers of a coalition's view.
 #[tactic(auto, using(crate::proofs::RunCheckLaws::sizing_all))]
 pub fn view_count(plan: &PlanFile, set: u16) -> usize
-    ensures { record { eq : result ≡ view_count (plan_of plan.now.bytes.now) (members set); le : result ≤ 524288 } }
+    ensures { record { eq : result ≡ view_count (plan_of plan.now.bytes.now) (members set); le : result ≤ 1097728 } }
 {
     let mut k: usize = 0;
     for i in 1..=16 {

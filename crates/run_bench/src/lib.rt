@@ -11,6 +11,8 @@ ghost use Rattle.run_dealings.specs.Rows.{Given};
 ghost use Rattle.run_bench.specs.BenchCalls.{bench_answer, benched_of, view_after};
 
 use plan::{PlanFile, Refusal};
+use run_dealings::Way;
+use run_tables::RunPlan;
 
 pub mod checking;
 
@@ -24,9 +26,22 @@ pub fn write_run(plan: &PlanFile, set: u16, inputs: &[u8], coins: &[u8], out: &m
     ensures { out.new ≡ bytes_of (view (plan_of plan.now.bytes.now) (members set) (numbers inputs.now) (numbers coins.now) []) }
 {
     let mut table = [0u64; 15360];
-    run_tables::fill(plan, inputs, coins, &mut table);
+    let mut rows = [0u64; 240];
+    let mut weights = [0u64; 15];
+    let mut matrix = [0u64; 225];
+    let points = seat_messages::points_of(plan);
+    let points = &points[..plan.header.n];
+    let run = RunPlan::new(
+        plan,
+        Way::Grid,
+        points,
+        &mut rows,
+        &mut weights,
+        &mut matrix,
+    );
+    run.fill(inputs, coins, &mut table);
     let used = plan.header.n * plan.header.gates;
-    run_views::write_views(plan, set, inputs, coins, &table[..used], out);
+    run_views::write_views(&run, set, inputs, coins, &table[..used], out);
 }
 
 // Runs a plan on all inputs and coins: writes the view of a coalition, its members ascending, and answers the elements sent, own included;

@@ -1,7 +1,7 @@
 -- The coins that a gate takes.
---     coins_input .. coins-spend     by its kind
+--     coins_input .. coins_else      by its kind, and by the rule
 -- Assumes nothing.
-use Prim.Native.Nat.{ℕ, ◌+◌, ◌*◌, ◌≤◌}
+use Prim.Native.Nat.{ℕ, ◌+◌, ◌*◌, ◌<◌, ◌≤◌}
 use mathlib.Core.Path.{◌≡◌, refl, sym, ap, ap₂, ◌∙◌}
 use mathlib.Core.List.{List, [], flat_map}
 use native.Mathlib.Nat.{mul-le-mul}
@@ -12,14 +12,15 @@ use mir.Syntax.{w64}
 use mir.Val.{Fits}
 use Rattle.plan.specs.declared.Gate.{Gate}
 use Rattle.plan.specs.declared.Gate.TheVariants.{Input, Add, Scale, Offset, Multiply, Random, Spend}
+use Rattle.plan.specs.declared.Rule.TheVariants.{Reduction, Truncation}
 use Rattle.plan.specs.declared.Header.{Header}
-use Rattle.plan.specs.Plans.{Plan, dealings_at, coin_owners_at}
+use Rattle.plan.specs.Plans.{Plan, kind_of, is_kind, multiplying, dealings_at, coin_owners_at}
 use Rattle.plan.specs.File.{gate_at, plan_of}
 use Rattle.plan.specs.Planned.{Planned}
-use Rattle.plan.proofs.Planned.{plan_t, plan_n, plan_dealers}
-use Rattle.plan.proofs.Valid.{plain}
+use Rattle.plan.proofs.Planned.{plan_t, plan_n, plan_rule, plan_dealers}
+use Rattle.plan.proofs.Valid.{gate_majority}
 use Rattle.run_protocol.proofs.Owners.{length_blocks}
-use Rattle.run_protocol.proofs.Dealt.{input-owners, reduction-owners, random-owners}
+use Rattle.run_protocol.proofs.Dealt.{input-owners, reduction-owners, truncation-owners, random-owners}
 
 -- ---- a gate by its kind
 -- gates of the other kinds take none
@@ -37,9 +38,13 @@ module _ (bs : List ℕ) (h : Header) (k : Planned bs h) where
   pub coins-at-input : (s : ℕ) → length (coin_owners_at (plan_of bs) (Input s)) ≡ h.t
   coins-at-input s = ap length (input-owners (plan_of bs) s) ∙ length-replicate {A = ℕ} (plan_of bs).t s ∙ plan_t k
 
-  pub coins-at-multiply : (a b : ℕ) → length (coin_owners_at (plan_of bs) (Multiply a b)) ≡ h.t * (h.t + h.t + 1)
-  coins-at-multiply a b =
-      ap length (reduction-owners (plan_of bs) a b (plain bs k.passes).rule) ∙ length_blocks (plan_of bs).t 0 _ ∙ ap₂ (λ (x y : ℕ). x * y) (plan_t k) (plan_dealers k)
+  pub coins-at-reduction : (a b : ℕ) → h.rule ≡ Reduction → length (coin_owners_at (plan_of bs) (Multiply a b)) ≡ h.t * (h.t + h.t + 1)
+  coins-at-reduction a b r =
+      ap length (reduction-owners (plan_of bs) a b (plan_rule k ∙ r)) ∙ length_blocks (plan_of bs).t 0 _ ∙ ap₂ (λ (x y : ℕ). x * y) (plan_t k) (plan_dealers k)
+
+  pub coins-at-truncation : (a b : ℕ) → h.rule ≡ Truncation → length (coin_owners_at (plan_of bs) (Multiply a b)) ≡ 3 * h.t * h.n
+  coins-at-truncation a b r =
+      ap length (truncation-owners (plan_of bs) a b (plan_rule k ∙ r)) ∙ length_blocks (3 * (plan_of bs).t) 0 _ ∙ ap₂ (λ (x y : ℕ). 3 * x * y) (plan_t k) (plan_n k)
 
   coins-at-random : length (coin_owners_at (plan_of bs) Random) ≡ h.t * h.n
   coins-at-random = ap length (random-owners (plan_of bs)) ∙ length_blocks (plan_of bs).t 0 _ ∙ ap₂ (λ (x y : ℕ). x * y) (plan_t k) (plan_n k)
@@ -51,8 +56,11 @@ module _ (bs : List ℕ) (h : Header) (k : Planned bs h) where
     pub coins_else : ((i : ℕ) → gate ≡ Input i → ⊥) → ((a b : ℕ) → gate ≡ Multiply a b → ⊥) → (gate ≡ Random → ⊥) → 0 ≡ length (coin_owners_at (plan_of bs) (gate_at bs g))
     coins_else i m r = rw (← is) (sym (ap length (no_owners (plan_of bs) gate i m r)))
 
-    pub coins_multiply : (a b : ℕ) → gate ≡ Multiply a b → h.t * (h.t + h.t + 1) ≡ length (coin_owners_at (plan_of bs) (gate_at bs g))
-    coins_multiply a b e = rw (← is, e) (sym (coins-at-multiply a b))
+    pub coins_reduction : (a b : ℕ) → gate ≡ Multiply a b → h.rule ≡ Reduction → h.t * (h.t + h.t + 1) ≡ length (coin_owners_at (plan_of bs) (gate_at bs g))
+    coins_reduction a b e r = rw (← is, e) (sym (coins-at-reduction a b r))
+
+    pub coins_truncation : (a b : ℕ) → gate ≡ Multiply a b → h.rule ≡ Truncation → 3 * h.t * h.n ≡ length (coin_owners_at (plan_of bs) (gate_at bs g))
+    coins_truncation a b e r = rw (← is, e) (sym (coins-at-truncation a b r))
 
     pub coins_random : gate ≡ Random → h.t * h.n ≡ length (coin_owners_at (plan_of bs) (gate_at bs g))
     coins_random e = rw (← is, e) (sym coins-at-random)
@@ -65,6 +73,18 @@ module _ (bs : List ℕ) (h : Header) (k : Planned bs h) where
   pub coins-fit : Fits w64 (h.t * (h.t + h.t + 1))
   coins-fit = record { fits = omega (arith, coins_few) }
 
+  -- where a gate multiplies, t is at most 7
+  module _ (g : ℕ) (gate : Gate) (l : g < h.gates) (is : gate ≡ gate_at bs g) (a b : ℕ) (e : gate ≡ Multiply a b) where
+    two : 2 * h.t < h.n
+    unfolding multiplying is_kind kind_of
+    two = gate_majority bs h k g gate l is (ap multiplying e)
+
+    pub truncation-few : 3 * h.t * h.n ≤ 406
+    truncation-few = omega (arith, mul-le-mul {n₁ = 3 * h.t} {m₁ = h.n} {n₂ = 21} {m₂ = 15} (omega (arith, two, k.n-high)) k.n-high)
+
+    pub truncation-fits : Fits w64 (3 * h.t * h.n)
+    truncation-fits = record { fits = omega (arith, truncation-few) }
+
   pub draws-few : h.t * h.n ≤ 406
   draws-few = omega (arith, mul-le-mul {n₁ = h.t} {m₁ = h.n} {n₂ = 14} {m₂ = 15} (omega (arith, k.threshold, k.n-high)) k.n-high)
 
@@ -72,4 +92,4 @@ module _ (bs : List ℕ) (h : Header) (k : Planned bs h) where
   draws-fit = record { fits = omega (arith, draws-few) }
 
 -- As it is: answers name this set, since the check leaves their goals open by `using` alone.
-pub ruleset taking_coins = (rules, coins_input, coins_multiply, coins_random, coins_else, coins_few, coins-fit, draws-few, draws-fit)
+pub ruleset taking_coins = (rules, coins_input, coins_reduction, coins_truncation, truncation-few, truncation-fits, coins_random, coins_else, coins_few, coins-fit, draws-few, draws-fit)

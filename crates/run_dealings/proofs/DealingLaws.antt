@@ -6,12 +6,12 @@
 use mathlib.Core.Path.{◌≡◌, refl, sym, ap, ap₂, ◌∙◌, fun_ext}
 use mathlib.Core.Bool.{Bool, true}
 use mathlib.Core.List.{List, [], ◌∷◌, ◌++◌, map, flat_map}
-use Prim.Native.Nat.{ℕ, zero, suc, ◌+◌, ◌-◌, ◌*◌, ◌/◌, ◌<◌, ◌≤◌}
+use Prim.Native.Nat.{ℕ, zero, suc, ◌+◌, ◌-◌, ◌*◌, ◌/◌, ◌^◌, ◌<◌, ◌≤◌}
 use native.Mathlib.Nat.{mul-le-mul}
 use native.Mathlib.Omega.{arith}
 use borrow.Author.Rules.{rules}
 use lib.ListN.{length, take, drop, set, get_or, replicate, length-append, length-take, take-append-drop}
-use lib.Seq.{take_at, drop_at, length-take-le}
+use lib.Seq.{take_at, drop_at, drop-drop, length-take-le}
 use mir.Syntax.{w64}
 use mir.Val.{Fits}
 use Rattle.numbers.specs.Tables.{tab}
@@ -33,10 +33,10 @@ use Rattle.sharing_laws.proofs.Alls.{map-tab}
 use Rattle.sharing.proofs.Coding.{plain-dot}
 use Rattle.sharing_laws.proofs.Interpolation.{length-weights}
 use Rattle.sharing_openings.proofs.Rows.{row_at, weights_below}
-use Rattle.run_dealings.specs.Rows.{terms, powers, power_rows, products_of, shared_by, mixed_at, Powered, Dealers, Weighted, Coined}
+use Rattle.run_dealings.specs.Rows.{terms, powers, power_rows, products_of, shared_by, mixed_at, Powered, Dealers, Weighted, Coined, Spaced}
 use Rattle.run_dealings.specs.Columns.{column_sum, piece_by, pieces_by, share_at}
 use Rattle.run_dealings.proofs.RowLaws.{Making, make-none, make-next, part_front, made}
-use Rattle.run_dealings.proofs.PowerLaws.{eval-powers, rows-flat}
+use Rattle.run_dealings.proofs.PowerLaws.{eval-powers, length-powers, power-row, rows-flat}
 use Rattle.run_dealings.proofs.PolynomialLaws.{length_shared, shared_short, below-cons, length-padded, polynomial_at, terms_few, terms_many, terms_within, terms_small, terms_above}
 use Rattle.run_dealings.proofs.ColumnLaws.{few_weights, powered_by, rowing, row_is, row_long, row_small}
 
@@ -132,62 +132,50 @@ unfolding tab flat_map all_below
 tab_below p F f zero h = refl
 tab_below p F f (suc n) h = append_below p (F (f 0)) (flat_map F (tab (λ i. f (suc i)) n)) (h 0 (omega arith)) (tab_below p F (λ i. f (suc i)) n (λ i l. h (suc i) (omega arith)))
 
-pub shared_below : (p t k : ℕ) → 0 < p → (vs cs : List ℕ) → all_below p vs ≡ true → all_below p (take (t * length vs) cs) ≡ true → all_below p (flat_map (padded k) (shared_by t vs cs)) ≡ true
+pub shared_below : (p t step k at : ℕ) → 0 < p → (vs cs : List ℕ) → all_below p vs ≡ true → Spaced p t step (length vs) at cs → all_below p (flat_map (padded k) (shared_by t step vs (drop at cs))) ≡ true
 unfolding shared_by
-shared_below p t k above vs cs hv hc =
-    tab_below p (padded k) (λ d. get_or vs d 0 ∷ take t (drop (t * d) cs)) (length vs)
+shared_below p t step k at above vs cs hv hc =
+    tab_below p (padded k) (λ d. get_or vs d 0 ∷ take t (drop (step * d) (drop at cs))) (length vs)
     (λ i l.
-    let own : all_below p (take t (drop (t * i) cs)) ≡ true =
-    rw (part_front cs (t * length vs) (t * i) t (row_room t i (length vs) l)) (all_below-take p t _ (all_below-drop p (t * i) (take (t * length vs) cs) hc)) in
-    padded-below p above k (get_or vs i 0 ∷ take t (drop (t * i) cs)) (below-cons p (get_or vs i 0) (take t (drop (t * i) cs)) (all_below_at p vs i hv l) own))
+    let own : all_below p (take t (drop (step * i) (drop at cs))) ≡ true = rw (drop-drop (step * i) at cs) (hc.below i l) in
+    padded-below p above k (get_or vs i 0 ∷ take t (drop (step * i) (drop at cs))) (below-cons p (get_or vs i 0) (take t (drop (step * i) (drop at cs))) (all_below_at p vs i hv l) own))
 
 -- the sum of a column is the weighted sum of the polynomials' values at its point
-module _ (p t k : ℕ) (ws vs cs : List ℕ) (wide : t < k) (many : length vs ≡ length ws) (x : ℕ) where
+module _ (p t step k : ℕ) (ws vs cs : List ℕ) (wide : t < k) (many : length vs ≡ length ws) (x : ℕ) where
   fs : List (List ℕ)
-  fs = shared_by t vs cs
+  fs = shared_by t step vs cs
 
-  each : (i : ℕ) → length (polynomial_at t k vs cs i) ≡ k
-  each i = length-padded k (get_or (shared_by t vs cs) i []) (omega (arith, shared_short t vs cs i))
+  each : (i : ℕ) → length (polynomial_at t step k vs cs i) ≡ k
+  each i = length-padded k (get_or (shared_by t step vs cs) i []) (omega (arith, shared_short t step vs cs i))
 
-  in_rows : flat_map (padded k) fs ≡ rows_of (polynomial_at t k vs cs) (length ws)
+  in_rows : flat_map (padded k) fs ≡ rows_of (polynomial_at t step k vs cs) (length ws)
   unfolding fs
-  in_rows = sym (ap (rows_of (polynomial_at t k vs cs)) (sym (length_shared t vs cs ∙ many)) ∙ rows-flat (padded k) [] (shared_by t vs cs))
+  in_rows = sym (ap (rows_of (polynomial_at t step k vs cs)) (sym (length_shared t step vs cs ∙ many)) ∙ rows-flat (padded k) [] (shared_by t step vs cs))
 
   piece_is : (d : ℕ) → d < length ws → piece_by p k (powers p x k) (flat_map (padded k) fs) d ≡ eval p (get_or fs d []) x
   unfolding piece_by fs
   piece_is d l =
-      let f : List ℕ = polynomial_at t k vs cs d in
+      let f : List ℕ = polynomial_at t step k vs cs d in
       ap (λ (r : List ℕ). dot p (powers p x k) (take k (drop (k * d) r))) in_rows
-      ∙ ap (dot p (powers p x k)) (row_at (polynomial_at t k vs cs) k each (length ws) d l)
+      ∙ ap (dot p (powers p x k)) (row_at (polynomial_at t step k vs cs) k each (length ws) d l)
       ∙ ap (λ (n : ℕ). dot p (powers p x n) f) (sym (each d))
       ∙ eval-powers p f x
-      ∙ eval-padded p k (get_or (shared_by t vs cs) d []) x
+      ∙ eval-padded p k (get_or (shared_by t step vs cs) d []) x
 
-  pub shares_mixed : share_at p k ws (flat_map (padded k) (shared_by t vs cs)) x ≡ mixed_at p ws (shared_by t vs cs) x
+  pub shares_mixed : share_at p k ws (flat_map (padded k) (shared_by t step vs cs)) x ≡ mixed_at p ws (shared_by t step vs cs) x
   unfolding share_at column_sum pieces_by mixed_at fs
   shares_mixed =
       plain-dot p ws _
       ∙ ap (dot p ws)
       (tab-ext _ _ (length ws) piece_is
-      ∙ sym (ap (map (λ f. eval p f x)) (list-tab fs []) ∙ tab-map (λ f. eval p f x) (λ i. get_or fs i []) (length fs) ∙ ap (tab (λ i. eval p (get_or fs i []) x)) (length_shared t vs cs ∙ many)))
+      ∙ sym (ap (map (λ f. eval p f x)) (list-tab fs []) ∙ tab-map (λ f. eval p f x) (λ i. get_or fs i []) (length fs) ∙ ap (tab (λ i. eval p (get_or fs i []) x)) (length_shared t step vs cs ∙ many)))
 
 module _ (p n m a b : ℕ) (table : List ℕ) where
-  of_below : Ready p → all_below p (products_of p n m a b table) ≡ true
+  pub of_below : Ready p → all_below p (products_of p n m a b table) ≡ true
   unfolding products_of
   of_below r =
       let f : ℕ → ℕ = λ j. mul p (get_or table (n * a + j) 0) (get_or table (n * b + j) 0) in
       at-all_below p (tab f m) (λ i l. rw (get_or-tab f m i 0 (rw length-tab at l)) (canon-lt (pos r.prime) (mul_canon (get_or table (n * a + i) 0) (get_or table (n * b + i) 0))))
-
--- the dealers' values
-module _ (ws points : List ℕ) (lw : length ws ≤ length points) (lp : length points ≤ 15) (vs : List ℕ) (many : length vs ≡ 15) where
-  values_long : length (take (length ws) vs) ≡ length ws
-  values_long = length-take-le (length ws) vs (omega arith)
-
-  pub values-counted : length ws ≡ length (take (length ws) vs)
-  values-counted = sym values_long
-
-  pub values_coins : (p t at : ℕ) (coins : List ℕ) → Coined p t (length ws) at (numbers coins) → at + t * length (take (length ws) vs) ≤ length coins / width
-  values_coins p t at coins c = rw values_long (omega (arith, c.room, numbers-length coins))
 
 -- k coefficients for each of the dealers
 module _ (t k : ℕ) (few : t < 8) (e : k ≡ terms t) (ws points : List ℕ) (lw : length ws ≤ length points) (lp : length points ≤ 15) where
@@ -207,8 +195,8 @@ module _ (t k : ℕ) (few : t < 8) (e : k ≡ terms t) (ws points : List ℕ) (l
     pub used-counted : k * length ws ≡ length (take (k * length ws) d)
     used-counted = sym used-long
 
-    pub values-room : (vs : List ℕ) → length vs ≡ 15 → length (take (k * length ws) d) ≡ k * length (take (length ws) vs)
-    values-room vs many = used-long ∙ ap (λ (i : ℕ). k * i) (values-counted ws points lw lp vs many)
+    pub values-room : (vs : List ℕ) → length vs ≡ length ws → length (take (k * length ws) d) ≡ k * length vs
+    values-room vs many = used-long ∙ ap (λ (i : ℕ). k * i) (sym many)
 
     module _ (ys : List ℕ) (kept : length ys ≡ length (take (k * length ws) d)) where
       ys-front : take (k * length ws) (ys ++ drop (k * length ws) d) ≡ ys
@@ -226,24 +214,56 @@ module _ (t k : ℕ) (few : t < 8) (e : k ≡ terms t) (ws points : List ℕ) (l
       pub dealt-room : terms t * length ws ≤ length (take (k * length ws) (ys ++ drop (k * length ws) d))
       dealt-room = rw (ys-sized, e) (omega arith)
 
-      module _
-          (p at n x y : ℕ) (vs coins table : List ℕ) (many : length vs ≡ 15) (is : ys ≡ flat_map (padded k) (shared_by t (take (length ws) vs) (drop at (numbers coins))))
-          (products : take (length ws) vs ≡ products_of p n (length ws) x y table) where
-        pub dealt-elements : Ready p → Coined p t (length ws) at (numbers coins) → all_below p (take (k * length ws) (ys ++ drop (k * length ws) d)) ≡ true
-        dealt-elements r c =
-            rw (ys-front, is)
-            (shared_below p t k (pos r.prime) (take (length ws) vs) (drop at (numbers coins)) (rw products (of_below p n (length ws) x y table r)) (rw (values_long ws points lw lp vs many) c.below))
+      module _ (p s step at : ℕ) (vs coins : List ℕ) (same : s ≡ t) (is : ys ≡ flat_map (padded k) (shared_by s step vs (drop at (numbers coins)))) where
+        pub dealt-elements : Ready p → all_below p vs ≡ true → Spaced p s step (length vs) at (numbers coins) → all_below p (take (k * length ws) (ys ++ drop (k * length ws) d)) ≡ true
+        dealt-elements r hv c = rw (ys-front, is) (shared_below p s step k at (pos r.prime) vs (numbers coins) hv c)
 
-        pub row-mixed : (i : ℕ) (row : List ℕ) → take i row ≡ map (share_at p (terms t) ws (take (k * length ws) (ys ++ drop (k * length ws) d))) points
-            → take i row ≡ map (mixed_at p ws (shared_by t (products_of p n (length ws) x y table) (drop at (numbers coins)))) points
-        row-mixed i row r =
+        pub row-mixed : (i : ℕ) (row : List ℕ) → length vs ≡ length ws → take i row ≡ map (share_at p (terms t) ws (take (k * length ws) (ys ++ drop (k * length ws) d))) points
+            → take i row ≡ map (mixed_at p ws (shared_by s step vs (drop at (numbers coins)))) points
+        row-mixed i row many r =
             r
             ∙ ap₂ (λ (j : ℕ) (fs : List ℕ). map (share_at p j ws fs) points) (sym e) (ys-front ∙ is)
-            ∙ ap (λ (h : ℕ → ℕ). map h points) (fun_ext (λ z. shares_mixed p t k ws (take (length ws) vs) (drop at (numbers coins)) (terms_above t k e (omega arith)) (values_long ws points lw lp vs many) z))
-            ∙ ap (λ (ss : List ℕ). map (mixed_at p ws (shared_by t ss (drop at (numbers coins)))) points) products
+            ∙ ap (λ (h : ℕ → ℕ). map h points) (fun_ext (λ z. shares_mixed p s step k ws vs (drop at (numbers coins)) (rw same (terms_above t k e (omega arith))) many z))
+
+  pub dealt-wide : (s : ℕ) → s ≡ t → s < k
+  dealt-wide s same = rw same (terms_above t k e (omega arith))
+
+pub dealt-spaced : (p t step m at : ℕ) (coins : List ℕ) → Spaced p t step m at (numbers coins) → at + step * m + t ≤ length coins / width + step
+dealt-spaced p t step m at coins c = omega (arith, c.room, numbers-length coins)
 
 -- As it is: answers name this set, since the check leaves their goals open by `using` alone.
-pub ruleset multiplying = (rules, terms_above, used_fits, used_within, used-counted, values-counted, values-room, values_coins, dealt-within, dealt-again, dealt-room, dealt-elements, row-mixed)
+-- of coins in a row, the first t of each `step`
+pub coined_spaced : (p t step m at : ℕ) (cs : List ℕ) → Coined p step m at cs → t ≤ step → Spaced p t step m at cs
+coined_spaced p t step m at cs c l = record {
+  room = omega (arith, c.room);
+  below =
+      λ d lt.
+      rw (
+        ← drop-drop (step * d) at cs,
+        part_front (drop at cs) (step * m) (step * d) t (omega (arith, row_room step d m lt)),
+      )
+      (all_below-take p t _ (all_below-drop p (step * d) (take (step * m) (drop at cs)) c.below));
+}
+
+pub ruleset weighing = (rules, used_fits, used_within, used-counted, values-room, dealt-within, dealt-again, dealt-room, dealt-elements, dealt-wide, dealt-spaced, row-mixed)
+
+-- the dealers' products
+module _ (ws points : List ℕ) (lw : length ws ≤ length points) (lp : length points ≤ 15) (vs : List ℕ) (many : length vs ≡ 15) where
+  pub values_long : length (take (length ws) vs) ≡ length ws
+  values_long = length-take-le (length ws) vs (omega arith)
+
+  pub values_spaced : (p t at : ℕ) (cs : List ℕ) → Coined p t (length ws) at cs → Spaced p t t (length (take (length ws) vs)) at cs
+  values_spaced p t at cs c = rw values_long (coined_spaced p t t (length ws) at cs c (omega arith))
+
+  module _ (p n x y : ℕ) (table : List ℕ) (products : take (length ws) vs ≡ products_of p n (length ws) x y table) where
+    pub products_below : Ready p → all_below p (take (length ws) vs) ≡ true
+    products_below r = rw products (of_below p n (length ws) x y table r)
+
+    pub products_mixed : (t : ℕ) (i : ℕ) (row cs : List ℕ) → take i row ≡ map (mixed_at p ws (shared_by t t (take (length ws) vs) cs)) points
+        → take i row ≡ map (mixed_at p ws (shared_by t t (products_of p n (length ws) x y table) cs)) points
+    products_mixed t i row cs r = rw products at r
+
+pub ruleset multiplying = (rules, values_long, values_spaced, products_below, products_mixed)
 
 -- ---- what is worked out once for a plan
 module _ (t k : ℕ) (e : k ≡ terms t) (points : List ℕ) (many : length points ≤ 15) where
@@ -337,3 +357,31 @@ module _ (p t m : ℕ) (points ws : List ℕ) (h : Dealers t points m) (w : Weig
 pub ruleset preparing = (rules, ready_positive, powers_fit, powers-within, powers-long, powers-count, powered, powers-kept, dealers_count, dealers_below, dealers_in, weights-in, weights-count, weights-long, weighted, weights-kept)
 
 pub ruleset made_ready = (rules, dealers_in, powered_for, dealers_counted, dealers_elements)
+
+-- ---- one point's powers
+module _ (p t k : ℕ) (points rows : List ℕ) (h : Powered p (terms t) points rows) (e : k ≡ terms t) (j : ℕ) (l : j < length points) where
+  pub point_row_within : k * j + k ≤ length rows
+  point_row_within = omega (arith, h.room, ap (λ (m : ℕ). m * length points) e, row_room k j (length points) l)
+
+  pub point_row_fits : length rows * 8 < 2 ^ 63 → Fits w64 (k * j)
+  point_row_fits f = record { fits = omega (arith, point_row_within) }
+
+  pub point_row_end_fits : length rows * 8 < 2 ^ 63 → Fits w64 (k * j + k)
+  point_row_end_fits f = record { fits = omega (arith, point_row_within) }
+
+  at_point : take (k * j + k - k * j) (drop (k * j) rows) ≡ powers p (get_or points j 0) k
+  at_point = let q : k * j + k - k * j ≡ k = omega arith in rw (q, e) (power-row p (terms t) points rows j h l)
+
+  at_point_long : length (take (k * j + k - k * j) (drop (k * j) rows)) ≡ k
+  at_point_long = ap length at_point ∙ length-powers p (get_or points j 0) k
+
+  pub point_row_some : t < 16 → t < length (take (k * j + k - k * j) (drop (k * j) rows))
+  point_row_some few = omega (arith, at_point_long, terms_above t k e few)
+
+  pub point_row_few : length (take (k * j + k - k * j) (drop (k * j) rows)) ≤ 16
+  point_row_few = omega (arith, at_point_long, terms_within t k e)
+
+  pub point_row_is : take (k * j + k - k * j) (drop (k * j) rows) ≡ powers p (get_or points j 0) (length (take (k * j + k - k * j) (drop (k * j) rows)))
+  point_row_is = at_point ∙ ap (powers p (get_or points j 0)) (sym at_point_long)
+
+pub ruleset finding_row = (rules, point_row_within, point_row_fits, point_row_end_fits, point_row_some, point_row_few, point_row_is)

@@ -3,5 +3,7 @@ pub mod PowerLaws
 pub mod PolynomialLaws
 pub mod ColumnLaws
 pub mod DealingLaws
+pub mod SumLaws
+pub mod TruncationLaws
 pub mod MixtureLaws
 pub mod CoinLaws

@@ -27,21 +27,21 @@ use Rattle.run_dealings.specs.Rows.{terms, shared_by}
 use Rattle.run_dealings.proofs.PowerLaws.{rows-flat}
 
 -- ---- the polynomials of dealings
-module _ (t : ℕ) (vs cs : List ℕ) where
-  pub length_shared : length (shared_by t vs cs) ≡ length vs
+module _ (t step : ℕ) (vs cs : List ℕ) where
+  pub length_shared : length (shared_by t step vs cs) ≡ length vs
   unfolding shared_by
-  length_shared = length-tab (λ d. get_or vs d 0 ∷ take t (drop (t * d) cs)) (length vs)
+  length_shared = length-tab (λ d. get_or vs d 0 ∷ take t (drop (step * d) cs)) (length vs)
 
-  pub shared_at : (i : ℕ) → i < length vs → get_or (shared_by t vs cs) i [] ≡ get_or vs i 0 ∷ take t (drop (t * i) cs)
+  pub shared_at : (i : ℕ) → i < length vs → get_or (shared_by t step vs cs) i [] ≡ get_or vs i 0 ∷ take t (drop (step * i) cs)
   unfolding shared_by
-  shared_at i l = get_or-tab (λ d. get_or vs d 0 ∷ take t (drop (t * d) cs)) (length vs) i [] l
+  shared_at i l = get_or-tab (λ d. get_or vs d 0 ∷ take t (drop (step * d) cs)) (length vs) i [] l
 
   -- each has a value and at most t coins
-  shared_by_lem : (i : ℕ) (b : Bool) → ltb i (length vs) ≡ b → length (get_or (shared_by t vs cs) i []) ≤ t + 1
-  shared_by_lem i true e = rw (shared_at i (ltb-true i (length vs) e)) (omega (arith, length-take t (drop (t * i) cs)))
-  shared_by_lem i false e = rw (get_or-eq_default (shared_by t vs cs) [] {n = i} (omega (arith, length_shared, ltb-false i (length vs) e))) (omega arith)
+  shared_by_lem : (i : ℕ) (b : Bool) → ltb i (length vs) ≡ b → length (get_or (shared_by t step vs cs) i []) ≤ t + 1
+  shared_by_lem i true e = rw (shared_at i (ltb-true i (length vs) e)) (omega (arith, length-take t (drop (step * i) cs)))
+  shared_by_lem i false e = rw (get_or-eq_default (shared_by t step vs cs) [] {n = i} (omega (arith, length_shared, ltb-false i (length vs) e))) (omega arith)
 
-  pub shared_short : (i : ℕ) → length (get_or (shared_by t vs cs) i []) ≤ t + 1
+  pub shared_short : (i : ℕ) → length (get_or (shared_by t step vs cs) i []) ≤ t + 1
   shared_short i = shared_by_lem i (ltb i (length vs)) refl
 
 -- ---- lists of elements
@@ -97,17 +97,17 @@ length-padded n f l = length-append f (replicate (n - length f) 0) ∙ omega (ar
 
 -- ---- the loop over the dealings: d polynomials stand, and `place` is past their coins
 -- polynomial i, with k coefficients
-abbrev pub polynomial_at : ℕ → ℕ → List ℕ → List ℕ → ℕ → List ℕ
-polynomial_at t k vs cs i = padded k (get_or (shared_by t vs cs) i [])
+abbrev pub polynomial_at : ℕ → ℕ → ℕ → List ℕ → List ℕ → ℕ → List ℕ
+polynomial_at t step k vs cs i = padded k (get_or (shared_by t step vs cs) i [])
 
-pub record Sharing (t k : ℕ) (vs coins : List ℕ) (at : ℕ) (d₀ d : List ℕ) (i : ℕ) : Type 0 where
-  pub written : Written (polynomial_at t k vs (drop at (numbers coins))) k (length vs) d₀ d i
+pub record Sharing (t step k : ℕ) (vs coins : List ℕ) (at : ℕ) (d₀ d : List ℕ) (i : ℕ) : Type 0 where
+  pub written : Written (polynomial_at t step k vs (drop at (numbers coins))) k (length vs) d₀ d i
 
-module _ (t k : ℕ) (vs coins : List ℕ) (at : ℕ) where
-  pub share-none : (d : List ℕ) → length d ≡ k * length vs → Sharing t k vs coins at d d 0
+module _ (t step k : ℕ) (vs coins : List ℕ) (at : ℕ) where
+  pub share-none : (d : List ℕ) → length d ≡ k * length vs → Sharing t step k vs coins at d d 0
   share-none d e = record { written = none_written _ k (length vs) d e }
 
-  module _ (d₀ d : List ℕ) (i : ℕ) (h : Sharing t k vs coins at d₀ d i) where
+  module _ (d₀ d : List ℕ) (i : ℕ) (h : Sharing t step k vs coins at d₀ d i) where
     module _ (l : i < length vs) where
       pub share-room : k * i + k ≤ length d
       share-room = room h.written l
@@ -124,33 +124,33 @@ module _ (t k : ℕ) (vs coins : List ℕ) (at : ℕ) where
       pub share-wide : t < k → t < length (take (k * i + k - k * i) (drop (k * i) d))
       share-wide w = rw (piece_long h.written l) w
 
-      module _ (here : at + t * length vs ≤ length coins / width) where
-        pub share-coins : at + t * i + t ≤ length coins / width
-        share-coins = omega (arith, row_room t i (length vs) l)
+      module _ (here : at + step * length vs + t ≤ length coins / width + step) where
+        pub share-coins : at + step * i + t ≤ length coins / width
+        share-coins = omega (arith, row_room step i (length vs) l)
 
-        pub share-step-fits : length coins < 2 ^ 64 → Fits w64 (t * i)
+        pub share-step-fits : length coins < 2 ^ 64 → Fits w64 (step * i)
         share-step-fits f = record { fits = omega (arith, share-coins) }
 
-        pub share-place-fits : length coins < 2 ^ 64 → Fits w64 (at + t * i)
+        pub share-place-fits : length coins < 2 ^ 64 → Fits w64 (at + step * i)
         share-place-fits f = record { fits = omega (arith, share-coins) }
 
       pub share-next : (ys : List ℕ) → length ys ≡ length (take (k * i + k - k * i) (drop (k * i) d))
-          → ys ≡ padded (length (take (k * i + k - k * i) (drop (k * i) d))) (get_or vs i 0 ∷ take t (drop (at + t * i) (numbers coins)))
-          → Sharing t k vs coins at d₀ (take (k * i) d ++ (ys ++ drop (k * i + k - k * i) (drop (k * i) d))) (i + 1)
+          → ys ≡ padded (length (take (k * i + k - k * i) (drop (k * i) d))) (get_or vs i 0 ∷ take t (drop (at + step * i) (numbers coins)))
+          → Sharing t step k vs coins at d₀ (take (k * i) d ++ (ys ++ drop (k * i + k - k * i) (drop (k * i) d))) (i + 1)
       share-next ys kept is = record {
         written = written_next h.written l ys kept (is ∙ ap₂ padded (piece_long h.written l) polynomial-is);
       }
         where
-          polynomial-is : get_or vs i 0 ∷ take t (drop (at + t * i) (numbers coins)) ≡ get_or (shared_by t vs (drop at (numbers coins))) i []
+          polynomial-is : get_or vs i 0 ∷ take t (drop (at + step * i) (numbers coins)) ≡ get_or (shared_by t step vs (drop at (numbers coins))) i []
           polynomial-is =
-              sym (shared_at t vs (drop at (numbers coins)) i l
-              ∙ ap (λ (r : List ℕ). get_or vs i 0 ∷ take t r) (drop-drop (t * i) at (numbers coins)))
+              sym (shared_at t step vs (drop at (numbers coins)) i l
+              ∙ ap (λ (r : List ℕ). get_or vs i 0 ∷ take t r) (drop-drop (step * i) at (numbers coins)))
 
-    pub all-shared : length vs ≤ i → d ≡ flat_map (padded k) (shared_by t vs (drop at (numbers coins)))
+    pub all-shared : length vs ≤ i → d ≡ flat_map (padded k) (shared_by t step vs (drop at (numbers coins)))
     all-shared l =
         written_done _ k (length vs) d₀ d i l h.written
-        ∙ ap (rows_of (polynomial_at t k vs (drop at (numbers coins)))) (sym (length_shared t vs (drop at (numbers coins))))
-        ∙ rows-flat (padded k) [] (shared_by t vs (drop at (numbers coins)))
+        ∙ ap (rows_of (polynomial_at t step k vs (drop at (numbers coins)))) (sym (length_shared t step vs (drop at (numbers coins))))
+        ∙ rows-flat (padded k) [] (shared_by t step vs (drop at (numbers coins)))
 
 pub ruleset sharing = (rules, share-none, share-room, share-end-fits, share-start-fits, share-wide, share-coins, share-step-fits, share-from-fits, share-place-fits, share-next, all-shared)
 

@@ -2,6 +2,7 @@
 use Rattle.std.specs.Prelude.{ℕ, zero, suc, ◌+◌, ◌*◌, ◌%◌, ◌≡◌, List, [], ◌∷◌, map, length, take, drop, get_or, set}
 use Rattle.numbers.specs.Tables.{tab}
 use Rattle.sharing_laws.specs.Interp.{weights, dot, plain_sum}
+use Rattle.sharing_laws.specs.Basis.{sum_all}
 use Rattle.plan.specs.Plans.{Plan, dealer_count, dealer_points}
 use Rattle.plan.specs.declared.Step.TheVariants.{DealProduct}
 use Rattle.seat_messages.specs.Messages.{learnt}
@@ -50,6 +51,13 @@ mixed_coefficient p k ws polynomials i = dot p ws (tab (λ d. get_or polynomials
 
 unfoldable pub mixture_of : ℕ → ℕ → List ℕ → List ℕ → List ℕ
 mixture_of p k ws polynomials = tab (mixed_coefficient p k ws polynomials) k
+
+-- coefficient i of the sum of these polynomials, and the sum with k coefficients
+unfoldable pub summed_coefficient : ℕ → List (List ℕ) → ℕ → ℕ
+summed_coefficient p fs i = sum_all p (map (λ f. get_or f i 0) fs)
+
+unfoldable pub total_of : ℕ → ℕ → List (List ℕ) → List ℕ
+total_of p k fs = tab (summed_coefficient p fs) k
 
 -- a grid with the first entries of column j set
 unfoldable pub with_column : ℕ → List ℕ → List (List ℕ) → List (List ℕ)

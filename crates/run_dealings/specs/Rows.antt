@@ -1,13 +1,17 @@
 -- The table of shares as the code keeps it: a row for each wire, in it each party's share. The code deals by powers of the points.
-use Rattle.std.specs.Prelude.{ℕ, zero, suc, ◌+◌, ◌*◌, ◌≤◌, ◌<◌, ◌≡◌, true, cond, ltb, length, take, drop, get_or}
+use Rattle.std.specs.Prelude.{Option, Some, None, ℕ, zero, suc, ◌+◌, ◌*◌, ◌≤◌, ◌<◌, ◌≡◌, true, cond, ltb, length, take, drop, get_or}
 use mathlib.Core.List.{List, ◌∷◌, map, flat_map}
 use Rattle.numbers.specs.Tables.{tab}
 use Rattle.numbers.specs.Bytes.{width, numbers, all_below}
-use Rattle.field.specs.Mod.{mul}
+use Rattle.field.specs.Mod.{add, mul}
 use Rattle.sharing_laws.specs.Poly.{eval}
 use Rattle.sharing_laws.specs.Interp.{weights, dot}
+use Rattle.sharing_laws.specs.Basis.{sum_all, row}
 use Rattle.field.specs.Field.{Ready}
+use Rattle.sharing_matrix.specs.declared.Matrix.{Matrix}
 use Rattle.plan.specs.declared.Gate.{Gate}
+use Rattle.plan.specs.declared.Rule.{Rule}
+use Rattle.plan.specs.declared.Rule.TheVariants.{Reduction, Truncation}
 use Rattle.plan.specs.declared.Header.{Header}
 use Rattle.plan.specs.Plans.{Plan, input_count, coin_count, coin_owners_at}
 use Rattle.plan.specs.File.{plan_of}
@@ -34,13 +38,26 @@ power_rows p m points = flat_map (λ x. powers p x m) points
 unfoldable pub products_of : ℕ → ℕ → ℕ → ℕ → ℕ → List ℕ → List ℕ
 products_of p n m a b table = tab (λ j. mul p (get_or table (n * a + j) 0) (get_or table (n * b + j) 0)) m
 
--- the polynomials of dealings of these values with t coins each
-unfoldable pub shared_by : ℕ → List ℕ → List ℕ → List (List ℕ)
-shared_by t vs cs = tab (λ d. get_or vs d 0 ∷ take t (drop (t * d) cs)) (length vs)
+-- the polynomials of dealings of these values with t coins each, which begin `step` coins apart
+unfoldable pub shared_by : ℕ → ℕ → List ℕ → List ℕ → List (List ℕ)
+shared_by t step vs cs = tab (λ d. get_or vs d 0 ∷ take t (drop (step * d) cs)) (length vs)
+
+-- the draws of a random wire, with which these inputs begin
+unfoldable pub draws_of : ℕ → List ℕ → List ℕ
+draws_of n xs = tab (λ d. get_or xs d 0) n
+
+-- the sum of the values of these polynomials at x
+unfoldable pub summed_at : ℕ → List (List ℕ) → ℕ → ℕ
+summed_at p fs x = sum_all p (map (λ f. eval p f x) fs)
 
 -- the weighted sum of the values of these polynomials at x
 unfoldable pub mixed_at : ℕ → List ℕ → List (List ℕ) → ℕ → ℕ
 mixed_at p ws fs x = dot p ws (map (λ f. eval p f x) fs)
+
+-- the share at x of a product by truncation: the parties' products weighed by the matrix, and the values of these polynomials, which are the dealings of
+-- 0 up to X^t
+unfoldable pub truncated_at : ℕ → ℕ → List ℕ → List ℕ → List (List ℕ) → ℕ → ℕ
+truncated_at p t points vs fs x = add p (dot p (row p t points x) vs) (summed_at p fs x)
 
 -- how many coefficients a dealing of t coins is worked with, for t below 16
 unfoldable pub terms : ℕ → ℕ
@@ -73,10 +90,27 @@ pub record Fitted (bs : List ℕ) (h : Header) (p t : ℕ) (points ws : List ℕ
   pub are : points ≡ (plan_of bs).points
   pub weighs : ws ≡ weights p 0 (take (t + t + 1) points)
 
+-- a matrix among the points of such dealings
+pub record Cutting (p t : ℕ) (points : List ℕ) (m : Matrix) : Type 0 where
+  pub field : m.sums.field.p ≡ p
+  pub threshold : m.t ≡ t
+  pub are : m.points.now ≡ points
+
+-- what is kept for a rule: such a matrix for truncation, and none for degree reduction
+pub record Ruling (rule : Rule) (p t : ℕ) (points : List ℕ) (kept : Option Matrix) : Type 0 where
+  pub none : kept ≡ None → rule ≡ Reduction
+  pub some : (m : Matrix) → kept ≡ Some m → rule ≡ Truncation
+  pub cuts : (m : Matrix) → kept ≡ Some m → Cutting p t points m
+
 -- t coins for each of m dealings stand from place `at` on, and are below p
 pub record Coined (p t m at : ℕ) (cs : List ℕ) : Type 0 where
   pub room : at + t * m ≤ length cs
   pub below : all_below p (take (t * m) (drop at cs)) ≡ true
+
+-- t coins of each of m dealings stand, those of dealing d from number at + step * d on, and are below p
+pub record Spaced (p t step m at : ℕ) (cs : List ℕ) : Type 0 where
+  pub room : at + step * m + t ≤ length cs + step
+  pub below : (d : ℕ) → d < m → all_below p (take t (drop (at + step * d) cs)) ≡ true
 
 -- row w of a table stands, with elements
 pub record Rowed (p n w : ℕ) (table : List ℕ) : Type 0 where

@@ -5,16 +5,19 @@ ghost use Rattle.std.specs.Prelude.{ℕ, ◌≡◌, true, ◌+◌, ◌-◌, ◌*
 ghost use mathlib.Core.List.{◌∷◌, map, flat_map};
 ghost use Rattle.numbers.specs.Tables.{tab};
 ghost use Rattle.numbers.specs.Bytes.{width, numbers, all_below};
+ghost use Rattle.field.specs.Mod.{add};
 ghost use Rattle.field.specs.Field.{Is};
 ghost use Rattle.sharing_laws.specs.Poly.{eval, padded};
 ghost use Rattle.sharing_laws.specs.Interp;
+ghost use Rattle.sharing_matrix.specs.Matrix.{applied};
 ghost use Rattle.plan.specs.Plans.{coin_owners_at};
 ghost use Rattle.plan.specs.File.{gate_at, plan_of};
-ghost use Rattle.run_dealings.specs.Rows.{terms, powers, power_rows, products_of, shared_by, mixed_at, Powered, Dealers, Weighted, Coined, Rowed};
-ghost use Rattle.run_dealings.specs.Columns.{pieces_by, column_at, column_sum, share_at, mixed_coefficient, mixture_of, with_column, with_columns};
+ghost use Rattle.run_dealings.specs.Rows.{terms, powers, power_rows, products_of, shared_by, draws_of, mixed_at, summed_at, truncated_at, Powered, Dealers, Weighted, Cutting, Coined, Spaced, Rowed};
+ghost use Rattle.run_dealings.specs.Columns.{pieces_by, column_at, column_sum, share_at, mixed_coefficient, mixture_of, summed_coefficient, total_of, with_column, with_columns};
 
 use field::{Field, Sums};
-use plan::{Gate, PlanFile};
+use plan::{Gate, PlanFile, Rule};
+use sharing_matrix::Matrix;
 
 // ---- what is worked out once for a plan
 
@@ -115,17 +118,56 @@ fn polynomial(value: u64, coins: &[u8], at: usize, t: usize, out: &mut [u64])
     }
 }
 
-// The polynomials of the dealings of these values, each with its own t coins and k coefficients, one after the other.
+// Dealings of values, with t coins of a list each: those of dealing d begin at number at + step * d.
+#[derive(Clone, Copy)]
+pub struct Dealt<'a> {
+    pub values: &'a [u64],
+    pub coins: &'a [u8],
+    pub t: usize,
+    pub at: usize,
+    pub step: usize,
+}
+
+// The polynomials of dealings, k coefficients each, one after the other.
 #[tactic(auto, using(crate::proofs::PolynomialLaws::sharing))]
-fn polynomials(t: usize, k: usize, values: &[u64], coins: &[u8], at: usize, out: &mut [u64])
-    requires t_lt_k { t < k }
-    requires values_in_bounds { at + t * length values.now ≤ length coins.now / width }
-    requires out_len { length out.old ≡ k * length values.now }
-    ensures { out.new ≡ flat_map (padded k) (shared_by t values.now (drop at (numbers coins.now))) }
+fn polynomials(dealt: &Dealt, k: usize, out: &mut [u64])
+    requires t_lt_k { dealt.now.t < k }
+    requires values_in_bounds { dealt.now.at + dealt.now.step * length dealt.now.values.now + dealt.now.t ≤ length dealt.now.coins.now / width + dealt.now.step }
+    requires out_len { length out.old ≡ k * length dealt.now.values.now }
+    ensures { out.new ≡ flat_map (padded k) (shared_by dealt.now.t dealt.now.step dealt.now.values.now (drop dealt.now.at (numbers dealt.now.coins.now))) }
 {
-    for (d, value) in values.iter().enumerate() {
+    for (d, value) in dealt.values.iter().enumerate() {
         let from = k * d;
-        polynomial(*value, coins, at + t * d, t, &mut out[from..from + k]);
+        let at = dealt.at + dealt.step * d;
+        polynomial(*value, dealt.coins, at, dealt.t, &mut out[from..from + k]);
+    }
+}
+
+// Coefficient i of the sum of the polynomials of dealings.
+#[tactic(auto, using(crate::proofs::SumLaws::summing))]
+fn summed_coefficient(f: Field, dealt: &Dealt, i: usize) -> u64
+    requires values_value { all_below f.p dealt.now.values.now ≡ true }
+    requires spaced { Spaced f.p dealt.now.t dealt.now.step (length dealt.now.values.now) dealt.now.at (numbers dealt.now.coins.now) }
+    ensures { Is f.p (summed_coefficient f.p (shared_by dealt.now.t dealt.now.step dealt.now.values.now (drop dealt.now.at (numbers dealt.now.coins.now))) i) result }
+{
+    let coins = dealt.coins;
+    let mut sum: u64 = 0;
+    for (d, value) in dealt.values.iter().enumerate() {
+        let at = dealt.at + dealt.step * d;
+        sum = f.add(sum, coefficient(*value, coins, at, dealt.t, i));
+    }
+    sum
+}
+
+// The sum of the polynomials of dealings.
+#[tactic(auto, using(crate::proofs::SumLaws::filling_sum))]
+fn sum_polynomials(f: Field, dealt: &Dealt, out: &mut [u64])
+    requires values_value { all_below f.p dealt.now.values.now ≡ true }
+    requires spaced { Spaced f.p dealt.now.t dealt.now.step (length dealt.now.values.now) dealt.now.at (numbers dealt.now.coins.now) }
+    ensures { out.new ≡ total_of f.p (length out.old) (shared_by dealt.now.t dealt.now.step dealt.now.values.now (drop dealt.now.at (numbers dealt.now.coins.now))) }
+{
+    for (i, c) in out.iter_mut().enumerate() {
+        *c = summed_coefficient(f, dealt, i);
     }
 }
 
@@ -161,7 +203,30 @@ pub fn products(f: Field, n: usize, m: usize, a: usize, b: usize, table: &[u64])
     row_by(m, |j| f.mul(table[left + j], table[right + j]))
 }
 
-// How a product is worked: on the grid of all pieces, or by the sum of the dealers' polynomials, where no piece is seen.
+// The sum of two rows, entry by entry.
+fn add_rows(f: Field, left: &[u64], right: &[u64]) -> [u64; 15]
+    requires left_value { all_below f.p left.now ≡ true }
+    requires right_value { all_below f.p right.now ≡ true }
+    requires lengths { length left.now ≡ length right.now }
+    requires left_in_bounds { length left.now ≤ 15 }
+    ensures { take (length left.now) result ≡ tab (λ j. add f.p (get_or left.now j 0) (get_or right.now j 0)) (length left.now) }
+{
+    row_by(left.len(), |j| f.add(left[j], right[j]))
+}
+
+// ---- random wires
+
+// The draws of a random wire, with which the inputs begin.
+pub fn draws(n: usize, inputs: &[u8]) -> [u64; 15]
+    requires { n ≤ 15 }
+    ensures { take n result ≡ draws_of n (numbers inputs.now) }
+{
+    row_by(n, |j| numbers::read(inputs, j))
+}
+
+// ---- how dealings are worked
+
+// How a product is worked by degree reduction: on the grid of all pieces, or by the sum of the dealers' polynomials, where no piece is seen.
 #[derive(Clone, Copy)]
 pub enum Way {
     Grid,
@@ -333,6 +398,22 @@ impl<'a> Dealings<'a> {
         }
     }
 
+    // The power row of point j.
+    #[tactic(auto, using(crate::proofs::DealingLaws::finding_row))]
+    pub fn power_row(&self, j: usize) -> &'a [u64]
+        requires { j < length self.now.points.now }
+        ensures { record {
+          some : self.now.t < length result.now;
+          few : length result.now ≤ 16;
+          are : result.now ≡ powers self.now.sums.field.p (get_or self.now.points.now j 0) (length result.now);
+        } }
+    {
+        let k = terms(self.t);
+        let at = k * j;
+        let rows = self.rows;
+        &rows[at..at + k]
+    }
+
     // The pieces of a dealing: the polynomial's values at the points, by their power rows.
     #[tactic(auto, using(crate::proofs::DealingLaws::dealing))]
     fn dealing(&self, polynomial: &[u64]) -> [u64; 15]
@@ -364,9 +445,121 @@ impl<'a> Dealings<'a> {
         self.dealing(&dealt[..k])
     }
 
-    // A multiply gate's row: the dealers' products are dealt, and each receiver's pieces weighed and summed.
+    // The row of these dealings where each receiver's pieces are summed: the sum of the polynomials is dealt.
+    #[tactic(auto, using(crate::proofs::SumLaws::summed_sharing))]
+    fn summed_row(&self, dealt: &Dealt) -> [u64; 15]
+        requires t_value { dealt.now.t ≡ self.now.t }
+        requires values_value { all_below self.now.sums.field.p dealt.now.values.now ≡ true }
+        requires spaced { Spaced self.now.sums.field.p dealt.now.t dealt.now.step (length dealt.now.values.now) dealt.now.at (numbers dealt.now.coins.now) }
+        ensures { take (length self.now.points.now) result ≡ map (summed_at self.now.sums.field.p (shared_by dealt.now.t dealt.now.step dealt.now.values.now (drop dealt.now.at (numbers dealt.now.coins.now)))) self.now.points.now }
+    {
+        let k = terms(self.t);
+        let mut sum = [0u64; 16];
+        sum_polynomials(self.sums.field, dealt, &mut sum[..k]);
+        self.dealing(&sum[..k])
+    }
+
+    // A random wire's row: all parties deal their draws, with which the inputs begin, and each receiver's pieces are summed.
+    #[tactic(auto, using(crate::proofs::SumLaws::drawing))]
+    pub fn random_row(&self, inputs: &[u8], coins: &[u8], at: usize) -> [u64; 15]
+        requires inputs_value { all_below self.now.sums.field.p (numbers inputs.now) ≡ true }
+        requires coined { Coined self.now.sums.field.p self.now.t (length self.now.points.now) at (numbers coins.now) }
+        ensures { take (length self.now.points.now) result ≡ map (summed_at self.now.sums.field.p (shared_by self.now.t self.now.t (draws_of (length self.now.points.now) (numbers inputs.now)) (drop at (numbers coins.now)))) self.now.points.now }
+    {
+        let n = self.points.len();
+        let draws = draws(n, inputs);
+        let dealt = Dealt {
+            values: &draws[..n],
+            coins,
+            t: self.t,
+            at,
+            step: self.t,
+        };
+        self.summed_row(&dealt)
+    }
+
+    // What the matrix makes of the products of the parties' shares.
+    #[tactic(auto, using(crate::proofs::TruncationLaws::cutting_products))]
+    fn cut_products(&self, matrix: &Matrix, a: usize, b: usize, table: &[u64]) -> [u64; 15]
+        requires cutting { Cutting self.now.sums.field.p self.now.t self.now.points.now matrix.now }
+        requires rowed { Rowed self.now.sums.field.p (length self.now.points.now) a table.now }
+        requires rowed_2 { Rowed self.now.sums.field.p (length self.now.points.now) b table.now }
+        ensures { take (length self.now.points.now) result ≡ applied self.now.sums.field.p self.now.t self.now.points.now (products_of self.now.sums.field.p (length self.now.points.now) (length self.now.points.now) a b table.now) }
+    {
+        let n = self.points.len();
+        let products = products(self.sums.field, n, n, a, b, table);
+        let mut row = [0u64; 15];
+        matrix.shares(&products[..n], &mut row[..n]);
+        row
+    }
+
+    // Every receiver's sum of the parties' dealings of 0 up to X^t, by their first t coins. A party's coins of a multiply gate are 3t.
+    #[tactic(auto, using(crate::proofs::TruncationLaws::masking))]
+    fn zeros_row(&self, coins: &[u8], at: usize) -> [u64; 15]
+        requires { Coined self.now.sums.field.p (3 * self.now.t) (length self.now.points.now) at (numbers coins.now) }
+        ensures { take (length self.now.points.now) result ≡ map (summed_at self.now.sums.field.p (shared_by self.now.t (3 * self.now.t) (replicate (length self.now.points.now) 0) (drop at (numbers coins.now)))) self.now.points.now }
+    {
+        let zeros = [0u64; 15];
+        let dealt = Dealt {
+            values: &zeros[..self.points.len()],
+            coins,
+            t: self.t,
+            at,
+            step: 3 * self.t,
+        };
+        self.summed_row(&dealt)
+    }
+
+    // A multiply gate's row by truncation. No piece is seen in it, so there is no grid; nor is a coin in it of the masked shares' dealings.
+    #[tactic(auto, using(crate::proofs::TruncationLaws::truncating))]
+    pub fn truncated_row(
+        &self,
+        matrix: &Matrix,
+        a: usize,
+        b: usize,
+        coins: &[u8],
+        at: usize,
+        table: &[u64],
+    ) -> [u64; 15]
+        requires cutting { Cutting self.now.sums.field.p self.now.t self.now.points.now matrix.now }
+        requires coined { Coined self.now.sums.field.p (3 * self.now.t) (length self.now.points.now) at (numbers coins.now) }
+        requires rowed { Rowed self.now.sums.field.p (length self.now.points.now) a table.now }
+        requires rowed_2 { Rowed self.now.sums.field.p (length self.now.points.now) b table.now }
+        ensures { take (length self.now.points.now) result ≡ map (truncated_at self.now.sums.field.p self.now.t self.now.points.now (products_of self.now.sums.field.p (length self.now.points.now) (length self.now.points.now) a b table.now) (shared_by self.now.t (3 * self.now.t) (replicate (length self.now.points.now) 0) (drop at (numbers coins.now)))) self.now.points.now }
+    {
+        let n = self.points.len();
+        let products = self.cut_products(matrix, a, b, table);
+        let zeros = self.zeros_row(coins, at);
+        add_rows(self.sums.field, &products[..n], &zeros[..n])
+    }
+
+    // The row of these dealings: each receiver's pieces are weighed and summed.
     // As it is: the way is kept with the dealings. A closure would be a type parameter of `Dealings` and of each struct that keeps one, and its contract
     // would be the one that both methods have.
+    #[tactic(auto, using(crate::proofs::DealingLaws::weighing))]
+    pub fn weighed_row(&self, dealt: &Dealt) -> [u64; 15]
+        requires t_bound { self.now.t < 8 }
+        requires t_value { dealt.now.t ≡ self.now.t }
+        requires values_len { length dealt.now.values.now ≡ length self.now.weights.now }
+        requires values_value { all_below self.now.sums.field.p dealt.now.values.now ≡ true }
+        requires spaced { Spaced self.now.sums.field.p dealt.now.t dealt.now.step (length dealt.now.values.now) dealt.now.at (numbers dealt.now.coins.now) }
+        ensures { take (length self.now.points.now) result ≡ map (mixed_at self.now.sums.field.p self.now.weights.now (shared_by dealt.now.t dealt.now.step dealt.now.values.now (drop dealt.now.at (numbers dealt.now.coins.now)))) self.now.points.now }
+    {
+        let k = terms(self.t);
+        let used = k * self.weights.len();
+        let mut room = [0u64; 120];
+        polynomials(dealt, k, &mut room[..used]);
+        let product = Product {
+            dealings: self,
+            polynomials: &room[..used],
+        };
+        match self.way {
+            Way::Grid => product.gridded(),
+            Way::Sum => product.mixed(),
+        }
+    }
+
+    // A multiply gate's row: that of the dealings of the dealers' products.
     #[tactic(auto, using(crate::proofs::DealingLaws::multiplying))]
     pub fn multiply_row(
         &self,
@@ -380,29 +573,18 @@ impl<'a> Dealings<'a> {
         requires coined { Coined self.now.sums.field.p self.now.t (length self.now.weights.now) at (numbers coins.now) }
         requires rowed { Rowed self.now.sums.field.p (length self.now.points.now) a table.now }
         requires rowed_2 { Rowed self.now.sums.field.p (length self.now.points.now) b table.now }
-        ensures { take (length self.now.points.now) result ≡ map (mixed_at self.now.sums.field.p self.now.weights.now (shared_by self.now.t (products_of self.now.sums.field.p (length self.now.points.now) (length self.now.weights.now) a b table.now) (drop at (numbers coins.now)))) self.now.points.now }
+        ensures { take (length self.now.points.now) result ≡ map (mixed_at self.now.sums.field.p self.now.weights.now (shared_by self.now.t self.now.t (products_of self.now.sums.field.p (length self.now.points.now) (length self.now.weights.now) a b table.now) (drop at (numbers coins.now)))) self.now.points.now }
     {
         let dealers = self.weights.len();
         let products = products(self.sums.field, self.points.len(), dealers, a, b, table);
-        let k = terms(self.t);
-        let used = k * dealers;
-        let mut dealt = [0u64; 120];
-        polynomials(
-            self.t,
-            k,
-            &products[..dealers],
+        let dealt = Dealt {
+            values: &products[..dealers],
             coins,
+            t: self.t,
             at,
-            &mut dealt[..used],
-        );
-        let product = Product {
-            dealings: self,
-            polynomials: &dealt[..used],
+            step: self.t,
         };
-        match self.way {
-            Way::Grid => product.gridded(),
-            Way::Sum => product.mixed(),
-        }
+        self.weighed_row(&dealt)
     }
 }
 
@@ -416,7 +598,10 @@ pub fn coins_taken(plan: &PlanFile, g: usize) -> usize
     let t = plan.header.t;
     match plan.gate(g) {
         Gate::Input(_) => t,
-        Gate::Multiply(_, _) => t * (t + t + 1),
+        Gate::Multiply(_, _) => match plan.header.rule {
+            Rule::Reduction => t * (t + t + 1),
+            Rule::Truncation => 3 * t * plan.header.n,
+        },
         Gate::Random => t * plan.header.n,
         _ => 0,
     }

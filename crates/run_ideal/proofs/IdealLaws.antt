@@ -1,50 +1,75 @@
 -- What each way through the code of the plan's values says of its definition.
 --     taking, valuing           the inputs that a gate takes, and its value
---     no_random                 no plan file has a random wire
+--     no-spend                  no plan file has a gate that spends a triple
+--     drawing                   the sum of the draws
 --     taken_next                how much of a run's list the gates below gate g own, one gate more
 --     Worked, working           the values of all wires
 -- Assumes nothing.
 use mathlib.Core.Path.{◌≡◌, refl, sym, ap, ap₂, ◌∙◌}
-use mathlib.Core.Bool.{true}
+use mathlib.Core.Bool.{Bool, true, false, cond}
 use mathlib.Core.List.{List, [], ◌∷◌, ◌++◌, flat_map}
-use Prim.Native.Nat.{ℕ, suc, ◌+◌, ◌*◌, ◌<◌, ◌≤◌}
+use Prim.Native.Nat.{ℕ, zero, suc, ◌+◌, ◌*◌, ◌<◌, ◌≤◌}
 use native.Mathlib.Numerals.{add-one}
 use native.Mathlib.Nat.{add-zero}
 use native.Mathlib.Omega.{arith}
 use borrow.Author.Rules.{rules}
 use borrow.Author.Tests.{lt-ltb}
-use lib.ListN.{length, get_or, take, drop, drop_of_length-le, set, length-set, length-append, get_or-eq_default}
-use lib.Seq.{take-suc, take-suc-set, length-take-le, get_or-drop, drop-drop, drop-cons}
+use lib.ListN.{length, get_or, take, drop, drop_of_length-le, set, length-set, length-append, length-take, get_or-eq_default}
+use lib.Seq.{take-suc, take-suc-set, length-take-le, get_or-take, get_or-drop, drop-drop, drop-cons}
 use Rattle.numbers.specs.Bytes.{all_below}
-use Rattle.numbers.proofs.Tables.{length-tab}
-use Rattle.numbers.proofs.Below.{append_below}
+use Rattle.numbers.specs.Tables.{tab, count_where}
+use Rattle.numbers.proofs.Tables.{length-tab, tab-ext}
+use Rattle.numbers.proofs.Below.{append_below, all_below-drop}
 use Rattle.field.specs.Mod.{add, mul}
 use Rattle.field.specs.Field.{Is, Ready}
 use Rattle.sharing.proofs.Coding.{entry_below}
+use Rattle.sharing_laws.specs.Basis.{sum_all}
 use Rattle.sharing_laws.proofs.Lists.{flat_map-append}
+use Rattle.sharing_laws.proofs.Sums.{adding}
 use Rattle.plan.specs.declared.Gate.{Gate}
 use Rattle.plan.specs.declared.Gate.TheVariants.{Input, Add, Scale, Offset, Multiply, Random, Spend}
 use Rattle.plan.specs.declared.Header.{Header}
-use Rattle.plan.specs.Plans.{Plan, parties, kind_of, input_owners_at}
+use Rattle.plan.specs.Plans.{Plan, parties, kind_of, is_kind, kind_count, input_owners_at}
 use Rattle.plan.specs.File.{gate_at, plan_of}
 use Rattle.plan.specs.Planned.{Planned}
 use Rattle.plan.proofs.Planned.{plan_n, plan_p, plan_gates, plan_gate}
-use Rattle.plan.proofs.Valid.{plain, planned-ready, gate-kept, scale_constant, offset_constant}
+use Rattle.plan.proofs.Valid.{plain, plain_no_7, planned-ready, gate-kept, scale_constant, offset_constant}
 use Rattle.run_protocol.specs.Ideal.{inputs_taken, gate_value, values_from, values}
+use Rattle.run_protocol.proofs.Dealings.{sum-padded}
+
+-- ---- a wire of a list
+pub wire-none : (wires : List ℕ) (w : ℕ) → length wires ≤ w → 0 ≡ get_or wires w 0
+wire-none wires w l = sym (get_or-eq_default wires 0 l)
+
+pub wire_below : (p : ℕ) (wires : List ℕ) (w r : ℕ) → Ready p → all_below p wires ≡ true → r ≡ get_or wires w 0 → r < p
+wire_below p wires w r k h e = rw e (entry_below p wires w k h)
+
+-- ---- the sum of n draws
+pub draws-added : (p : ℕ) (xs : List ℕ) (n sum : ℕ) → Is p (sum_all p (tab (λ i. get_or xs i 0) n)) sum → Is p (sum_all p (take n xs)) sum
+draws-added p xs n sum is =
+    let e : sum_all p (take n xs) ≡ sum_all p (tab (λ i. get_or xs i 0) n) =
+    sum-padded p (take n xs) n (omega (arith, length-take n xs)) ∙ ap (sum_all p) (tab-ext _ _ n (λ i l. get_or-take n xs i 0 l)) in
+    rw e is
+
+pub ruleset drawing = (adding, wire_below, draws-added)
 
 -- ---- a gate by its kind
+-- among gates of which none has kind 7 none spends a triple
+none-spends : (gs : List Gate) → count_where (is_kind 7) gs ≡ 0 → (g a b : ℕ) → get_or gs g (Input 0) ≡ Spend a b → ⊥
+unfolding count_where is_kind kind_of
+none-spends [] z g a b e = let q : ◌≡◌ {A = ℕ} 1 7 = ap kind_of e in absurd (omega arith)
+none-spends (x ∷ gs) z zero a b e = let q : suc (count_where (is_kind 7) gs) ≡ 0 = rw e at z in omega arith
+none-spends (x ∷ gs) z (suc g) a b e = none-spends gs (rest (is_kind 7 x) (count_where (is_kind 7) gs) z) g a b e
+  where
+    rest : (t : Bool) (m : ℕ) → cond t (suc m) m ≡ 0 → m ≡ 0
+    rest true m e = absurd (omega arith)
+    rest false m e = e
+
 module _ (bs : List ℕ) (h : Header) (k : Planned bs h) (g : ℕ) where
-  file_kind : g < h.gates → kind_of (gate_at bs g) ≤ 5
-  file_kind l = rw (← plan_gate k g l) ((plain bs k.passes).kinds g)
-
-  -- no plan file has a random wire, nor a gate that spends a triple
-  pub no_random : g < h.gates → gate_at bs g ≡ Random → ⊥
-  unfolding kind_of
-  no_random l e = let q : 6 ≤ 5 = rw e at (file_kind l) in omega arith
-
+  -- no plan file has a gate that spends a triple
   pub no-spend : (a b : ℕ) → g < h.gates → gate_at bs g ≡ Spend a b → ⊥
-  unfolding kind_of
-  no-spend a b l e = let q : 7 ≤ 5 = rw e at (file_kind l) in omega arith
+  unfolding kind_count
+  no-spend a b l e = none-spends (plan_of bs).gates (plain_no_7 (plan_of bs) (plain bs k.passes)) g a b (plan_gate k g l ∙ e)
 
   module _ (gate : Gate) (is : gate ≡ gate_at bs g) where
     pub takes-input : (s : ℕ) → gate ≡ Input s → 1 ≡ inputs_taken (plan_of bs) (gate_at bs g)
@@ -83,8 +108,9 @@ module _ (bs : List ℕ) (h : Header) (k : Planned bs h) (g : ℕ) where
       unfolding gate_value
       value-multiply a b u v e eu ev q = rw (← is, e, plan_p k, ← eu, ← ev) q
 
-      pub value-random : g < h.gates → gate ≡ Random → r ≡ gate_value (plan_of bs) (gate_at bs g) env xs
-      value-random l e = absurd (no_random l (sym is ∙ e))
+      pub value-random : (ys : List ℕ) (next : ℕ) → gate ≡ Random → ys ≡ drop next xs → r ≡ sum_all h.field.p (take h.n ys) → r ≡ gate_value (plan_of bs) (gate_at bs g) env (drop next xs)
+      unfolding gate_value
+      value-random ys next e ey q = rw (← is, e, plan_n k, plan_p k, ← ey) q
 
       pub value-spend : (a b u v : ℕ) → gate ≡ Spend a b → u ≡ get_or env a 0 → v ≡ get_or env b 0 → r ≡ mul h.field.p u v → r ≡ gate_value (plan_of bs) (gate_at bs g) env xs
       unfolding gate_value
@@ -107,14 +133,11 @@ takes-other plan gate g e i r = takes_none plan gate i r ∙ ap (inputs_taken pl
 -- As it is: answers name this set, since the check leaves their goals open by `using` alone.
 pub ruleset taking = (rules, takes-input, takes-random, takes-other)
 
-pub wire-none : (wires : List ℕ) (w : ℕ) → length wires ≤ w → 0 ≡ get_or wires w 0
-wire-none wires w l = sym (get_or-eq_default wires 0 l)
-
-pub wire_below : (p : ℕ) (wires : List ℕ) (w r : ℕ) → Ready p → all_below p wires ≡ true → r ≡ get_or wires w 0 → r < p
-wire_below p wires w r k h e = rw e (entry_below p wires w k h)
+pub rest-below : (p : ℕ) (xs ys : List ℕ) (next : ℕ) → all_below p xs ≡ true → ys ≡ drop next xs → all_below p ys ≡ true
+rest-below p xs ys next h e = rw e (all_below-drop p next xs h)
 
 -- As it is: answers name this set, since the check leaves their goals open by `using` alone.
-pub ruleset valuing = (rules, planned-ready, wire-none, wire_below, scaled-below, offset-below, value-input, value-add, value-scale, value_offset, value-multiply, value-random, value-spend)
+pub ruleset valuing = (rest-below, rules, planned-ready, wire-none, wire_below, scaled-below, offset-below, value-input, value-add, value-scale, value_offset, value-multiply, value-random, value-spend)
 
 -- ---- how much of a run's list the gates below gate g own, one gate more
 flat_next : (f : Gate → List ℕ) (gs : List Gate) (g : ℕ) → g < length gs

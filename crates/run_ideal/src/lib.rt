@@ -4,6 +4,7 @@
 ghost use Rattle.std.specs.Prelude.{◌≡◌, true, ◌<◌, ◌≤◌, length, get_or, take, drop};
 ghost use Rattle.numbers.specs.Bytes.{numbers, all_below};
 ghost use Rattle.field.specs.Field.{Is};
+ghost use Rattle.sharing_laws.specs.Basis.{sum_all};
 ghost use Rattle.plan.specs.File.{gate_at, plan_of};
 ghost use Rattle.run_protocol.specs.Ideal.{inputs_taken, gate_value, values};
 
@@ -30,7 +31,21 @@ pub fn wire(wires: &[u64], w: usize) -> u64
     wires.get(w).copied().unwrap_or(0)
 }
 
-// The value of gate g's wire, from the values of the wires before it and the inputs from place `next` on. No plan file has a random wire.
+// The sum of the draws of a random wire, with which the inputs begin.
+#[tactic(auto, using(crate::proofs::IdealLaws::drawing))]
+fn drawn(plan: &PlanFile, inputs: &[u8]) -> u64
+    requires { all_below plan.now.header.field.p (numbers inputs.now) ≡ true }
+    ensures { Is plan.now.header.field.p (sum_all plan.now.header.field.p (take plan.now.header.n (numbers inputs.now))) result }
+{
+    let f = plan.header.field;
+    let mut sum: u64 = 0;
+    for j in 0..plan.header.n {
+        sum = f.add(sum, numbers::read(inputs, j));
+    }
+    sum
+}
+
+// The value of gate g's wire, from the values of the wires before it and the inputs from place `next` on.
 #[tactic(auto, using(crate::proofs::IdealLaws::valuing))]
 fn gate_value(plan: &PlanFile, g: usize, inputs: &[u8], next: usize, wires: &[u64]) -> u64
     requires g_lt_gates { g < plan.now.header.gates }
@@ -45,7 +60,7 @@ fn gate_value(plan: &PlanFile, g: usize, inputs: &[u8], next: usize, wires: &[u6
         Gate::Scale(a, c) => f.mul(wire(wires, a), c),
         Gate::Offset(a, c) => f.add(wire(wires, a), c),
         Gate::Multiply(a, b) | Gate::Spend(a, b) => f.mul(wire(wires, a), wire(wires, b)),
-        Gate::Random => 0,
+        Gate::Random => drawn(plan, numbers::rest(inputs, next)),
     }
 }
 

@@ -17,11 +17,13 @@ pub mod Counts
 pub mod Below
 pub mod Dealings
 pub mod Gates
+pub mod Truncated
 pub mod Sound
 pub mod Prepared
 pub mod Given
 pub mod Accepted
 pub mod ViewCounts
+pub mod Few
 pub mod Values
 pub mod Whole
 pub mod Worked

@@ -47,12 +47,9 @@ multiply_dealt plan Truncation s a b = flat_map (λ x. 0 ∷ masked_at plan s a 
 
 unfoldable pub dealt_at : Plan → Gate → Before → List ℕ
 dealt_at plan (Input i) s = get_or s.inputs 0 0 ∷ []
-dealt_at plan (Add a b) s = []
-dealt_at plan (Scale a c) s = []
-dealt_at plan (Offset a c) s = []
 dealt_at plan (Multiply a b) s = multiply_dealt plan plan.rule s a b
 dealt_at plan Random s = take (party_count plan) s.inputs
-dealt_at plan (Spend a b) s = []
+dealt_at plan _ s = []
 
 -- the polynomials of these dealings of these values, each with its coins
 unfoldable pub sharings : List Dealing → List ℕ → List ℕ → List (List ℕ)

@@ -2,6 +2,7 @@
 --     entry-of-wire              an entry of the table is a share
 --     working                    what closes the needs of the function that works one gate
 -- Assumes nothing.
+use Rattle.std.proofs.Common.{Option, Some, None}
 use mathlib.Core.Path.{◌≡◌, sym, ap, ap₂, ◌∙◌, fun_ext}
 use mathlib.Core.Bool.{true}
 use mathlib.Core.List.{List, ◌∷◌, map}
@@ -11,32 +12,37 @@ use native.Mathlib.Omega.{arith}
 use borrow.Author.Rules.{rules}
 use borrow.Author.Tests.{ltb-true}
 use lib.Dec.{ltb}
-use lib.ListN.{length, take, drop, get_or, length-map}
-use lib.Seq.{get_or-take, get_or-drop, length-take-le}
+use lib.ListN.{length, take, drop, get_or, replicate, length-map, length-replicate, get_or-replicate}
+use lib.Seq.{take_all, get_or-take, get_or-drop, length-take-le}
 use Rattle.numbers.specs.Tables.{tab}
-use Rattle.numbers.proofs.Tables.{length-tab, tab-ext, tab-map, row_room}
+use Rattle.numbers.specs.Bytes.{all_below}
+use Rattle.numbers.proofs.Tables.{length-tab, get_or-tab, tab-ext, tab-map, row_room}
 use Rattle.numbers.proofs.Truth.{both_true}
 use Rattle.field.specs.Mod.{add, mul}
 use Rattle.sharing_laws.specs.Poly.{eval}
 use Rattle.sharing_laws.specs.Interp.{weights, dot}
+use Rattle.sharing_laws.specs.Basis.{sum_all}
+use Rattle.sharing_laws.specs.Basis as basis
+use Rattle.sharing_matrix.specs.declared.Matrix.{Matrix}
 use Rattle.sharing_laws.proofs.Alls.{map-tab}
 use Rattle.sharing_laws.proofs.Interpolation.{length-weights}
 use Rattle.plan.specs.declared.Gate.{Gate}
 use Rattle.plan.specs.declared.Gate.TheVariants.{Input, Add, Scale, Offset, Multiply, Random, Spend}
 use Rattle.plan.specs.declared.Rule.{Rule}
-use Rattle.plan.specs.declared.Rule.TheVariants.{Reduction}
+use Rattle.plan.specs.declared.Rule.TheVariants.{Reduction, Truncation}
 use Rattle.plan.specs.declared.Header.{Header}
-use Rattle.plan.specs.Plans.{Plan, dealer_count, dealer_points, kind_of, is_kind, multiplying, coin_owners_at}
+use Rattle.plan.specs.Plans.{Plan, party_count, dealer_count, dealer_points, kind_of, is_kind, multiplying, coin_owners_at}
 use Rattle.plan.specs.File.{plan_of, gate_at, gate_ok}
 use Rattle.plan.specs.Planned.{Planned}
-use Rattle.plan.proofs.Planned.{plan_t, plan_p, plan_n, plan_gates, plan_gate}
-use Rattle.plan.proofs.Valid.{valid, plain, planned-ready, gate_majority}
+use Rattle.plan.proofs.Planned.{plan_t, plan_p, plan_n, plan_rule, plan_gates, plan_gate}
+use Rattle.plan.proofs.Valid.{Valid, valid, planned-ready, gate_majority}
 use Rattle.seat_messages.proofs.PointLaws.{plan_points_long}
 use Rattle.run_protocol.specs.Shares.{Before, wire_at, product_of, multiply_dealt, multiply_share, gate_share}
-use Rattle.run_protocol.proofs.Dealt.{pieces-reduction}
-use Rattle.run_ideal.proofs.IdealLaws.{no_random, no-spend, wire_below}
-use Rattle.run_dealings.specs.Rows.{rows_of, products_of, shared_by, mixed_at, Fitted, Coined, Rowed, Standing, Taking, Holds, Worked}
-use Rattle.run_dealings.proofs.CoinLaws.{coins_input, coins_multiply}
+use Rattle.run_protocol.proofs.Dealt.{pieces-reduction, pieces-random}
+use Rattle.run_protocol.proofs.Truncated.{truncated_share}
+use Rattle.run_ideal.proofs.IdealLaws.{no-spend, wire_below, rest-below}
+use Rattle.run_dealings.specs.Rows.{rows_of, products_of, shared_by, draws_of, mixed_at, summed_at, truncated_at, Fitted, Cutting, Ruling, Coined, Rowed, Standing, Taking, Holds, Worked}
+use Rattle.run_dealings.proofs.CoinLaws.{coins_input, coins_reduction, coins_truncation, coins_random}
 use Rattle.numbers.proofs.Rows.{flat-length, flat-part}
 use Rattle.run_dealings.proofs.RowLaws.{get_or-values, standing-row, row_reading}
 
@@ -98,22 +104,26 @@ module _ (plan : Plan) (n g : ℕ) (en : length plan.points ≡ n) (low : 1 ≤ 
   unfolding gate_share
   input-share i is = is ∙ ap₂ (λ (l m : List ℕ). map (eval plan.p (get_or l 0 0 ∷ take plan.t m)) plan.points) (sym holds.inputs) (sym holds.coins)
 
-  products-dealt : (a b : ℕ) → a < g → b < g → dealer_count plan ≤ n → products_of plan.p n (dealer_count plan) a b table ≡ multiply_dealt plan Reduction s a b
-  unfolding products_of multiply_dealt product_of dealer_points
-  products-dealt a b la lb le =
-      let m : ℕ = dealer_count plan in
+  -- the products of the first m parties
+  products-at : (m a b : ℕ) → a < g → b < g → m ≤ n → products_of plan.p n m a b table ≡ map (product_of plan s.env a b) (take m plan.points)
+  unfolding products_of product_of
+  products-at m a b la lb le =
       let F : ℕ → ℕ = λ y. mul plan.p (wire_at s.env a y) (wire_at s.env b y) in
       let long : length (take m plan.points) ≡ m = length-take-le m plan.points (rw en le) in
       tab-ext _ (λ j. F (get_or (take m plan.points) j 0)) m
       (λ j l. rw (get_or-take m plan.points j 0 l) (ap₂ (mul plan.p) (at a j la (omega arith)) (at b j lb (omega arith))))
       ∙ sym (map-tab F (take m plan.points) ∙ ap (tab (λ j. F (get_or (take m plan.points) j 0))) long)
 
+  products-dealt : (a b : ℕ) → a < g → b < g → dealer_count plan ≤ n → products_of plan.p n (dealer_count plan) a b table ≡ multiply_dealt plan Reduction s a b
+  unfolding multiply_dealt dealer_points
+  products-dealt a b = products-at (dealer_count plan) a b
+
   products-count : (a b : ℕ) → length (products_of plan.p n (dealer_count plan) a b table) ≡ dealer_count plan
   unfolding products_of
   products-count a b = length-tab _ (dealer_count plan)
 
   mixed-share : (a b x : ℕ) → plan.rule ≡ Reduction → a < g → b < g → dealer_count plan ≤ n
-      → mixed_at plan.p (weights plan.p 0 (dealer_points plan)) (shared_by plan.t (products_of plan.p n (dealer_count plan) a b table) s.coins) x ≡ gate_share plan (Multiply a b) s x
+      → mixed_at plan.p (weights plan.p 0 (dealer_points plan)) (shared_by plan.t plan.t (products_of plan.p n (dealer_count plan) a b table) s.coins) x ≡ gate_share plan (Multiply a b) s x
   unfolding gate_share multiply_share mixed_at shared_by
   mixed-share a b x red la lb le =
       let ws : List ℕ = weights plan.p 0 (dealer_points plan) in
@@ -127,12 +137,44 @@ module _ (plan : Plan) (n g : ℕ) (en : length plan.points ≡ n) (low : 1 ≤ 
       ∙ sym (ap (λ (r : Rule). multiply_share plan r (Multiply a b) s x) red)
 
   multiply-share : (a b : ℕ) (ws : List ℕ) → plan.rule ≡ Reduction → a < g → b < g → dealer_count plan ≤ n → ws ≡ weights plan.p 0 (dealer_points plan)
-      → take n row ≡ map (mixed_at plan.p ws (shared_by plan.t (products_of plan.p n (dealer_count plan) a b table) cs)) plan.points
+      → take n row ≡ map (mixed_at plan.p ws (shared_by plan.t plan.t (products_of plan.p n (dealer_count plan) a b table) cs)) plan.points
       → take n row ≡ map (gate_share plan (Multiply a b) s) plan.points
   multiply-share a b ws red la lb le ew is =
       is
-      ∙ ap₂ (λ (vs ds : List ℕ). map (mixed_at plan.p vs (shared_by plan.t (products_of plan.p n (dealer_count plan) a b table) ds)) plan.points) ew (sym holds.coins)
+      ∙ ap₂ (λ (vs ds : List ℕ). map (mixed_at plan.p vs (shared_by plan.t plan.t (products_of plan.p n (dealer_count plan) a b table) ds)) plan.points) ew (sym holds.coins)
       ∙ ap (λ (F : ℕ → ℕ). map F plan.points) (fun_ext (λ x. mixed-share a b x red la lb le))
+
+  truncated-share : (a b : ℕ) → Valid plan → plan.rule ≡ Truncation → plan.t + plan.t < n → a < g → b < g
+      → take n row ≡ map (truncated_at plan.p plan.t plan.points (products_of plan.p n n a b table) (shared_by plan.t (3 * plan.t) (replicate n 0) cs)) plan.points
+      → take n row ≡ map (gate_share plan (Multiply a b) s) plan.points
+  unfolding truncated_at summed_at shared_by party_count
+  truncated-share a b v by majority la lb is =
+      let zero : ℕ → List ℕ → ℕ → ℕ → ℕ = λ x ds v d. eval plan.p (v ∷ take plan.t (drop (3 * plan.t * d) ds)) x in
+      is
+      ∙ ap (λ (F : ℕ → ℕ). map F plan.points)
+      (fun_ext (λ x.
+      ap₂ (λ (vs zs : List ℕ). add plan.p (dot plan.p (basis.row plan.p plan.t plan.points x) vs) (sum_all plan.p zs))
+      (products-at n a b la lb (omega arith) ∙ ap (map (product_of plan s.env a b)) (take_all n plan.points (omega (arith, en))))
+      (tab-map (λ f. eval plan.p f x) (λ d. get_or (replicate n 0) d 0 ∷ take plan.t (drop (3 * plan.t * d) cs)) (length (replicate {A = ℕ} n 0))
+      ∙ ap (tab (λ d. zero x cs (get_or (replicate n 0) d 0) d)) (length-replicate {A = ℕ} n 0)
+      ∙ tab-ext _ _ n (λ d l. ap (λ (v : ℕ). zero x cs v d) (get_or-replicate n d 0 0 l))
+      ∙ ap₂ (λ (ds : List ℕ) (m : ℕ). tab (zero x ds 0) m) (sym holds.coins) (sym en))
+      ∙ sym (truncated_share plan v by (rw en majority) s a b x)))
+
+  random-share : take n row ≡ map (summed_at plan.p (shared_by plan.t plan.t (draws_of n xs) cs)) plan.points → take n row ≡ map (gate_share plan Random s) plan.points
+  unfolding gate_share summed_at shared_by draws_of party_count
+  random-share is =
+      let piece : ℕ → ℕ → ℕ → ℕ = λ x v d. eval plan.p (v ∷ take plan.t (drop (plan.t * d) cs)) x in
+      is
+      ∙ ap (λ (F : ℕ → ℕ). map F plan.points)
+      (fun_ext (λ x.
+      ap (sum_all plan.p)
+      (tab-map (λ f. eval plan.p f x) (λ d. get_or (draws_of n xs) d 0 ∷ take plan.t (drop (plan.t * d) cs)) (length (draws_of n xs))
+      ∙ ap (tab (λ d. piece x (get_or (draws_of n xs) d 0) d)) (length-tab (λ d. get_or xs d 0) n)
+      ∙ tab-ext _ _ n (λ d l. ap (λ (v : ℕ). piece x v d) (get_or-tab (λ d. get_or xs d 0) n d 0 l))
+      ∙ ap (λ (ys : List ℕ). tab (λ d. piece x (get_or ys d 0) d) n) (sym holds.inputs)
+      ∙ ap₂ (λ (m : ℕ) (ds : List ℕ). tab (λ d. eval plan.p (get_or s.inputs d 0 ∷ take plan.t (drop (plan.t * d) ds)) x) m) (sym en) (sym holds.coins)
+      ∙ sym (pieces-random plan x s))))
 
 -- ---- the dealings of a plan
 module _ (bs : List ℕ) (h : Header) (p t : ℕ) (points ws : List ℕ) (fitted : Fitted bs h p t points ws) where
@@ -211,16 +253,25 @@ module _ (bs : List ℕ) (h : Header) (k : Planned bs h) (g : ℕ) (l : g < h.ga
 
     -- coins
     module _ (at : ℕ) (cs : List ℕ) (taking : Taking (plan_of bs) (gate_at bs g) at cs) where
-      coined : (m : ℕ) → h.t * m ≡ length (coin_owners_at (plan_of bs) (gate_at bs g)) → Coined h.field.p h.t m at cs
-      coined m q = record { room = rw (← q) at taking.room; below = rw (← q, plan_p k) at taking.below }
+      coined_by : (c m : ℕ) → c * m ≡ length (coin_owners_at (plan_of bs) (gate_at bs g)) → Coined h.field.p c m at cs
+      coined_by c m q = record { room = rw (← q) at taking.room; below = rw (← q, plan_p k) at taking.below }
 
       module _ (p t : ℕ) (points ws : List ℕ) (fitted : Fitted bs h p t points ws) where
         pub input_coins : (i : ℕ) → read ≡ Input i → Coined p t 1 at cs
-        input_coins i is = rw (fitted.field, fitted.threshold) (coined 1 (mul-one h.t ∙ coins_input bs h k g read e i is))
+        input_coins i is = rw (fitted.field, fitted.threshold) (coined_by h.t 1 (mul-one h.t ∙ coins_input bs h k g read e i is))
 
-        pub multiply_coins : (a b : ℕ) → read ≡ Multiply a b → Coined p t (length ws) at cs
-        multiply_coins a b is =
-            rw (fitted.field, fitted.threshold, weights-long bs h p t points ws fitted k (two a b is)) (coined (h.t + h.t + 1) (coins_multiply bs h k g read e a b is))
+        pub random_coins : read ≡ Random → Coined p t (length points) at cs
+        random_coins is = rw (fitted.field, fitted.threshold, parties bs h p t points ws fitted k) (coined_by h.t h.n (coins_random bs h k g read e is))
+
+        module _ (a b : ℕ) (is : read ≡ Multiply a b) (kept : Option Matrix) (ruling : Ruling h.rule p t points kept) where
+          pub reduction_coins : kept ≡ None → Coined p t (length ws) at cs
+          reduction_coins none =
+              rw (fitted.field, fitted.threshold, weights-long bs h p t points ws fitted k (two a b is))
+              (coined_by h.t (h.t + h.t + 1) (coins_reduction bs h k g read e a b is (ruling.none none)))
+
+          pub truncation_coins : (m : Matrix) → kept ≡ Some m → Coined p (3 * t) (length points) at cs
+          truncation_coins m some =
+              rw (fitted.field, fitted.threshold, parties bs h p t points ws fitted k) (coined_by (3 * h.t) h.n (coins_truncation bs h k g read e a b is (ruling.some m some)))
 
     -- rows
     module _ (xs cs row : List ℕ) where
@@ -249,25 +300,41 @@ module _ (bs : List ℕ) (h : Header) (k : Planned bs h) (g : ℕ) (l : g < h.ga
           offset-share (plan_of bs) h.n g (plan_points_long bs h k) k.n_low xs cs table s.room before holds row a c (ltb-true a g (offsets a c is).0)
           (made ∙ ap (λ (p : ℕ). tab (λ j. add p (get_or table (h.n * a + j) 0) c) h.n) (sym (plan_p k))))
 
-      pub worked-random : read ≡ Random → Worked (plan_of bs) h.n (gate_at bs g) g xs cs table row
-      worked-random is = absurd (no_random bs h k g l (sym e ∙ is))
-
       pub worked-spend : (a b : ℕ) → read ≡ Spend a b → Worked (plan_of bs) h.n (gate_at bs g) g xs cs table row
       worked-spend a b is = absurd (no-spend bs h k g a b l (sym e ∙ is))
 
-      module _ (p t : ℕ) (points ws : List ℕ) (fitted : Fitted bs h p t points ws) where
-        pub worked-multiply : (a b : ℕ) → read ≡ Multiply a b
-            → take (length points) row ≡ map (mixed_at p ws (shared_by t (products_of p (length points) (length ws) a b table) cs)) points → Worked (plan_of bs) h.n (gate_at bs g) g xs cs table row
+      module _ (p t : ℕ) (points ws : List ℕ) (fitted : Fitted bs h p t points ws) (a b : ℕ) (is : read ≡ Multiply a b) (kept : Option Matrix) (ruling : Ruling h.rule p t points kept) where
+        pub worked-reduction : kept ≡ None → take (length points) row ≡ map (mixed_at p ws (shared_by t t (products_of p (length points) (length ws) a b table) cs)) points
+            → Worked (plan_of bs) h.n (gate_at bs g) g xs cs table row
         unfolding dealer_count dealer_points
-        worked-multiply a b is made =
+        worked-reduction none made =
             by_kind (Multiply a b) is
             (λ before holds.
-            multiply-share (plan_of bs) h.n g (plan_points_long bs h k) k.n_low xs cs table s.room before holds row a b ws (plain bs k.passes).rule
+            multiply-share (plan_of bs) h.n g (plan_points_long bs h k) k.n_low xs cs table s.room before holds row a b ws (plan_rule k ∙ ruling.none none)
             (ltb-true a g (multiplies a b is).0) (ltb-true b g (multiplies a b is).1)
             (rw (plan_t k) (omega (arith, two a b is)))
             (rw (plan_p k, plan_t k, ← fitted.are) (weighs bs h p t points ws fitted k (two a b is)))
             (rw (plan_p k, plan_t k, ← fitted.are, ← parties bs h p t points ws fitted k)
             (rw (fitted.field, fitted.threshold, weights-long bs h p t points ws fitted k (two a b is)) at made)))
+
+        pub worked-truncation : (m : Matrix) → kept ≡ Some m
+            → take (length points) row ≡ map (truncated_at p t points (products_of p (length points) (length points) a b table) (shared_by t (3 * t) (replicate (length points) 0) cs)) points
+            → Worked (plan_of bs) h.n (gate_at bs g) g xs cs table row
+        worked-truncation m some made =
+            by_kind (Multiply a b) is
+            (λ before holds.
+            truncated-share (plan_of bs) h.n g (plan_points_long bs h k) k.n_low xs cs table s.room before holds row a b (valid bs k.passes) (plan_rule k ∙ ruling.some m some)
+            (rw (plan_t k) (omega (arith, two a b is))) (ltb-true a g (multiplies a b is).0) (ltb-true b g (multiplies a b is).1)
+            (rw (plan_p k, plan_t k, ← fitted.are, ← parties bs h p t points ws fitted k) (rw (fitted.field, fitted.threshold) at made)))
+
+    -- the draws begin the rest of the list
+    pub worked-random : (xs ys cs row points ws : List ℕ) (p t from : ℕ) → Fitted bs h p t points ws → read ≡ Random → ys ≡ drop from xs
+        → take (length points) row ≡ map (summed_at p (shared_by t t (draws_of (length points) ys) cs)) points → Worked (plan_of bs) h.n (gate_at bs g) g (drop from xs) cs table row
+    worked-random xs ys cs row points ws p t from fitted is ey made =
+        by_kind (drop from xs) cs row Random is
+        (λ before holds.
+        random-share (plan_of bs) h.n g (plan_points_long bs h k) k.n_low (drop from xs) cs table s.room before holds row
+        (rw (plan_p k, plan_t k, ← fitted.are, ← parties bs h p t points ws fitted k, ← ey) (rw (fitted.field, fitted.threshold) at made)))
 
     -- an input is the next of the list
     pub worked-input : (xs cs row points ws : List ℕ) (p t i x from : ℕ) → Fitted bs h p t points ws → read ≡ Input i → x ≡ get_or xs from 0
@@ -283,6 +350,12 @@ module _ (bs : List ℕ) (h : Header) (k : Planned bs h) (g : ℕ) (l : g < h.ga
 pub fitted_below : (bs : List ℕ) (h : Header) (p t : ℕ) (points ws : List ℕ) (x : ℕ) → Fitted bs h p t points ws → x < h.field.p → x < p
 fitted_below bs h p t points ws x fitted l = rw fitted.field l
 
+pub fitted_rest : (bs : List ℕ) (h : Header) (p t : ℕ) (points ws xs ys : List ℕ) (from : ℕ) → Fitted bs h p t points ws → all_below h.field.p xs ≡ true → ys ≡ drop from xs → all_below p ys ≡ true
+fitted_rest bs h p t points ws xs ys from fitted b e = rw fitted.field (rest-below h.field.p xs ys from b e)
+
+pub kept_cutting : (rule : Rule) (p t : ℕ) (points : List ℕ) (kept : Option Matrix) (m : Matrix) → Ruling rule p t points kept → kept ≡ Some m → Cutting p t points m
+kept_cutting rule p t points x m ruling some = ruling.cuts m some
+
 -- ---- the rules of rows
 abbrev pub sum_at : ℕ → ℕ → ℕ → ℕ → List ℕ → ℕ → ℕ
 sum_at p n a b table j = add p (get_or table (n * a + j) 0) (get_or table (n * b + j) 0)
@@ -296,4 +369,4 @@ shifted_at p n a c table j = add p (get_or table (n * a + j) 0) c
 pub ruleset reading = (row_reading, add-left-stands, add-right-stands, scale-stands, scale_constant, offset-stands, offset_constant)
 
 -- As it is: answers name this set, since the check leaves their goals open by `using` alone.
-pub ruleset working = (rules, planned-ready, wire_below, fitted_below, multiply_few, add-left-stands, add-right-stands, scale-stands, scale_constant, offset-stands, offset_constant, multiply-left-stands, multiply-right-stands, input_coins, multiply_coins, worked-add, worked-scale, worked-offset, worked-random, worked-spend, worked-input, worked-multiply)
+pub ruleset working = (rules, planned-ready, wire_below, fitted_below, fitted_rest, multiply_few, add-left-stands, add-right-stands, scale-stands, scale_constant, offset-stands, offset_constant, multiply-left-stands, multiply-right-stands, input_coins, random_coins, reduction_coins, truncation_coins, kept_cutting, worked-add, worked-scale, worked-offset, worked-random, worked-spend, worked-input, worked-reduction, worked-truncation)

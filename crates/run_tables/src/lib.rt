@@ -7,23 +7,39 @@ ghost use Rattle.numbers.specs.Bytes.{numbers, all_below};
 ghost use Rattle.field.specs.Mod.{add, mul};
 ghost use Rattle.plan.specs.File.{plan_of, gate_at};
 ghost use Rattle.run_protocol.specs.Shares.{share_table};
-ghost use Rattle.run_dealings.specs.Rows.{rows_of, Fitted, Standing, Taking, Worked, Stepped, Given};
+ghost use Rattle.run_dealings.specs.Rows.{rows_of, Fitted, Ruling, Standing, Taking, Worked, Stepped, Given};
 
-use plan::{Gate, PlanFile};
+use plan::{Gate, PlanFile, Rule};
 use run_dealings::{Dealings, Way, row_by};
-
-// ---- gate by gate
+use sharing_matrix::Matrix;
 
 // A plan with what its dealings are worked with.
 #[derive(Clone, Copy)]
 pub struct RunPlan<'a> {
     pub plan: &'a PlanFile<'a>,
     pub dealings: Dealings<'a>,
+    pub matrix: Option<Matrix<'a>>,
     pub ghost fitted: { Fitted plan.now.bytes.now plan.now.header dealings.sums.field.p dealings.t dealings.points.now dealings.weights.now },
+    pub ghost ruled: { Ruling plan.now.header.rule dealings.sums.field.p dealings.t dealings.points.now matrix },
+}
+
+// The matrix that a plan's rule takes, its rows written where they are lent.
+#[tactic(auto, using(crate::proofs::StepLaws::placing))]
+fn matrix_for<'a>(plan: &PlanFile, points: &'a [u64], room: &'a mut [u64]) -> Option<Matrix<'a>>
+    requires points_value { points.now ≡ (plan_of plan.now.bytes.now).points }
+    requires room_in_bounds { 225 ≤ length room.old }
+    ensures { Ruling plan.now.header.rule plan.now.header.field.p plan.now.header.t points.now result }
+{
+    let h = plan.header;
+    let used = h.n * h.n;
+    match h.rule {
+        Rule::Reduction => None,
+        Rule::Truncation => Some(Matrix::new(h.field, h.t, points, &mut room[..used])),
+    }
 }
 
 impl<'a> RunPlan<'a> {
-    // Rows and weights are written where they are lent.
+    // Rows, weights and the matrix are written where they are lent.
     #[tactic(auto, using(crate::proofs::StepLaws::placing))]
     pub fn new(
         plan: &'a PlanFile<'a>,
@@ -31,18 +47,25 @@ impl<'a> RunPlan<'a> {
         points: &'a [u64],
         rows: &'a mut [u64],
         weights: &'a mut [u64],
+        matrix: &'a mut [u64],
     ) -> Self
         requires points_value { points.now ≡ (plan_of plan.now.bytes.now).points }
         requires rows_in_bounds { 240 ≤ length rows.old }
         requires weights_in_bounds { 15 ≤ length weights.old }
+        requires matrix_in_bounds { 225 ≤ length matrix.old }
         ensures { result.plan.now ≡ plan.now }
     {
         let h = plan.header;
         let dealings = Dealings::new(way, h.field, h.t, points, rows, weights);
-        RunPlan { plan, dealings }
+        let matrix = matrix_for(plan, points, matrix);
+        RunPlan {
+            plan,
+            dealings,
+            matrix,
+        }
     }
 
-    // The row of gate g's wire, from the rows of the wires below it. No plan file has a gate of the last two kinds.
+    // The row of gate g's wire, from the rows of the wires below it. No plan file has a gate of the last kind.
     // As it is: inputs, coins and table go together from `fill` on, but two runs may be worked by one `RunPlan`, each with its own lists, and the table is
     // written; a struct of them and of their places would be made for each gate.
     #[tactic(auto, using(crate::proofs::GateLaws::working))]
@@ -68,8 +91,13 @@ impl<'a> RunPlan<'a> {
             Gate::Add(a, b) => row_by(n, |j| f.add(table[n * a + j], table[n * b + j])),
             Gate::Scale(a, c) => row_by(n, |j| f.mul(table[n * a + j], c)),
             Gate::Offset(a, c) => row_by(n, |j| f.add(table[n * a + j], c)),
-            Gate::Multiply(a, b) => self.dealings.multiply_row(a, b, coins, at, table),
-            Gate::Random => [0; 15],
+            Gate::Multiply(a, b) => match &self.matrix {
+                None => self.dealings.multiply_row(a, b, coins, at, table),
+                Some(matrix) => self.dealings.truncated_row(matrix, a, b, coins, at, table),
+            },
+            Gate::Random => self
+                .dealings
+                .random_row(numbers::rest(inputs, i), coins, at),
             Gate::Spend(_, _) => [0; 15],
         }
     }
@@ -98,11 +126,11 @@ impl<'a> RunPlan<'a> {
         table[start..start + n].copy_from_slice(&row[..n]);
     }
 
-    // The table of a run: its gates one after the other.
+    // The table of a run: every party's share of every wire, gate by gate, in front of what the table holds beyond.
     // As it is: inputs, coins and table go on one by one, as in step. A struct of inputs and coins would leave the table beside it, a `&mut`, and each clause
     // that step requires speaks of one of the three.
     #[tactic(auto, using(crate::proofs::FillLaws::filling_table))]
-    fn steps(&self, inputs: &[u8], coins: &[u8], table: &mut [u64])
+    pub fn fill(&self, inputs: &[u8], coins: &[u8], table: &mut [u64])
         requires given { Given (plan_of self.now.plan.now.bytes.now) inputs.now coins.now }
         requires gates_in_bounds { self.now.plan.now.header.n * self.now.plan.now.header.gates ≤ length table.old }
         ensures table_after { take (self.now.plan.now.header.n * self.now.plan.now.header.gates) table.new ≡ rows_of (plan_of self.now.plan.now.bytes.now).points (share_table (plan_of self.now.plan.now.bytes.now) (numbers inputs.now) (numbers coins.now) []) }
@@ -116,21 +144,4 @@ impl<'a> RunPlan<'a> {
             at += run_dealings::coins_taken(self.plan, g);
         }
     }
-}
-
-// ---- a run
-
-// The table of a run: every party's share of every wire, in front of what the table holds beyond.
-#[tactic(auto, using(crate::proofs::StepLaws::placing))]
-pub fn fill(plan: &PlanFile, inputs: &[u8], coins: &[u8], table: &mut [u64])
-    requires given { Given (plan_of plan.now.bytes.now) inputs.now coins.now }
-    requires gates_in_bounds { plan.now.header.n * plan.now.header.gates ≤ length table.old }
-    ensures table_after { take (plan.now.header.n * plan.now.header.gates) table.new ≡ rows_of (plan_of plan.now.bytes.now).points (share_table (plan_of plan.now.bytes.now) (numbers inputs.now) (numbers coins.now) []) }
-    ensures table_unchanged { drop (plan.now.header.n * plan.now.header.gates) table.new ≡ drop (plan.now.header.n * plan.now.header.gates) table.old }
-{
-    let points = seat_messages::points_of(plan);
-    let mut rows = [0u64; 240];
-    let mut weights = [0u64; 15];
-    let points = &points[..plan.header.n];
-    RunPlan::new(plan, Way::Grid, points, &mut rows, &mut weights).steps(inputs, coins, table);
 }

@@ -2,7 +2,7 @@
 --     table_long, table_below                 how long the flat table is, and that its entries are elements
 --     share_flat, row_flat                    the flat table's entries and rows
 --     first_flat, outs_flat                   the mail of the first and the last step
---     gate_flat, steps_flat                   the mail of the gates' steps
+--     multiply_flat, draws_flat, gate_flat, steps_flat     the mail of the gates' steps
 --     results_flat, view_flat                 the results and the view
 -- Assumes nothing.
 use mathlib.Core.Path.{◌≡◌, refl, sym, ap, ap₂, ◌∙◌}
@@ -14,25 +14,26 @@ use native.Mathlib.Nat.{add-zero}
 use native.Mathlib.Omega.{arith}
 use borrow.Author.Tests.{ltb-true}
 use lib.Dec.{ltb}
-use lib.ListN.{length, get_or, take, drop, drop_of_length-le, length-drop}
+use lib.ListN.{length, get_or, take, drop, drop_of_length-le}
 use lib.Seq.{get_or-take, length-take-le, drop-drop, drop-cons, take_all}
 use Rattle.numbers.specs.Tables.{tab}
 use Rattle.numbers.specs.Bytes.{all_below}
-use Rattle.numbers.proofs.Tables.{tab-ext, row_room}
+use Rattle.numbers.proofs.Tables.{length-tab, get_or-tab, tab-ext}
 use Rattle.numbers.proofs.Truth.{both_true}
 use Rattle.field.specs.Mod.{mul}
 use Rattle.field.proofs.Inverse.{pos}
 use Rattle.sharing_laws.specs.Poly.{eval}
-use Rattle.sharing_laws.specs.Interp.{All, dot}
+use Rattle.sharing_laws.specs.Interp.{All}
 use Rattle.sharing_laws.specs.Sharing.{opened}
-use Rattle.sharing_laws.proofs.Lists.{map-all, flat_map-all, flat_map-append, flat_map-map, map-flat_map, get_or-map-in, all-every, all_map}
+use Rattle.sharing_laws.proofs.Alls.{map-tab}
+use Rattle.sharing_laws.proofs.Lists.{length-map, map-all, flat_map-all, flat_map-append, flat_map-map, map-flat_map, all-every, all_map}
 use Rattle.plan.specs.declared.Gate.{Gate}
 use Rattle.plan.specs.declared.Gate.TheVariants.{Input, Add, Scale, Offset, Multiply, Random, Spend}
 use Rattle.plan.specs.declared.Rule.{Rule}
 use Rattle.plan.specs.declared.Rule.TheVariants.{Reduction}
-use Rattle.plan.specs.declared.Step.TheVariants.{DealInputs, DealProduct, SendOuts}
+use Rattle.plan.specs.declared.Step.TheVariants.{DealInputs, DealProduct, DealDraws, SendOuts}
 use Rattle.plan.specs.declared.Header.{Header}
-use Rattle.plan.specs.Plans.{Plan, party_count, parties, point_of, dealer_count, dealer_points, kind_of, is_kind, multiplying, is_input_of, input_wires, out_wires, coin_owners_at, coin_count, multiply_steps, steps_at, steps_from, steps}
+use Rattle.plan.specs.Plans.{Plan, party_count, parties, point_of, dealer_count, dealer_points, kind_of, is_kind, multiplying, is_input_of, input_wires, out_wires, input_owners_at, coin_owners_at, multiply_steps, steps_at, steps_from, steps}
 use Rattle.plan.specs.File.{gate_ok, plan_of}
 use Rattle.plan.specs.Planned.{Planned}
 use Rattle.plan.proofs.Planned.{plan_t, plan_p, plan_n, plan_dealers, plan_gates, plan_gate}
@@ -41,17 +42,15 @@ use Rattle.plan.proofs.Valid.{Valid, valid, plain}
 use Rattle.seat_messages.specs.Messages.{wires_by_party}
 use Rattle.run_protocol.specs.Shares.{Before, wire_at, product_of, multiply_dealt, pieces_at, share_table}
 use Rattle.run_protocol.specs.Tables.{before_gate, gate_in, table_mail, table_results, table_view_of}
-use Rattle.run_protocol.proofs.Owners.{length_blocks}
-use Rattle.run_protocol.proofs.Table.{before-coins, before-wire, length-table}
+use Rattle.run_protocol.proofs.Table.{before-inputs, before-coins, before-wire, length-table}
 use Rattle.run_protocol.proofs.StepInputs.{wires-all}
 use Rattle.run_protocol.proofs.StepOuts.{out-wires-within}
-use Rattle.run_protocol.proofs.Dealt.{reduction-owners, coins-enough, pieces-reduction}
-use Rattle.run_ideal.proofs.IdealLaws.{taken_next}
-use Rattle.run_dealings.specs.Rows.{rows_of, powers}
-use Rattle.run_dealings.proofs.PowerLaws.{eval-powers}
+use Rattle.run_protocol.proofs.Dealt.{pieces-reduction, pieces-random}
+use Rattle.run_ideal.proofs.IdealLaws.{no-spend, taken_next}
+use Rattle.run_dealings.specs.Rows.{rows_of, products_of, draws_of}
 use Rattle.run_tables.proofs.GateLaws.{rows-length, rows_row, rows-entry}
 use Rattle.run_tables.proofs.FillLaws.{before_all, stands}
-use Rattle.run_views.specs.Flat.{share_in, row_in, first_in, outs_in, opened_in, piece_in, pieces_in, steps_in, mail_in, view_in}
+use Rattle.run_views.specs.Flat.{share_in, row_in, first_in, outs_in, opened_in, pieces_of, pieces_in, gathered, mail_in, view_in}
 
 module _ (plan : Plan) (xs cs table : List ℕ) (is : table ≡ rows_of plan.points (share_table plan xs cs [])) where
   abbrev shares : List (ℕ → ℕ)
@@ -106,8 +105,17 @@ module _ (plan : Plan) (xs cs table : List ℕ) (is : table ≡ rows_of plan.poi
       ∙ sym (flat_map-map row (point_of plan) (parties plan))
       ∙ ap (flat_map row) (sym (parties_points plan))
 
+-- ---- the pieces of dealings
+-- their coins begin where a list does
+pieces_from : (p : ℕ) (vs : List ℕ) (t : ℕ) (cs : List ℕ) (from step x : ℕ)
+    → pieces_of p vs t cs from step x ≡ tab (λ d. eval p (get_or vs d 0 ∷ take t (drop (step * d) (drop from cs))) x) (length vs)
+unfolding pieces_of
+pieces_from p vs t cs from step x =
+    tab-ext (λ d. eval p (get_or vs d 0 ∷ take t (drop (from + step * d) cs)) x) (λ d. eval p (get_or vs d 0 ∷ take t (drop (step * d) (drop from cs))) x) (length vs)
+    (λ d l. ap (λ (c : List ℕ). eval p (get_or vs d 0 ∷ take t c) x) (sym (drop-drop (step * d) from cs)))
+
 -- ---- the mail of the gates' steps
-module _ {bs : List ℕ} {h : Header} (pl : Planned bs h) (xs cs table : List ℕ) (is : table ≡ rows_of (plan_of bs).points (share_table (plan_of bs) xs cs [])) (full : length cs ≡ coin_count (plan_of bs)) where
+module _ {bs : List ℕ} {h : Header} (pl : Planned bs h) (xs cs table : List ℕ) (is : table ≡ rows_of (plan_of bs).points (share_table (plan_of bs) xs cs [])) where
   abbrev plan : Plan
   plan = plan_of bs
 
@@ -120,16 +128,27 @@ module _ {bs : List ℕ} {h : Header} (pl : Planned bs h) (xs cs table : List �
   by : plan.rule ≡ Reduction
   by = (plain bs pl.passes).rule
 
-  place : ℕ → ℕ
-  place g = length (flat_map (coin_owners_at plan) (take g plan.gates))
+  abbrev before : ℕ → Before
+  before g = before_gate plan xs cs [] g
+
+  -- where a gate's inputs and its coins begin
+  abbrev input_place : ℕ → ℕ
+  input_place g = length (flat_map (input_owners_at plan) (take g plan.gates))
+
+  abbrev coin_place : ℕ → ℕ
+  coin_place g = length (flat_map (coin_owners_at plan) (take g plan.gates))
+
+  -- the pieces of dealings at gate g
+  pieces_flat : (g : ℕ) (vs : List ℕ) (t step x : ℕ)
+      → pieces_of h.field.p vs t cs (coin_place g) step x ≡ tab (λ d. eval plan.p (get_or vs d 0 ∷ take t (drop (step * d) (before g).coins)) x) (length vs)
+  pieces_flat g vs t step x =
+      pieces_from h.field.p vs t cs (coin_place g) step x
+      ∙ ap₂ (λ (p : ℕ) (c : List ℕ). tab (λ d. eval p (get_or vs d 0 ∷ take t (drop (step * d) c)) x) (length vs)) (sym (plan_p pl)) (sym (before-coins plan xs cs [] g))
 
   module _ (g a b : ℕ) (l : g < length plan.gates) (e : get_or plan.gates g (Input 0) ≡ Multiply a b) where
     dealers_few : dealer_count plan ≤ party_count plan
     unfolding dealer_count multiplying is_kind kind_of
     dealers_few = omega (arith, v.majority g l (ap multiplying e))
-
-    before : Before
-    before = before_gate plan xs cs [] g
 
     reads : (a < g) × (b < g)
     unfolding gate_ok
@@ -137,100 +156,95 @@ module _ {bs : List ℕ} {h : Header} (pl : Planned bs h) (xs cs table : List �
         let ok = both_true (ltb a g) (ltb b g) (rw e at (v.gates g l)) in
         (ltb-true a g ok.0, ltb-true b g ok.1)
 
-    coins_are : before.coins ≡ drop (place g) cs
-    unfolding before place
-    coins_are = before-coins plan xs cs [] g
+    -- a party's share of a wire that the gate reads
+    share_read : (w j : ℕ) → w < g → j < party_count plan → get_or table (h.n * w + j) 0 ≡ wire_at (before g).env w (get_or plan.points j 0)
+    unfolding party_count
+    share_read w j lw lj =
+        ap₂ (λ (n : ℕ) (t : List ℕ). get_or t (n * w + j) 0) (sym (plan_n pl)) is
+        ∙ rows-entry plan.points (party_count plan) refl (share_table plan xs cs []) w j (omega (arith, length-table plan xs cs [])) lj
+        ∙ ap (λ (f : ℕ → ℕ). f (get_or plan.points j 0)) (sym (before-wire plan xs cs [] g w (omega arith) lw))
 
-    -- dealer k's coins are there
-    own_long : (k : ℕ) → k < dealer_count plan → length (take plan.t (drop (place g + plan.t * k) cs)) ≡ plan.t
-    unfolding before
-    own_long k m =
-        let all : plan.t * dealer_count plan ≤ length before.coins =
-        omega (arith, coins-enough plan xs cs [] g (Multiply a b) (l, e) full, ap length (reduction-owners plan a b by), length_blocks plan.t 0 (dealer_count plan)) in
-        length-take-le plan.t (drop (place g + plan.t * k) cs)
-        (rw (← drop-drop (plan.t * k) (place g) cs, ← coins_are) (omega (arith, length-drop (plan.t * k) before.coins, row_room plan.t k (dealer_count plan) m)))
+    -- what the dealers deal
+    products_flat : products_of h.field.p h.n (h.t + h.t + 1) a b table ≡ multiply_dealt plan Reduction (before g) a b
+    unfolding products_of multiply_dealt product_of dealer_points party_count
+    products_flat =
+        let m : ℕ = dealer_count plan in
+        let F : ℕ → ℕ = λ y. mul plan.p (wire_at (before g).env a y) (wire_at (before g).env b y) in
+        let long : length (take m plan.points) ≡ m = length-take-le m plan.points dealers_few in
+        ap (tab (λ j. mul h.field.p (get_or table (h.n * a + j) 0) (get_or table (h.n * b + j) 0))) (sym (plan_dealers pl))
+        ∙ tab-ext _ (λ j. F (get_or (take m plan.points) j 0)) m
+        (λ j k.
+        let q : j < party_count plan = omega (arith, dealers_few) in
+        rw (get_or-take m plan.points j 0 k, ← plan_p pl) (ap₂ (mul plan.p) (share_read a j reads.0 q) (share_read b j reads.1 q)))
+        ∙ sym (map-tab F (take m plan.points) ∙ ap (tab (λ j. F (get_or (take m plan.points) j 0))) long)
 
-    -- what dealer k deals
-    dealt_flat : (k : ℕ) → k < dealer_count plan
-        → mul h.field.p (share_in h.n table (k + 1) a) (share_in h.n table (k + 1) b) ≡ get_or (multiply_dealt plan Reduction before a b) k 0
-    unfolding multiply_dealt product_of dealer_points before point_of party_count
-    dealt_flat k m =
-        let u : suc k ≤ party_count plan = omega (arith, dealers_few) in
-        let q : suc k - 1 ≡ k = omega arith in
-        let long : k < length (take (dealer_count plan) plan.points) = omega (arith, length-take-le (dealer_count plan) plan.points dealers_few) in
-        let at : (w : ℕ) → w < g → share_in h.n table (k + 1) w ≡ wire_at before.env w (get_or plan.points k 0) =
-        λ w lw.
-        ap₂ (λ (n i : ℕ). share_in n table i w) (sym (plan_n pl)) (add-one k)
-        ∙ share_flat plan xs cs table is (suc k) w (omega arith) u (omega arith)
-        ∙ ap (λ (j : ℕ). share w (get_or plan.points j 0)) q
-        ∙ ap (λ (f : ℕ → ℕ). f (get_or plan.points k 0)) (sym (before-wire plan xs cs [] g w (omega arith) lw)) in
-        ap₂ (λ (x y : ℕ). mul h.field.p x y) (at a reads.0) (at b reads.1)
-        ∙ ap (λ (p : ℕ). mul p (wire_at before.env a (get_or plan.points k 0)) (wire_at before.env b (get_or plan.points k 0))) (sym (plan_p pl))
-        ∙ sym (get_or-map-in (λ x. mul plan.p (wire_at before.env a x) (wire_at before.env b x)) (take (dealer_count plan) plan.points) k 0 0 long
-        ∙ ap (λ (x : ℕ). mul plan.p (wire_at before.env a x) (wire_at before.env b x)) (get_or-take (dealer_count plan) plan.points k 0 m))
+    dealt_count : length (multiply_dealt plan Reduction (before g) a b) ≡ dealer_count plan
+    unfolding multiply_dealt dealer_points party_count
+    dealt_count = length-map (product_of plan (before g).env a b) (take (dealer_count plan) plan.points) ∙ length-take-le (dealer_count plan) plan.points dealers_few
 
-    -- the powers of x weigh t + 1 coefficients as the point x does
-    piece_flat : (x k : ℕ) → k < dealer_count plan
-        → piece_in h table a b cs (place g) (powers h.field.p x (h.t + 1)) k
-        ≡ eval plan.p (get_or (multiply_dealt plan Reduction before a b) k 0 ∷ take plan.t (drop (plan.t * k) before.coins)) x
-    unfolding piece_in
-    piece_flat x k m =
-        let s : ℕ = mul h.field.p (share_in h.n table (k + 1) a) (share_in h.n table (k + 1) b) in
-        let f : List ℕ = s ∷ take plan.t (drop (place g + plan.t * k) cs) in
-        let long : h.t + 1 ≡ length f = omega (arith, own_long k m, plan_t pl) in
-        ap₂ (λ (p t : ℕ). dot p (powers p x (h.t + 1)) (s ∷ take t (drop (place g + t * k) cs))) (sym (plan_p pl)) (sym (plan_t pl))
-        ∙ ap (λ (n : ℕ). dot plan.p (powers plan.p x n) f) long
-        ∙ eval-powers plan.p f x
-        ∙ ap₂ (λ (y : ℕ) (c : List ℕ). eval plan.p (y ∷ take plan.t c) x) (dealt_flat k m)
-        (sym (drop-drop (plan.t * k) (place g) cs) ∙ ap (drop (plan.t * k)) (sym coins_are))
-
-    product_flat : (i : ℕ) → pieces_in h table cs (place g) (powers h.field.p (point_of plan i) (h.t + 1)) (Multiply a b) ≡ table_mail plan xs cs [] i (DealProduct g a b)
-    unfolding pieces_in table_mail gate_in before
-    product_flat i =
+    multiply_flat : (i from : ℕ) → pieces_in h table xs cs (point_of plan i) (Multiply a b) from (coin_place g) ≡ table_mail plan xs cs [] i (DealProduct g a b)
+    unfolding pieces_in table_mail gate_in
+    multiply_flat i from =
         let x : ℕ = point_of plan i in
-        ap (tab (piece_in h table a b cs (place g) (powers h.field.p x (h.t + 1)))) (sym (plan_dealers pl))
-        ∙ tab-ext (piece_in h table a b cs (place g) (powers h.field.p x (h.t + 1)))
-        (λ k. eval plan.p (get_or (multiply_dealt plan Reduction before a b) k 0 ∷ take plan.t (drop (plan.t * k) before.coins)) x) (dealer_count plan) (piece_flat x)
-        ∙ sym (ap (λ (y : Gate). pieces_at plan y before x) e ∙ pieces-reduction plan a b x before by)
+        let s : Before = before g in
+        let vs : List ℕ = multiply_dealt plan Reduction s a b in
+        ap₂ (λ (us : List ℕ) (t : ℕ). pieces_of h.field.p us t cs (coin_place g) t x) products_flat (sym (plan_t pl))
+        ∙ pieces_flat g vs plan.t plan.t x
+        ∙ ap (tab (λ d. eval plan.p (get_or vs d 0 ∷ take plan.t (drop (plan.t * d) s.coins)) x)) dealt_count
+        ∙ sym (ap (λ (y : Gate). pieces_at plan y s x) e ∙ pieces-reduction plan a b x s by)
 
-  kinds : (g : ℕ) (x : Gate) → get_or plan.gates g (Input 0) ≡ x → kind_of x ≤ 5
-  kinds g x e = rw (← e) ((plain bs pl.passes).kinds g)
+  draws_flat : (i g : ℕ) → get_or plan.gates g (Input 0) ≡ Random → pieces_in h table xs cs (point_of plan i) Random (input_place g) (coin_place g) ≡ table_mail plan xs cs [] i (DealDraws g)
+  unfolding pieces_in table_mail gate_in draws_of
+  draws_flat i g e =
+      let x : ℕ = point_of plan i in
+      let s : Before = before g in
+      let n : ℕ = party_count plan in
+      let vs : List ℕ = tab (λ d. get_or s.inputs d 0) n in
+      ap₂ (λ (n t : ℕ). pieces_of h.field.p (tab (λ d. get_or (drop (input_place g) xs) d 0) n) t cs (coin_place g) t x) (sym (plan_n pl)) (sym (plan_t pl))
+      ∙ ap (λ (l : List ℕ). pieces_of h.field.p (tab (λ d. get_or l d 0) n) plan.t cs (coin_place g) plan.t x) (sym (before-inputs plan xs cs [] g))
+      ∙ pieces_flat g vs plan.t plan.t x
+      ∙ ap (tab (λ d. eval plan.p (get_or vs d 0 ∷ take plan.t (drop (plan.t * d) s.coins)) x)) (length-tab (λ d. get_or s.inputs d 0) n)
+      ∙ tab-ext (λ d. eval plan.p (get_or vs d 0 ∷ take plan.t (drop (plan.t * d) s.coins)) x) (λ d. eval plan.p (get_or s.inputs d 0 ∷ take plan.t (drop (plan.t * d) s.coins)) x) n
+      (λ d l. ap (λ (y : ℕ). eval plan.p (y ∷ take plan.t (drop (plan.t * d) s.coins)) x) (get_or-tab (λ d. get_or s.inputs d 0) n d 0 l))
+      ∙ sym (ap (λ (y : Gate). pieces_at plan y s x) e ∙ pieces-random plan x s)
 
   gate_flat : (i g : ℕ) (x : Gate) → g < length plan.gates → get_or plan.gates g (Input 0) ≡ x
-      → pieces_in h table cs (place g) (powers h.field.p (point_of plan i) (h.t + 1)) x ≡ flat_map (table_mail plan xs cs [] i) (steps_at plan.rule g x)
-  unfolding pieces_in steps_at multiply_steps flat_map kind_of
+      → pieces_in h table xs cs (point_of plan i) x (input_place g) (coin_place g) ≡ flat_map (table_mail plan xs cs [] i) (steps_at plan.rule g x)
+  unfolding pieces_in steps_at multiply_steps flat_map
   gate_flat i g (Input s) l e = refl
   gate_flat i g (Add a b) l e = refl
   gate_flat i g (Scale a c) l e = refl
   gate_flat i g (Offset a c) l e = refl
   gate_flat i g (Multiply a b) l e =
-      product_flat g a b l e i ∙ sym (ap (λ (r : Rule). flat_map (table_mail plan xs cs [] i) (multiply_steps r g a b)) by ∙ append-nil (table_mail plan xs cs [] i (DealProduct g a b)))
-  gate_flat i g Random l e = let q : 6 ≤ 5 = kinds g Random e in absurd (omega arith)
-  gate_flat i g (Spend a b) l e = let q : 7 ≤ 5 = kinds g (Spend a b) e in absurd (omega arith)
+      multiply_flat g a b l e i (input_place g)
+      ∙ sym (ap (λ (r : Rule). flat_map (table_mail plan xs cs [] i) (multiply_steps r g a b)) by ∙ append-nil (table_mail plan xs cs [] i (DealProduct g a b)))
+  gate_flat i g Random l e = draws_flat i g e ∙ sym (append-nil (table_mail plan xs cs [] i (DealDraws g)))
+  gate_flat i g (Spend a b) l e = let k : g < h.gates = omega (arith, plan_gates pl) in absurd (no-spend bs h pl g a b k (sym (plan_gate pl g k) ∙ e))
 
   steps_flat_from : (i m g : ℕ) → m + g ≡ length plan.gates
-      → steps_in plan h table cs (powers h.field.p (point_of plan i) (h.t + 1)) (place g) (drop g plan.gates) ≡ flat_map (table_mail plan xs cs [] i) (steps_from plan.rule g (drop g plan.gates))
-  unfolding steps_in steps_from flat_map place
+      → gathered (pieces_in h table xs cs (point_of plan i)) plan (input_place g) (coin_place g) (drop g plan.gates) ≡ flat_map (table_mail plan xs cs [] i) (steps_from plan.rule g (drop g plan.gates))
+  unfolding gathered steps_from flat_map
   steps_flat_from i zero g e = rw (drop_of_length-le plan.gates {i = g} (omega arith))
   steps_flat_from i (suc m) g e =
       let l : g < length plan.gates = omega arith in
-      let ws : List ℕ = powers h.field.p (point_of plan i) (h.t + 1) in
+      let f : Gate → ℕ → ℕ → List ℕ = pieces_in h table xs cs (point_of plan i) in
       let x : Gate = get_or plan.gates g (Input 0) in
       let gs : List Gate = drop (suc g) plan.gates in
-      let here : place g + length (coin_owners_at plan x) ≡ place (suc g) = next_place g l in
-      ap (λ (l : List Gate). steps_in plan h table cs ws (place g) l) (drop-cons plan.gates g (Input 0) l)
-      ∙ ap₂ (λ (u w : List ℕ). u ++ w) (gate_flat i g x l refl) (ap (λ (n : ℕ). steps_in plan h table cs ws n gs) here ∙ steps_flat_from i m (suc g) (omega arith))
+      ap (gathered f plan (input_place g) (coin_place g)) (drop-cons plan.gates g (Input 0) l)
+      ∙ ap₂ (λ (u w : List ℕ). u ++ w) (gate_flat i g x l refl)
+      (ap₂ (λ (j k : ℕ). gathered f plan j k gs) (next_place (input_owners_at plan) g l) (next_place (coin_owners_at plan) g l) ∙ steps_flat_from i m (suc g) (omega arith))
       ∙ sym (ap (λ (l : List Gate). flat_map (table_mail plan xs cs [] i) (steps_from plan.rule g l)) (drop-cons plan.gates g (Input 0) l)
       ∙ flat_map-append (table_mail plan xs cs [] i) (steps_at plan.rule g x) (steps_from plan.rule (suc g) gs))
     where
-      next_place : (k : ℕ) → k < length plan.gates → place k + length (coin_owners_at plan (get_or plan.gates k (Input 0))) ≡ place (suc k)
-      next_place k q =
+      next_place : (owners : Gate → List ℕ) (k : ℕ) → k < length plan.gates
+          → length (flat_map owners (take k plan.gates)) + length (owners (get_or plan.gates k (Input 0))) ≡ length (flat_map owners (take (suc k) plan.gates))
+      next_place owners k q =
           let m : k < h.gates = omega (arith, plan_gates pl) in
-          taken_next (coin_owners_at plan) bs h (place k) k (length (coin_owners_at plan (get_or plan.gates k (Input 0)))) pl refl m (ap (λ (y : Gate). length (coin_owners_at plan y)) (plan_gate pl k m))
-          ∙ ap (λ (n : ℕ). length (flat_map (coin_owners_at plan) (take n plan.gates))) (add-one k)
+          taken_next owners bs h _ k (length (owners (get_or plan.gates k (Input 0)))) pl refl m (ap (λ (y : Gate). length (owners y)) (plan_gate pl k m))
+          ∙ ap (λ (n : ℕ). length (flat_map owners (take n plan.gates))) (add-one k)
 
-  steps_flat : (i : ℕ) → steps_in plan h table cs (powers h.field.p (point_of plan i) (h.t + 1)) 0 plan.gates ≡ flat_map (table_mail plan xs cs [] i) (steps_from plan.rule 0 plan.gates)
-  unfolding place flat_map
+  steps_flat : (i : ℕ) → gathered (pieces_in h table xs cs (point_of plan i)) plan 0 0 plan.gates ≡ flat_map (table_mail plan xs cs [] i) (steps_from plan.rule 0 plan.gates)
+  unfolding flat_map
   steps_flat i = steps_flat_from i (length plan.gates) 0 (add-zero (length plan.gates))
 
   -- ---- results
@@ -246,7 +260,7 @@ module _ {bs : List ℕ} {h : Header} (pl : Planned bs h) (xs cs table : List �
       (out-wires-within plan v i))
 
   -- ---- the view
-  mail_flat : (i : ℕ) → 1 ≤ i → i ≤ party_count plan → mail_in plan h table cs i ≡ flat_map (table_mail plan xs cs [] i) (steps plan)
+  mail_flat : (i : ℕ) → 1 ≤ i → i ≤ party_count plan → mail_in plan h table xs cs i ≡ flat_map (table_mail plan xs cs [] i) (steps plan)
   unfolding mail_in steps flat_map
   mail_flat i l m =
       ap₂ (λ (u w : List ℕ). u ++ w) (ap (λ (n : ℕ). first_in plan n table i) (sym (plan_n pl)) ∙ first_flat plan xs cs table is i l m)

@@ -12,7 +12,7 @@ use native.Mathlib.Numerals.{add-one}
 use native.Mathlib.Omega.{arith}
 use borrow.Author.Rules.{rules}
 use borrow.Author.Tests.{not-true, not-false, lt-ltb, le-leb}
-use lib.ListN.{length, take}
+use lib.ListN.{length}
 use Rattle.numbers.specs.Bytes.{width, numbers, bytes_of}
 use Rattle.numbers.proofs.Bytes.{numbers-length}
 use Rattle.sharing_laws.specs.Interp.{All}
@@ -31,31 +31,31 @@ use Rattle.run_protocol.proofs.Expected.{Tabled}
 use Rattle.run_protocol.proofs.Given.{tabled-none}
 use Rattle.run_protocol.proofs.Runs.{views-table}
 use Rattle.run_protocol.proofs.ViewCounts.{view-count}
-use Rattle.run_dealings.specs.Rows.{rows_of, powers, Given}
-use Rattle.run_views.specs.Flat.{first_in, steps_in, outs_in, opened_in, mail_in, view_in, Ran}
+use Rattle.run_dealings.specs.Rows.{rows_of, Given}
+use Rattle.run_views.specs.Flat.{first_in, outs_in, opened_in, pieces_in, gathered, mail_in, view_in, Ran}
 use Rattle.run_views.specs.Writing.{Wrote}
 use Rattle.sharing_laws.proofs.Lists.{flat_map-all, all_map}
-use Rattle.run_views.proofs.ViewLaws.{few_powers, row_count, powers_row}
 use Rattle.run_views.proofs.WriteLaws.{wrote_none, wrote_then, wrote_as, wrote_whole, Left, left_all, left_then, left_end}
 use Rattle.run_views.proofs.FlatLaws.{table_long, table_below, view_flat}
 
 -- ---- parts
-module _ (plan : Plan) (h : Header) (table cs : List ℕ) (i at : ℕ) (old : List ℕ) where
+module _ (plan : Plan) (h : Header) (table xs cs : List ℕ) (i at : ℕ) (old : List ℕ) where
   pub mail_done :
-      (a b next : ℕ) (row da db new : List ℕ) → take (h.t + 1) row ≡ powers h.field.p (point_of plan i) (h.t + 1) → Wrote (first_in plan h.n table i) at old da a
-      → Wrote (steps_in plan h table cs (take (h.t + 1) row) 0 plan.gates) a da db b → Wrote (outs_in plan h.n table i) b db new next → Wrote (mail_in plan h table cs i) at old new next
+      (a b next : ℕ) (da db new : List ℕ) → Wrote (first_in plan h.n table i) at old da a
+      → Wrote (gathered (pieces_in h table xs cs (point_of plan i)) plan 0 0 plan.gates) a da db b → Wrote (outs_in plan h.n table i) b db new next
+      → Wrote (mail_in plan h table xs cs i) at old new next
   unfolding mail_in
-  mail_done a b next row da db new e u v w = wrote_then _ _ at a next old da new u (wrote_then _ _ a b next da db new (rw e at v) w)
+  mail_done a b next da db new u v w = wrote_then _ _ at a next old da new u (wrote_then _ _ a b next da db new v w)
 
   pub view_done :
-      (xs : List ℕ) (a b c next : ℕ) (da db dc new : List ℕ) → Wrote (own_inputs plan i xs) at old da a → Wrote (own_coins plan i cs) a da db b
-      → Wrote (mail_in plan h table cs i) b db dc c → Wrote (map (opened_in plan h table) (out_wires plan i)) c dc new next
+      (a b c next : ℕ) (da db dc new : List ℕ) → Wrote (own_inputs plan i xs) at old da a → Wrote (own_coins plan i cs) a da db b
+      → Wrote (mail_in plan h table xs cs i) b db dc c → Wrote (map (opened_in plan h table) (out_wires plan i)) c dc new next
       → Wrote (view_in plan h table xs cs i) at old new next
   unfolding view_in
-  view_done xs a b c next da db dc new s u v w = wrote_then _ _ at a next old da new s (wrote_then _ _ a b next da db new u (wrote_then _ _ b c next db dc new v w))
+  view_done a b c next da db dc new s u v w = wrote_then _ _ at a next old da new s (wrote_then _ _ a b next da db new u (wrote_then _ _ b c next db dc new v w))
 
 -- As it is: answers name this set, since the check leaves their goals open by `using` alone.
-pub ruleset joining = (rules, few_powers, powers_row, row_count, mail_done, view_done)
+pub ruleset joining = (rules, mail_done, view_done)
 
 -- ---- a member
 -- a set that names no party above n admits its own count of members
@@ -115,9 +115,11 @@ module _ {bs : List ℕ} {h : Header} (pl : Planned bs h) (inputs coins table : 
   full : length (numbers coins) ≡ coin_count (plan_of bs)
   full = omega (arith, numbers-length coins, given.coins_count)
 
-  pub ran : Ran (plan_of bs) h (numbers coins) table
+  pub ran : Ran (plan_of bs) h (numbers inputs) (numbers coins) table
   ran =
       record {
+        inputs_full = omega (arith, numbers-length inputs, given.inputs_count);
+        inputs_below = rw (← plan_p pl) given.inputs_below;
         full = full;
         below = rw (← plan_p pl) given.coins_below;
         running =
@@ -145,7 +147,7 @@ module _ {bs : List ℕ} {h : Header} (pl : Planned bs h) (inputs coins table : 
     views_flat =
         flat_map-all (view_in (plan_of bs) h table (numbers inputs) (numbers coins)) (table_view_of (plan_of bs) (numbers inputs) (numbers coins) []) (members set)
         (all_map (λ i. (1 ≤ i) × (i ≤ party_count (plan_of bs))) (λ i. view_in (plan_of bs) h table (numbers inputs) (numbers coins) i ≡ table_view_of (plan_of bs) (numbers inputs) (numbers coins) [] i) (members set)
-        (λ i q. view_flat pl (numbers inputs) (numbers coins) table is full i q.0 q.1) parties_only)
+        (λ i q. view_flat pl (numbers inputs) (numbers coins) table is i q.0 q.1) parties_only)
 
     views_long : length (flat_map (table_view_of (plan_of bs) (numbers inputs) (numbers coins) []) (members set)) ≡ view_count (plan_of bs) (members set)
     views_long =

@@ -1,40 +1,39 @@
 -- What each way through the code of a view says of its definition.
 --     sorting                  a gate by its kind
---     Placed, Gathering        what is put gate by gate
---     inputting                a party's own inputs
+--     Placed, Gathering, gathering     what is put gate by gate
 --     reading                  a share in the table
 --     Sifting, sifting         numbers of the wires whose gate passes a test
 --     Outing, outing           numbers of a party's outs
 --     Rounding, rounding       a list for each party
 --     opening, resulting       results
---     Tabbing                  a list by a rule
---     copying, dealing_own, drawing, owning, gathering     a party's own coins
---     dealing, pieces, gate_pieces, stepping     the mail of the gates' steps
---     powering                 the powers of a point
+--     Tabbing, copying         a list by a rule, and a part of a list
+--     owning, own_parts, own_gates     a party's own inputs and coins
+--     dealing, Piecing, pieces         the pieces of dealings
+--     gate_pieces, stepping            the mail of the gates' steps
 -- Assumes nothing.
 use mathlib.Core.Path.{◌≡◌, refl, sym, ap, ap₂, ◌∙◌}
 use mathlib.Core.Bool.{Bool, true, false, cond}
 use mathlib.Core.List.{List, [], ◌∷◌, ◌++◌, map, flat_map}
-use Prim.Native.Nat.{ℕ, zero, suc, ◌+◌, ◌-◌, ◌*◌, ◌/◌, ◌%◌, ◌^◌, ◌<◌, ◌≤◌}
+use Prim.Native.Nat.{ℕ, zero, suc, ◌+◌, ◌-◌, ◌*◌, ◌/◌, ◌^◌, ◌<◌, ◌≤◌}
 use native.Mathlib.Numerals.{add-one}
-use native.Mathlib.Nat.{mod-lt, add-zero, mul-le-mul, mul-le-mul_left, mul-suc, add-sub_cancel_left}
+use native.Mathlib.Nat.{mod-lt, mul-le-mul, mul-le-mul_left, mul-suc, add-sub_cancel_left}
 use native.Mathlib.Omega.{arith}
 use borrow.Author.Rules.{rules}
 use borrow.Author.Tests.{not-true, not-false, ltb-true, lt-ltb, leb-true, leb-false, le-leb, lt-leb, eq-eqb, ne_eqb, eqb-true, eqb-false}
 use lib.Dec.{eqb, ltb}
 use lib.ListN.{length-replicate, length, get_or, take, drop, replicate, drop_of_length-le, length-drop}
-use lib.Seq.{take_at, drop-cons, drop-drop, get_or-take, get_or-drop, length-take-le}
+use lib.Seq.{drop-cons, drop-drop, get_or-take, get_or-drop, take-take, length-take-le}
 use mir.Syntax.{w64}
 use mir.Val.{Fits}
 use Rattle.numbers.specs.Tables.{tab}
 use Rattle.numbers.specs.Bytes.{number_at, width, numbers, all_below}
-use Rattle.numbers.proofs.Tables.{length-tab, get_or-tab, is-tab, row_room}
-use Rattle.numbers.proofs.Below.{all_below_at, all_below-take, all_below-drop}
+use Rattle.numbers.proofs.Tables.{length-tab, get_or-tab, take-tab, is-tab, row_room}
+use Rattle.numbers.proofs.Below.{all_below_at, at-all_below, all_below-take, all_below-drop}
 use Rattle.numbers.proofs.Bytes.{numbers-length}
 use Rattle.numbers.proofs.Truth.{both_true}
 use Rattle.field.specs.Mod.{mul}
-use Rattle.field.specs.Field.{Below2, Is, kept, sum_bound, Ready}
-use Rattle.field.proofs.SumLaws.{kept_same, kept-bound, bound-more}
+use Rattle.field.specs.Field.{Below2, Is, kept, Ready}
+use Rattle.sharing_laws.specs.Poly.{eval}
 use Rattle.sharing_laws.specs.Interp.{dot}
 use Rattle.sharing_laws.specs.Sharing.{opened}
 use Rattle.sharing_openings.specs.Openable.{Openable}
@@ -42,24 +41,27 @@ use Rattle.sharing.proofs.Walks.{Pair}
 use Rattle.sharing.proofs.Coding.{entry_below, Summed, sum-none, sum_more, summing}
 use Rattle.plan.specs.declared.Gate.{Gate}
 use Rattle.plan.specs.declared.Gate.TheVariants.{Input, Add, Scale, Offset, Multiply, Random, Spend}
+use Rattle.plan.specs.declared.Rule.TheVariants.{Reduction, Truncation}
 use Rattle.plan.specs.declared.Output.{Output}
 use Rattle.plan.specs.declared.Header.{Header}
-use Rattle.plan.specs.Plans.{Plan, party_count, parties, point_of, kind_of, is_kind, multiplying, operands_of, is_input_of, wires_from, input_wires, out_wires_of, out_wires, input_owners_at, input_owners, coin_owners_at, coin_owners, coin_count, own_of, own_inputs, own_coins}
+use Rattle.plan.specs.Plans.{Plan, party_count, parties, point_of, kind_of, is_kind, multiplying, operands_of, is_input_of, wires_from, input_wires, out_wires_of, out_wires, input_owners_at, input_owners, input_count, dealings_at, coin_owners_at, coin_owners, coin_count, own_of, own_inputs, own_coins}
+use Rattle.plan.proofs.Layouts.{gate_read}
 use Rattle.plan.specs.File.{gate_ok, between, layout_of, gate_place, gate_of, gate_from, gate_at, out_at, out_ok, plan_of}
 use Rattle.plan.specs.Planned.{Planned}
-use Rattle.plan.proofs.Planned.{plan_t, plan_n, plan_dealers, plan_gates, plan_outs, plan_gate, plan_out}
+use Rattle.plan.proofs.Planned.{plan_rule, plan_t, plan_n, plan_dealers, plan_gates, plan_outs, plan_gate, plan_out}
 use Rattle.plan.proofs.Valid.{valid, plain, planned-ready, gate-kept, gate_majority}
-use Rattle.seat_messages.proofs.PointLaws.{plan_points_long, plan_points_below, points-at}
-use Rattle.run_protocol.proofs.Owners.{own-append, own_same, own-other, blocks, length_blocks, own_block}
-use Rattle.run_protocol.proofs.Dealt.{input-owners, reduction-owners, random-owners}
-use Rattle.run_ideal.proofs.IdealLaws.{no_random, taken_next}
-use Rattle.run_dealings.specs.Rows.{powers}
-use Rattle.run_dealings.proofs.CoinLaws.{coins_multiply, no_owners}
+use Rattle.seat_messages.proofs.PointLaws.{plan_points_long, plan_points_below}
+use Rattle.run_protocol.specs.Ideal.{inputs_taken}
+use Rattle.run_protocol.proofs.Owners.{own-append, own_same, own-other, blocks, length_blocks, own_block, own_each}
+use Rattle.run_protocol.proofs.Dealt.{input-owners, reduction-owners, truncation-owners, random-owners}
+use Rattle.run_ideal.proofs.IdealLaws.{taken_next}
+use Rattle.run_dealings.specs.Rows.{power, powers, products_of, draws_of, Rowed, Fitted}
+use Rattle.run_dealings.proofs.RowLaws.{product_at}
+use Rattle.run_dealings.proofs.CoinLaws.{coins_reduction, coins_random, no_owners}
 use Rattle.run_tables.proofs.FillLaws.{taken_within}
-use Rattle.run_dealings.proofs.DealingLaws.{in_range}
-use Rattle.run_views.specs.Flat.{share_in, row_in, first_in, outs_in, opened_in, piece_in, pieces_in, steps_in, gathered, Running, PowerRow, Multiplies, Deals}
+use Rattle.run_views.specs.Flat.{share_in, row_in, first_in, outs_in, opened_in, pieces_of, pieces_in, gathered, Running, Ran, PowerRow, Multiplies, Seen, Owns}
 use Rattle.run_views.specs.Writing.{Wrote}
-use Rattle.run_dealings.proofs.PowerLaws.{length-powers, powers_below}
+use Rattle.run_dealings.proofs.PowerLaws.{powers_below, eval-powers}
 use Rattle.run_views.proofs.WriteLaws.{wrote_none, wrote_as, Left, left_all, left_as, left_then, left_end}
 
 -- ---- a gate by its kind
@@ -70,25 +72,11 @@ pub input_at_lem : (i : ℕ) (gate x : Gate) (r : Bool) → gate ≡ x → r ≡
 input_at_lem i gate x r e f = f ∙ ap (is_input_of i) e
 
 -- a gate whose first byte is not 1 is no party's input
-not_input : (j a b : ℕ) (x : Gate) → 1 ≤ j → (z two three four five : Bool)
-    → false ≡ is_input_of j (cond z (cond false x (cond two (Add a b) (cond three (Scale a b) (cond four (Offset a b) (cond five (Multiply a b) (Input 0)))))) (Input 0))
-unfolding is_input_of is_kind kind_of operands_of
-not_input j a b x l false two three four five = sym (ne_eqb j 0 (λ e. omega arith))
-not_input j a b x l true true three four five = refl
-not_input j a b x l true false true four five = refl
-not_input j a b x l true false false true five = refl
-not_input j a b x l true false false false true = refl
-not_input j a b x l true false false false false = sym (ne_eqb j 0 (λ e. omega arith))
-
 pub other_kind : (bs : List ℕ) (g k j : ℕ) → k ≡ get_or bs (gate_place bs g) 0 → (k ≡ 1 → ⊥) → 1 ≤ j → false ≡ is_input_of j (gate_at bs g)
-unfolding gate_at gate_from gate_of
+unfolding gate_at gate_from is_input_of is_kind kind_of operands_of
 other_kind bs g k j e n l =
-    let w : ℕ = (layout_of bs).field in
-    let place : ℕ = gate_place bs g in
-    let a : ℕ = number_at w bs (place + 2) in
-    let b : ℕ = number_at w bs (place + 2 + w) in
-    rw (← e, ne_eqb k 1 n)
-    (not_input j a b (cond (eqb b 0) (Input a) (Input 0)) l (eqb (get_or bs (place + 1) 0) 0) (eqb k 2) (eqb k 3) (eqb k 4) (eqb k 5))
+    gate_read (λ x. false ≡ is_input_of j x) (get_or bs (gate_place bs g) 0) _ _ _ (sym (ne_eqb j 0 (λ z. omega arith)))
+    (λ one. absurd (n (e ∙ one))) (λ z. refl) (λ z. refl) (λ z. refl) (λ z. refl) (λ z. refl)
 
 pub ruleset sorting = (rules, other_kind, input_at_lem, input_of_as)
 
@@ -101,110 +89,66 @@ module _ {bs : List ℕ} {h : Header} (pl : Planned bs h) where
   gates_end g l = drop_of_length-le (plan_of bs).gates {i = g} (omega (arith, plan_gates pl))
 
 -- ---- what is put gate by gate
--- what gate g takes begins at k
-pub record Placed (owners : Gate → List ℕ) (bs : List ℕ) (k g : ℕ) : Type 0 where
-  pub place : k ≡ length (flat_map owners (take g (plan_of bs).gates))
-  pub near : k ≤ 406 * g
+-- what gate g takes begins at number i of the inputs and at number k of the coins
+pub record Placed (bs : List ℕ) (i k g : ℕ) : Type 0 where
+  pub input : i ≡ length (flat_map (input_owners_at (plan_of bs)) (take g (plan_of bs).gates))
+  pub coin : k ≡ length (flat_map (coin_owners_at (plan_of bs)) (take g (plan_of bs).gates))
+  pub near_input : i ≤ 15 * g
+  pub near_coin : k ≤ 630 * g
   pub within : g ≤ 1024
 
-pub placed_first : (owners : Gate → List ℕ) (bs : List ℕ) → Placed owners bs 0 0
+pub placed_first : (bs : List ℕ) → Placed bs 0 0 0
 unfolding flat_map
-placed_first owners bs = record { place = refl; near = omega arith; within = omega arith }
+placed_first bs = record { input = refl; coin = refl; near_input = omega arith; near_coin = omega arith; within = omega arith }
 
-module _ (owners : Gate → List ℕ) (bs : List ℕ) (h : Header) (k g : ℕ) (s : Placed owners bs k g) (pl : Planned bs h) (l : g < h.gates) where
-  pub placed_next : (d : ℕ) → d ≡ length (owners (gate_at bs g)) → d ≤ 406 → Placed owners bs (k + d) (g + 1)
-  placed_next d e m = record { place = taken_next owners bs h k g d pl s.place l e; near = omega (arith, s.near); within = omega (arith, pl.gates-high) }
-
-  -- what gate g takes is there
-  placed_room : k + length (owners (gate_at bs g)) ≤ length (flat_map owners (plan_of bs).gates)
-  placed_room = omega (arith, taken_next owners bs h k g _ pl s.place l refl, taken_within owners (plan_of bs).gates (g + 1))
-
--- the invariant of what is put at gate g
-pub record Gathering (f : Gate → ℕ → List ℕ) (owners : Gate → List ℕ) (bs : List ℕ) (at : ℕ) (old new : List ℕ) (next k g : ℕ) : Type 0 where
-  pub left : Left (gathered f owners 0 (plan_of bs).gates) at old new next (gathered f owners k (drop g (plan_of bs).gates))
-  pub placed : Placed owners bs k g
-
-pub gather_all : (f : Gate → ℕ → List ℕ) (owners : Gate → List ℕ) (bs : List ℕ) (at : ℕ) (old : List ℕ) → at ≤ length old / width → Gathering f owners bs at old old at 0 0
-gather_all f owners bs at old l = record { left = left_all _ at old _ refl l; placed = placed_first owners bs }
-
-module _ (f : Gate → ℕ → List ℕ) (owners : Gate → List ℕ) (bs : List ℕ) (h : Header) (at : ℕ) (old new : List ℕ) (next k g : ℕ) (s : Gathering f owners bs at old new next k g) (pl : Planned bs h) where
-  pub gather_next :
-      (d : ℕ) (new' : List ℕ) (next' : ℕ) → g < h.gates → d ≡ length (owners (gate_at bs g)) → d ≤ 406 → Wrote (f (gate_at bs g) k) next new new' next'
-      → Gathering f owners bs at old new' next' (k + d) (g + 1)
-  unfolding gathered
-  gather_next d new' next' l e m w =
+module _ (bs : List ℕ) (h : Header) (i k g : ℕ) (s : Placed bs i k g) (pl : Planned bs h) (l : g < h.gates) where
+  pub placed_next :
+      (a d : ℕ) → a ≡ inputs_taken (plan_of bs) (gate_at bs g) → a ≤ 15 → d ≡ length (coin_owners_at (plan_of bs) (gate_at bs g)) → d ≤ 630
+      → Placed bs (i + a) (k + d) (g + 1)
+  unfolding inputs_taken
+  placed_next a d ea la ed ld =
       record {
-        left = left_then _ at old new next _ s.left (f (gate_at bs g) k) _ new' next' (rw (gates_from pl g (gate_at bs g) l refl, e)) w;
-        placed = placed_next owners bs h k g s.placed pl l d e m;
+        input = taken_next (input_owners_at (plan_of bs)) bs h i g a pl s.input l ea;
+        coin = taken_next (coin_owners_at (plan_of bs)) bs h k g d pl s.coin l ed;
+        near_input = omega (arith, s.near_input);
+        near_coin = omega (arith, s.near_coin);
+        within = omega (arith, pl.gates-high);
       }
 
-  pub gather_end : h.gates ≤ g → Wrote (gathered f owners 0 (plan_of bs).gates) at old new next
+  -- what gate g takes is there
+  taken_room : (owners : Gate → List ℕ) (m : ℕ) → m ≡ length (flat_map owners (take g (plan_of bs).gates))
+      → m + length (owners (gate_at bs g)) ≤ length (flat_map owners (plan_of bs).gates)
+  taken_room owners m e = omega (arith, taken_next owners bs h m g _ pl e l refl, taken_within owners (plan_of bs).gates (g + 1))
+
+  pub inputs_room : (inputs : List ℕ) → length (numbers inputs) ≡ input_count (plan_of bs) → i + length (input_owners_at (plan_of bs) (gate_at bs g)) ≤ length inputs / width
+  unfolding input_count input_owners
+  inputs_room inputs full = omega (arith, full, numbers-length inputs, taken_room (input_owners_at (plan_of bs)) i s.input)
+
+  pub coins_room : (coins : List ℕ) → length (numbers coins) ≡ coin_count (plan_of bs) → k + length (coin_owners_at (plan_of bs) (gate_at bs g)) ≤ length coins / width
+  unfolding coin_count coin_owners
+  coins_room coins full = omega (arith, full, numbers-length coins, taken_room (coin_owners_at (plan_of bs)) k s.coin)
+
+-- the invariant of what is put at gate g
+pub record Gathering (f : Gate → ℕ → ℕ → List ℕ) (bs : List ℕ) (at : ℕ) (old new : List ℕ) (next i k g : ℕ) : Type 0 where
+  pub left : Left (gathered f (plan_of bs) 0 0 (plan_of bs).gates) at old new next (gathered f (plan_of bs) i k (drop g (plan_of bs).gates))
+
+pub gather_all : (f : Gate → ℕ → ℕ → List ℕ) (bs : List ℕ) (at : ℕ) (old : List ℕ) → at ≤ length old / width → Gathering f bs at old old at 0 0 0
+gather_all f bs at old l = record { left = left_all _ at old _ refl l }
+
+module _ (f : Gate → ℕ → ℕ → List ℕ) (bs : List ℕ) (h : Header) (at : ℕ) (old new : List ℕ) (next i k g : ℕ) (s : Gathering f bs at old new next i k g) (pl : Planned bs h) where
+  pub gather_next :
+      (a d : ℕ) (new' : List ℕ) (next' : ℕ) → g < h.gates → a ≡ inputs_taken (plan_of bs) (gate_at bs g) → d ≡ length (coin_owners_at (plan_of bs) (gate_at bs g))
+      → Wrote (f (gate_at bs g) i k) next new new' next' → Gathering f bs at old new' next' (i + a) (k + d) (g + 1)
+  unfolding gathered inputs_taken
+  gather_next a d new' next' l ea ed w =
+      record { left = left_then _ at old new next _ s.left (f (gate_at bs g) i k) _ new' next' (rw (gates_from pl g (gate_at bs g) l refl, ea, ed)) w }
+
+  pub gather_end : h.gates ≤ g → Wrote (gathered f (plan_of bs) 0 0 (plan_of bs).gates) at old new next
   unfolding gathered
   gather_end l = left_end _ at old new next _ s.left (rw (gates_end pl g l))
 
--- a party's own of a list, gate by gate
-unfoldable pub own_at : ℕ → (Gate → List ℕ) → List ℕ → Gate → ℕ → List ℕ
-own_at i owners xs x k = own_of i (owners x) (drop k xs)
-
-own_gathered : (i : ℕ) (owners : Gate → List ℕ) (xs : List ℕ) (gs : List Gate) (k : ℕ) → own_of i (flat_map owners gs) (drop k xs) ≡ gathered (own_at i owners xs) owners k gs
-unfolding gathered own_at flat_map own_of
-own_gathered i owners xs [] k = refl
-own_gathered i owners xs (x ∷ gs) k =
-    own-append i (owners x) (flat_map owners gs) (drop k xs)
-    ∙ ap (λ (l : List ℕ). own_of i (owners x) (drop k xs) ++ l)
-    (ap (own_of i (flat_map owners gs)) (drop-drop (length (owners x)) k xs) ∙ own_gathered i owners xs gs (k + length (owners x)))
-
--- the invariant of a loop that puts a party's own
-abbrev pub Gathering_own : ℕ → (Gate → List ℕ) → List ℕ → List ℕ → ℕ → List ℕ → List ℕ → ℕ → ℕ → ℕ → Type 0
-Gathering_own i owners xs = Gathering (own_at i owners xs) owners
-
--- ---- a party's own inputs
-module _ (bs : List ℕ) (h : Header) (i : ℕ) (xs : List ℕ) (at : ℕ) (old new : List ℕ) (next k g : ℕ) (s : Gathering_own i (input_owners_at (plan_of bs)) xs bs at old new next k g) (pl : Planned bs h) where
-  module _ (l : g < h.gates) (gate : Gate) (is : gate ≡ gate_at bs g) where
-    module _ (o : ℕ) (e : gate ≡ Input o) where
-      own_is : own_at i (input_owners_at (plan_of bs)) xs (gate_at bs g) k ≡ cond (eqb i o) (get_or xs k 0 ∷ []) []
-      unfolding input_owners_at own_at own_of
-      own_is = rw (← is, e, get_or-drop k xs 0 0, add-zero)
-
-      one_taken : 1 ≡ length (input_owners_at (plan_of bs) (gate_at bs g))
-      unfolding input_owners_at
-      one_taken = rw (← is, e)
-
-      pub input_put : (x : ℕ) (new' : List ℕ) (next' : ℕ) → o ≡ i → x ≡ get_or xs k 0 → Wrote (x ∷ []) next new new' next' → Gathering_own i (input_owners_at (plan_of bs)) xs bs at old new' next' (k + 1) (g + 1)
-      input_put x new' next' y ex w =
-          gather_next _ (input_owners_at (plan_of bs)) bs h at old new next k g s pl 1 new' next' l one_taken (omega arith)
-          (wrote_as (x ∷ []) _ next next' new new' (sym (rw (eq-eqb i o (sym y), ← ex) at own_is)) w)
-
-      pub input_past : (o ≡ i → ⊥) → Gathering_own i (input_owners_at (plan_of bs)) xs bs at old new next (k + 1) (g + 1)
-      input_past n =
-          gather_next _ (input_owners_at (plan_of bs)) bs h at old new next k g s pl 1 new next l one_taken (omega arith)
-          (wrote_as [] _ next next new new (sym (rw (ne_eqb i o (λ q. n (sym q))) at own_is)) (wrote_none next new (omega (arith, s.left.room, s.left.long))))
-
-    none_taken : (x : Gate) → ((o : ℕ) → x ≡ Input o → ⊥) → (x ≡ Random → ⊥) → input_owners_at (plan_of bs) x ≡ []
-    unfolding input_owners_at
-    none_taken (Input o) n r = absurd (n o refl)
-    none_taken (Add a b) n r = refl
-    none_taken (Scale a c) n r = refl
-    none_taken (Offset a c) n r = refl
-    none_taken (Multiply a b) n r = refl
-    none_taken Random n r = absurd (r refl)
-    none_taken (Spend a b) n r = refl
-
-    pub input_none : ((o : ℕ) → gate ≡ Input o → ⊥) → Gathering_own i (input_owners_at (plan_of bs)) xs bs at old new next k (g + 1)
-    unfolding own_at own_of
-    input_none n =
-        let none : input_owners_at (plan_of bs) (gate_at bs g) ≡ [] = rw is at (none_taken gate n (rw is (no_random bs h pl g l))) in
-        let z : k + 0 ≡ k = add-zero k in
-        rw z at
-        (gather_next _ (input_owners_at (plan_of bs)) bs h at old new next k g s pl 0 new next l (sym (ap length none)) (omega arith)
-        (rw none (wrote_none next new (omega (arith, s.left.room, s.left.long)))))
-
-  pub inputs_end : h.gates ≤ g → Wrote (own_inputs (plan_of bs) i xs) at old new next
-  unfolding own_inputs input_owners
-  inputs_end l = wrote_as _ _ at next old new (sym (own_gathered i (input_owners_at (plan_of bs)) xs (plan_of bs).gates 0)) (gather_end _ (input_owners_at (plan_of bs)) bs h at old new next k g s pl l)
-
 -- As it is: answers name this set, since the check leaves their goals open by `using` alone.
-pub ruleset inputting = (rules, gather_all, input_put, input_past, input_none, inputs_end)
+pub ruleset gathering = (rules, placed_first, placed_next, inputs_room, coins_room, gather_all, gather_next, gather_end)
 
 -- ---- a share in the table
 module _ (h : Header) (table : List ℕ) (r : Running h table) (w : ℕ) (l : w < h.gates) where
@@ -372,27 +316,27 @@ module _ (h : Header) (table : List ℕ) (r : Running h table) (w : ℕ) (l : w 
   unfolding row_in
   row_below = all_below-take h.field.p h.n (drop (h.n * w) table) (all_below-drop h.field.p (h.n * w) table r.flat.below)
 
-  module _ (bs : List ℕ) (pl : Planned bs h) (all : List ℕ) (e : take h.n all ≡ (plan_of bs).points) where
-    pub points_long : h.n ≡ length (take h.n all)
-    points_long = sym (ap length e ∙ plan_points_long bs h pl)
+  module _ (bs : List ℕ) (pl : Planned bs h) (p t : ℕ) (points ws : List ℕ) (fitted : Fitted bs h p t points ws) where
+    points_long : length points ≡ h.n
+    points_long = ap length fitted.are ∙ plan_points_long bs h pl
 
-    pub openable : Openable h.field.p h.t (take h.n all) (take (h.n * w + h.n - h.n * w) (drop (h.n * w) table))
+    pub openable : Openable h.field.p h.t points (take (h.n * w + h.n - h.n * w) (drop (h.n * w) table))
     openable =
         rw (row_is)
         (record {
-          elements = rw e (plan_points_below bs h pl);
+          elements = rw fitted.are (plan_points_below bs h pl);
           known = row_below;
           threshold = omega (arith, points_long, r.threshold);
           few = omega (arith, points_long, r.few);
-          each = row_long ∙ points_long;
+          each = row_long ∙ sym points_long;
         })
 
-    pub opened_is : (v : ℕ) → Is h.field.p (opened h.field.p h.t (take h.n all) (take (h.n * w + h.n - h.n * w) (drop (h.n * w) table))) v → Is h.field.p (opened_in (plan_of bs) h table w) v
+    pub opened_is : (v : ℕ) → Is h.field.p (opened h.field.p h.t points (take (h.n * w + h.n - h.n * w) (drop (h.n * w) table))) v → Is h.field.p (opened_in (plan_of bs) h table w) v
     unfolding opened_in
-    opened_is v q = rw (row_is, e) at q
+    opened_is v q = rw (row_is, fitted.are) at q
 
 -- As it is: answers name this set, since the check leaves their goals open by `using` alone.
-pub ruleset opening = (rules, row_within, start_fits, end_fits, bytes_fit, points_long, openable, opened_is)
+pub ruleset opening = (rules, row_within, start_fits, end_fits, bytes_fit, openable, opened_is)
 
 -- an opening is what is written
 pub opened_value : (p v x : ℕ) → Is p v x → x ≡ v
@@ -417,29 +361,45 @@ module _ (f : ℕ → ℕ) (m at : ℕ) (old : List ℕ) where
     tab_done : m ≤ j → Wrote (tab f m) at old new next
     tab_done l = left_end _ at old new next _ s (drop_of_length-le (tab f m) {i = j} (rw length-tab l))
 
--- ---- the coins of a dealing
-coins_tab : (t from : ℕ) (cs : List ℕ) → from + t ≤ length cs → tab (λ k. get_or cs (from + k) 0) t ≡ take t (drop from cs)
-coins_tab t from cs l =
+-- ---- a part of a list
+part_tab : (t from : ℕ) (cs : List ℕ) → from + t ≤ length cs → tab (λ k. get_or cs (from + k) 0) t ≡ take t (drop from cs)
+part_tab t from cs l =
     sym (is-tab (λ k. get_or cs (from + k) 0) t (take t (drop from cs)) 0 (length-take-le t (drop from cs) (omega (arith, length-drop from cs)))
     (λ k m. get_or-take t (drop from cs) k 0 m ∙ get_or-drop from cs k 0))
 
-pub coins_done :
-    (t from : ℕ) (coins : List ℕ) (at : ℕ) (old new : List ℕ) (next j : ℕ) → Tabbing (λ k. get_or (numbers coins) (from + k) 0) t at old new next j → t ≤ j
-    → from + t ≤ length coins / width → Wrote (take t (drop from (numbers coins))) at old new next
-coins_done t from coins at old new next j s l room =
-    rw (← coins_tab t from (numbers coins) (omega (arith, numbers-length coins))) (tab_done _ t at old new next j s l)
+pub part_done :
+    (t from : ℕ) (list : List ℕ) (at : ℕ) (old new : List ℕ) (next j : ℕ) → Tabbing (λ k. get_or (numbers list) (from + k) 0) t at old new next j → t ≤ j
+    → from + t ≤ length list / width → Wrote (take t (drop from (numbers list))) at old new next
+part_done t from list at old new next j s l room =
+    rw (← part_tab t from (numbers list) (omega (arith, numbers-length list))) (tab_done _ t at old new next j s l)
 
-module _ (t from j : ℕ) (coins : List ℕ) (room : from + t ≤ length coins / width) (l : j < t) where
-  pub coin_within : from + j < length coins / width
-  coin_within = omega arith
+module _ (t from j : ℕ) (list : List ℕ) (room : from + t ≤ length list / width) (l : j < t) where
+  pub part_within : from + j < length list / width
+  part_within = omega arith
 
-  pub coin_fits : length coins < 2 ^ 63 → Fits w64 (from + j)
-  coin_fits f = record { fits = omega arith }
+  pub part_fits : length list < 2 ^ 63 → Fits w64 (from + j)
+  part_fits f = record { fits = omega arith }
 
 -- As it is: answers name this set, since the check leaves their goals open by `using` alone.
-pub ruleset copying = (rules, tab_all, tab_put, coins_done, coin_within, coin_fits)
+pub ruleset copying = (rules, tab_all, tab_put, part_done, part_within, part_fits)
 
--- ---- a party's own of the dealings at a gate
+-- ---- a party's own of what a gate takes
+no_draws : (plan : Plan) (x : Gate) → ((o : ℕ) → x ≡ Input o → ⊥) → (x ≡ Random → ⊥) → input_owners_at plan x ≡ []
+unfolding input_owners_at
+no_draws plan (Input o) n r = absurd (n o refl)
+no_draws plan (Add a b) n r = refl
+no_draws plan (Scale a c) n r = refl
+no_draws plan (Offset a c) n r = refl
+no_draws plan (Multiply a b) n r = refl
+no_draws plan Random n r = absurd (r refl)
+no_draws plan (Spend a b) n r = refl
+
+owns_none : (i : ℕ) (owners : List ℕ) → ((xs : List ℕ) → own_of i owners xs ≡ []) → Owns i owners 0 0
+owns_none i owners n = record { room = omega arith; own = λ xs l. n xs }
+
+owns_same : (i k : ℕ) → Owns i (replicate k i) 0 k
+owns_same i k = record { room = omega (arith, length-replicate {A = ℕ} k i); own = λ xs l. own_same i k xs (omega (arith, length-replicate {A = ℕ} k i)) }
+
 blocks_before : (i c r n : ℕ) (xs : List ℕ) → r + n < i → own_of i (blocks c r n) xs ≡ []
 unfolding blocks own_of
 blocks_before i c r zero xs l = refl
@@ -447,272 +407,415 @@ blocks_before i c r (suc n) xs l =
     own-append i (replicate c (suc r)) (blocks c (suc r) n) xs
     ∙ ap₂ (λ (u v : List ℕ). u ++ v) (own-other i c (suc r) xs (λ e. omega arith)) (blocks_before i c (suc r) n (drop (length (replicate c (suc r))) xs) (omega arith))
 
-block_deals : (t i m : ℕ) → 1 ≤ i → i ≤ m → Deals t i (blocks t 0 m) (i - 1)
-block_deals t i m low l =
+owns_block : (t i m : ℕ) → 1 ≤ i → i ≤ m → Owns i (blocks t 0 m) (t * (i - 1)) t
+owns_block t i m low l =
     let q : suc (i - 1) ≡ i = omega arith in
     record {
       room = omega (arith, length_blocks t 0 m, row_room t (i - 1) m (omega arith));
       own = λ xs k. ap (λ (j : ℕ). own_of j (blocks t 0 m) xs) (sym q) ∙ own_block t m (i - 1) xs (omega arith) (omega (arith, length_blocks t 0 m));
     }
 
-module _ (bs : List ℕ) (h : Header) (pl : Planned bs h) (i : ℕ) (gate : Gate) where
-  deals_as : (owners : List ℕ) (k : ℕ) → coin_owners_at (plan_of bs) gate ≡ owners → Deals (plan_of bs).t i owners k → Deals h.t i (coin_owners_at (plan_of bs) gate) k
-  deals_as owners k e d = rw (← plan_t pl, e) d
+owns_each : (n i : ℕ) → 1 ≤ i → i ≤ n → Owns i (tab suc n) (i - 1) 1
+owns_each n i low l =
+    let q : suc (i - 1) ≡ i = omega arith in
+    record {
+      room = omega (arith, length-tab suc n);
+      own =
+          λ xs k.
+          ap (λ (j : ℕ). own_of j (tab suc n) xs) (sym q) ∙ own_each n (i - 1) xs (omega arith)
+          ∙ sym (ap (take 1) (drop-cons xs (i - 1) 0 (omega (arith, length-tab suc n))));
+    }
 
-  module _ (s : ℕ) (e : gate ≡ Input s) where
-    owners_input : coin_owners_at (plan_of bs) gate ≡ replicate (plan_of bs).t s
-    owners_input = ap (coin_owners_at (plan_of bs)) e ∙ input-owners (plan_of bs) s
+module _ (bs : List ℕ) (h : Header) (pl : Planned bs h) (i : ℕ) where
+  threshold_few : h.t ≤ 14
+  threshold_few = omega (arith, pl.threshold, pl.n-high)
 
-    pub input_deals : s ≡ i → Deals h.t i (coin_owners_at (plan_of bs) gate) 0
-    input_deals f =
-        let t : ℕ = (plan_of bs).t in
-        let z : t * 0 ≡ 0 = omega arith in
-        deals_as (replicate t s) 0 owners_input
-        (rw f (record { room = omega (arith, length-replicate {A = ℕ} t i); own = λ xs k. rw z (own_same i t xs (omega (arith, length-replicate {A = ℕ} t i))) }))
+  pub block_few : h.t ≤ 42
+  block_few = omega (arith, threshold_few)
 
-    pub input_other : (s ≡ i → ⊥) → (xs : List ℕ) → own_of i (coin_owners_at (plan_of bs) gate) xs ≡ []
-    input_other n xs = ap (λ (o : List ℕ). own_of i o xs) owners_input ∙ own-other i (plan_of bs).t s xs (λ q. n (sym q))
+  pub three_blocks_few : 3 * h.t ≤ 42
+  three_blocks_few = omega (arith, threshold_few)
 
-  module _ (a b : ℕ) (e : gate ≡ Multiply a b) where
-    owners_multiply : coin_owners_at (plan_of bs) gate ≡ blocks (plan_of bs).t 0 (h.t + h.t + 1)
-    owners_multiply = ap (coin_owners_at (plan_of bs)) e ∙ reduction-owners (plan_of bs) a b (plain bs pl.passes).rule ∙ ap (blocks (plan_of bs).t 0) (plan_dealers pl)
+  -- of the coins of a multiply gate
+  module _ (at count : ℕ) (c : h.rule ≡ Reduction) where
+    reduction_blocks : coin_owners_at (plan_of bs) (Multiply 0 0) ≡ blocks h.t 0 (h.t + h.t + 1)
+    reduction_blocks =
+        reduction-owners (plan_of bs) 0 0 (plan_rule pl ∙ c) ∙ ap₂ (λ (t m : ℕ). blocks t 0 m) (plan_t pl) (plan_dealers pl)
 
-    pub multiply_deals : 1 ≤ i → i ≤ h.t + h.t + 1 → Deals h.t i (coin_owners_at (plan_of bs) gate) (i - 1)
-    multiply_deals low l = deals_as _ (i - 1) owners_multiply (block_deals (plan_of bs).t i (h.t + h.t + 1) low l)
+    pub dealer_owns : 1 ≤ i → i ≤ h.t + h.t + 1 → at ≡ h.t * (i - 1) → count ≡ h.t → Owns i (coin_owners_at (plan_of bs) (Multiply 0 0)) at count
+    dealer_owns low l ea ec = rw (reduction_blocks, ea, ec) (owns_block h.t i (h.t + h.t + 1) low l)
 
-    pub multiply_other : h.t + h.t + 1 < i → (xs : List ℕ) → own_of i (coin_owners_at (plan_of bs) gate) xs ≡ []
-    multiply_other l xs = ap (λ (o : List ℕ). own_of i o xs) owners_multiply ∙ blocks_before i (plan_of bs).t 0 (h.t + h.t + 1) xs (omega arith)
+    pub no_dealer : h.t + h.t + 1 < i → Owns i (coin_owners_at (plan_of bs) (Multiply 0 0)) 0 0
+    no_dealer l = owns_none i _ (λ xs. ap (λ (o : List ℕ). own_of i o xs) reduction_blocks ∙ blocks_before i h.t 0 (h.t + h.t + 1) xs (omega arith))
 
-  pub random_deals : gate ≡ Random → 1 ≤ i → i ≤ h.n → Deals h.t i (coin_owners_at (plan_of bs) gate) (i - 1)
-  random_deals e low l =
-      deals_as _ (i - 1) (ap (coin_owners_at (plan_of bs)) e ∙ random-owners (plan_of bs) ∙ ap (blocks (plan_of bs).t 0) (plan_n pl)) (block_deals (plan_of bs).t i h.n low l)
+  pub truncation_owns : (at count : ℕ) → h.rule ≡ Truncation → 1 ≤ i → i ≤ h.n → at ≡ 3 * h.t * (i - 1) → count ≡ 3 * h.t → Owns i (coin_owners_at (plan_of bs) (Multiply 0 0)) at count
+  truncation_owns at count c low l ea ec =
+      rw (truncation-owners (plan_of bs) 0 0 (plan_rule pl ∙ c) ∙ ap₂ (λ (t m : ℕ). blocks (3 * t) 0 m) (plan_t pl) (plan_n pl), ea, ec) (owns_block (3 * h.t) i h.n low l)
 
-  pub none_deals : ((s : ℕ) → gate ≡ Input s → ⊥) → ((a b : ℕ) → gate ≡ Multiply a b → ⊥) → (gate ≡ Random → ⊥) → (xs : List ℕ) → own_of i (coin_owners_at (plan_of bs) gate) xs ≡ []
-  unfolding own_of
-  none_deals n m r xs = ap (λ (o : List ℕ). own_of i o xs) (no_owners (plan_of bs) gate n m r)
+  module _ (gate : Gate) where
+    -- of the inputs
+    module _ (s : ℕ) (e : gate ≡ Input s) where
+      pub input_owns : s ≡ i → Owns i (input_owners_at (plan_of bs) gate) 0 1
+      unfolding input_owners_at
+      input_owns f = rw (e, f) (owns_same i 1)
+
+      pub no_input : (s ≡ i → ⊥) → Owns i (input_owners_at (plan_of bs) gate) 0 0
+      unfolding input_owners_at
+      no_input n = owns_none i _ (λ xs. ap (λ (x : Gate). own_of i (input_owners_at (plan_of bs) x) xs) e ∙ own-other i 1 s xs (λ q. n (sym q)))
+
+    pub draws_own : (at count : ℕ) → gate ≡ Random → 1 ≤ i → i ≤ h.n → at ≡ 1 * (i - 1) → count ≡ 1 → Owns i (input_owners_at (plan_of bs) gate) at count
+    unfolding input_owners_at parties
+    draws_own at count e low l ea ec = let z : 1 * (i - 1) ≡ i - 1 = omega arith in rw (e, plan_n pl, ea, ec, z) (owns_each h.n i low l)
+
+    pub none_given : ((s : ℕ) → gate ≡ Input s → ⊥) → (gate ≡ Random → ⊥) → Owns i (input_owners_at (plan_of bs) gate) 0 0
+    unfolding own_of
+    none_given n r = owns_none i _ (λ xs. ap (λ (o : List ℕ). own_of i o xs) (no_draws (plan_of bs) gate n r))
+
+    -- of the coins
+    module _ (s : ℕ) (e : gate ≡ Input s) where
+      owners_input : coin_owners_at (plan_of bs) gate ≡ replicate h.t s
+      owners_input = ap (coin_owners_at (plan_of bs)) e ∙ input-owners (plan_of bs) s ∙ ap (λ (t : ℕ). replicate t s) (plan_t pl)
+
+      pub input_deals : s ≡ i → Owns i (coin_owners_at (plan_of bs) gate) 0 h.t
+      input_deals f = rw owners_input (rw f (owns_same i h.t))
+
+      pub input_other : (s ≡ i → ⊥) → Owns i (coin_owners_at (plan_of bs) gate) 0 0
+      input_other n = owns_none i _ (λ xs. ap (λ (o : List ℕ). own_of i o xs) owners_input ∙ own-other i h.t s xs (λ q. n (sym q)))
+
+    pub multiply_deals : (a b at count : ℕ) → gate ≡ Multiply a b → Owns i (coin_owners_at (plan_of bs) (Multiply 0 0)) at count → Owns i (coin_owners_at (plan_of bs) gate) at count
+    unfolding coin_owners_at dealings_at
+    multiply_deals a b at count e d = rw e d
+
+    pub random_deals : (at count : ℕ) → gate ≡ Random → 1 ≤ i → i ≤ h.n → at ≡ h.t * (i - 1) → count ≡ h.t → Owns i (coin_owners_at (plan_of bs) gate) at count
+    random_deals at count e low l ea ec =
+        rw (ap (coin_owners_at (plan_of bs)) e ∙ random-owners (plan_of bs) ∙ ap₂ (λ (t m : ℕ). blocks t 0 m) (plan_t pl) (plan_n pl), ea, ec) (owns_block h.t i h.n low l)
+
+    pub none_deals : ((s : ℕ) → gate ≡ Input s → ⊥) → ((a b : ℕ) → gate ≡ Multiply a b → ⊥) → (gate ≡ Random → ⊥) → Owns i (coin_owners_at (plan_of bs) gate) 0 0
+    unfolding own_of
+    none_deals n m r = owns_none i _ (λ xs. ap (λ (o : List ℕ). own_of i o xs) (no_owners (plan_of bs) gate n m r))
 
 -- As it is: answers name this set, since the check leaves their goals open by `using` alone.
-pub ruleset dealing_own = (rules, input_deals, input_other, multiply_deals, multiply_other, random_deals, none_deals)
+pub ruleset owning = (rules, block_few, three_blocks_few, dealer_owns, no_dealer, truncation_owns, input_owns, draws_own, no_input, none_given, input_deals, input_other, multiply_deals, random_deals, none_deals)
 
-module _ (t i from : ℕ) (owners coins : List ℕ) (room : from + length owners ≤ length coins / width) where
-  module _ (k : ℕ) (d : Deals t i owners k) where
-    pub own_room : from + t * k + t ≤ length coins / width
+module _ (bs : List ℕ) (i next at count g : ℕ) (list : List ℕ) (gate : Gate) (is : gate ≡ gate_at bs g) where
+  module _ (owners : List ℕ) (d : Owns i owners at count) (room : next + length owners ≤ length list / width) where
+    own_room : next + at + count ≤ length list / width
     own_room = omega (arith, d.room)
 
-    pub own_fits : length coins < 2 ^ 63 → Fits w64 (t * k)
+    own_fits : length list < 2 ^ 63 → Fits w64 (next + at)
     own_fits f = record { fits = omega (arith, d.room) }
 
-    pub own_place_fits : length coins < 2 ^ 63 → Fits w64 (from + t * k)
-    own_place_fits f = record { fits = omega (arith, d.room) }
+    own_put : (o next' : ℕ) (old new : List ℕ) → Wrote (take count (drop (next + at) (numbers list))) o old new next' → Wrote (own_of i owners (drop next (numbers list))) o old new next'
+    own_put o next' old new w =
+        wrote_as _ _ o next' old new
+        (ap (take count) (sym (drop-drop at next (numbers list))) ∙ sym (d.own (drop next (numbers list)) (omega (arith, length-drop next (numbers list), numbers-length list)))) w
 
-    pub own_put : (at next : ℕ) (old new : List ℕ) → Wrote (take t (drop (from + t * k) (numbers coins))) at old new next → Wrote (own_of i owners (drop from (numbers coins))) at old new next
-    own_put at next old new w =
-        wrote_as _ _ at next old new
-        (ap (take t) (sym (drop-drop (t * k) from (numbers coins))) ∙ sym (d.own (drop from (numbers coins)) (omega (arith, length-drop from (numbers coins), numbers-length coins)))) w
+  module _ (d : Owns i (input_owners_at (plan_of bs) gate) at count) (room : next + length (input_owners_at (plan_of bs) (gate_at bs g)) ≤ length list / width) where
+    pub input_room : next + at + count ≤ length list / width
+    input_room = own_room _ d (rw is room)
 
-  pub own_none : (at : ℕ) (old : List ℕ) → ((xs : List ℕ) → own_of i owners xs ≡ []) → at ≤ length old / width → Wrote (own_of i owners (drop from (numbers coins))) at old old at
-  own_none at old n l = wrote_as [] _ at at old old (sym (n (drop from (numbers coins)))) (wrote_none at old l)
+    pub input_fits : length list < 2 ^ 63 → Fits w64 (next + at)
+    input_fits f = own_fits _ d (rw is room) f
 
-pub ruleset drawing = (rules, own_room, own_fits, own_place_fits, own_put, own_none)
+    pub input_put : (o next' : ℕ) (old new : List ℕ) → Wrote (take count (drop (next + at) (numbers list))) o old new next'
+        → Wrote (own_of i (input_owners_at (plan_of bs) (gate_at bs g)) (drop next (numbers list))) o old new next'
+    input_put o next' old new w = rw (← is) (own_put _ d (rw is room) o next' old new w)
 
--- ---- a party's own coins
-module _ (plan : Plan) (i at next : ℕ) (xs old new : List ℕ) where
-  pub own_put_at : (x : Gate) (k : ℕ) → Wrote (own_of i (coin_owners_at plan x) (drop k xs)) at old new next → Wrote (own_at i (coin_owners_at plan) xs x k) at old new next
-  unfolding own_at
-  own_put_at x k w = w
+  module _ (d : Owns i (coin_owners_at (plan_of bs) gate) at count) (room : next + length (coin_owners_at (plan_of bs) (gate_at bs g)) ≤ length list / width) where
+    pub coin_room : next + at + count ≤ length list / width
+    coin_room = own_room _ d (rw is room)
 
-  pub coins_put : Wrote (gathered (own_at i (coin_owners_at plan) xs) (coin_owners_at plan) 0 plan.gates) at old new next → Wrote (own_coins plan i xs) at old new next
-  unfolding own_coins coin_owners
-  coins_put w = wrote_as _ _ at next old new (sym (own_gathered i (coin_owners_at plan) xs plan.gates 0)) w
+    pub coin_fits : length list < 2 ^ 63 → Fits w64 (next + at)
+    coin_fits f = own_fits _ d (rw is room) f
 
-pub ruleset owning = (rules, own_put_at, coins_put)
+    pub coin_put : (o next' : ℕ) (old new : List ℕ) → Wrote (take count (drop (next + at) (numbers list))) o old new next'
+        → Wrote (own_of i (coin_owners_at (plan_of bs) (gate_at bs g)) (drop next (numbers list))) o old new next'
+    coin_put o next' old new w = rw (← is) (own_put _ d (rw is room) o next' old new w)
 
--- the coins of gate g are there
-pub coins_room :
-    (bs : List ℕ) (h : Header) (coins : List ℕ) (k g : ℕ) → Placed (coin_owners_at (plan_of bs)) bs k g → Planned bs h → g < h.gates → length (numbers coins) ≡ coin_count (plan_of bs)
-    → k + length (coin_owners_at (plan_of bs) (gate_at bs g)) ≤ length coins / width
-unfolding coin_count coin_owners
-coins_room bs h coins k g s pl l full = omega (arith, full, numbers-length coins, placed_room (coin_owners_at (plan_of bs)) bs h k g s pl l)
+pub ruleset own_parts = (rules, input_room, input_fits, input_put, coin_room, coin_fits, coin_put)
 
--- As it is: answers name this set, since the check leaves their goals open by `using` alone.
-pub ruleset gathering = (rules, placed_first, placed_next, gather_all, gather_next, gather_end, coins_room)
+-- ---- a party's own, gate by gate
+unfoldable pub inputs_at : Plan → ℕ → List ℕ → Gate → ℕ → ℕ → List ℕ
+inputs_at plan i xs x next from = own_of i (input_owners_at plan x) (drop next xs)
+
+unfoldable pub coins_at : Plan → ℕ → List ℕ → Gate → ℕ → ℕ → List ℕ
+coins_at plan i cs x next from = own_of i (coin_owners_at plan x) (drop from cs)
+
+module _ (plan : Plan) (i : ℕ) (xs : List ℕ) where
+  inputs_gathered : (gs : List Gate) (next from : ℕ) → own_of i (flat_map (input_owners_at plan) gs) (drop next xs) ≡ gathered (inputs_at plan i xs) plan next from gs
+  unfolding gathered inputs_at flat_map own_of
+  inputs_gathered [] next from = refl
+  inputs_gathered (x ∷ gs) next from =
+      own-append i (input_owners_at plan x) (flat_map (input_owners_at plan) gs) (drop next xs)
+      ∙ ap (λ (l : List ℕ). own_of i (input_owners_at plan x) (drop next xs) ++ l)
+      (ap (own_of i (flat_map (input_owners_at plan) gs)) (drop-drop (length (input_owners_at plan x)) next xs)
+      ∙ inputs_gathered gs (next + length (input_owners_at plan x)) (from + length (coin_owners_at plan x)))
+
+  coins_gathered : (gs : List Gate) (next from : ℕ) → own_of i (flat_map (coin_owners_at plan) gs) (drop from xs) ≡ gathered (coins_at plan i xs) plan next from gs
+  unfolding gathered coins_at flat_map own_of
+  coins_gathered [] next from = refl
+  coins_gathered (x ∷ gs) next from =
+      own-append i (coin_owners_at plan x) (flat_map (coin_owners_at plan) gs) (drop from xs)
+      ∙ ap (λ (l : List ℕ). own_of i (coin_owners_at plan x) (drop from xs) ++ l)
+      (ap (own_of i (flat_map (coin_owners_at plan) gs)) (drop-drop (length (coin_owners_at plan x)) from xs)
+      ∙ coins_gathered gs (next + length (input_owners_at plan x)) (from + length (coin_owners_at plan x)))
+
+  module _ (at next : ℕ) (old new : List ℕ) where
+    pub input_at : (x : Gate) (k from : ℕ) → Wrote (own_of i (input_owners_at plan x) (drop k xs)) at old new next → Wrote (inputs_at plan i xs x k from) at old new next
+    unfolding inputs_at
+    input_at x k from w = w
+
+    pub coin_at : (x : Gate) (k from : ℕ) → Wrote (own_of i (coin_owners_at plan x) (drop from xs)) at old new next → Wrote (coins_at plan i xs x k from) at old new next
+    unfolding coins_at
+    coin_at x k from w = w
+
+    pub inputs_put : Wrote (gathered (inputs_at plan i xs) plan 0 0 plan.gates) at old new next → Wrote (own_inputs plan i xs) at old new next
+    unfolding own_inputs input_owners
+    inputs_put w = wrote_as _ _ at next old new (sym (inputs_gathered plan.gates 0 0)) w
+
+    pub coins_put : Wrote (gathered (coins_at plan i xs) plan 0 0 plan.gates) at old new next → Wrote (own_coins plan i xs) at old new next
+    unfolding own_coins coin_owners
+    coins_put w = wrote_as _ _ at next old new (sym (coins_gathered plan.gates 0 0)) w
+
+pub ruleset own_gates = (rules, input_at, coin_at)
 
 -- ---- a piece
-pub running_field : (h : Header) (table : List ℕ) → Running h table → 1 < h.field.p
-running_field h table r = r.ready.prime.above
-
 pub nothing_low : (p : ℕ) → 0 ≤ 4294967296 * p
 nothing_low p = omega arith
 
-pub product_low : (p a b : ℕ) → Ready p → mul p a b < p
-unfolding mul
-product_low p a b r = mod-lt (a * b) (omega (arith, r.prime.above))
+-- the polynomial of a dealing of s with t coins, and that it fits the first powers ws of a point
+module _ (h : Header) (x : ℕ) (ws : List ℕ) (row : PowerRow h x ws) (t : ℕ) (few : t < length ws) where
+  pub end_fits_in : Fits w64 (t + 1)
+  end_fits_in = record { fits = omega (arith, row.few) }
 
--- the product of two shares
-module _ (p x y z : ℕ) (e : z ≡ kept p (0 + x * y)) where
-  pub product_small : Ready p → x < p → y < p → z ≤ sum_bound p 16
-  product_small r l k = omega (arith, e, kept-bound p r.small x y l k 0 0 (omega arith), bound-more p r.small 1 16 (omega arith))
+  pub end_within : t + 1 ≤ length ws
+  end_within = omega arith
 
-  pub product_of : (a b s : ℕ) → x ≡ a → y ≡ b → Is p (z % p) s → s ≡ mul p a b
-  unfolding mul
-  product_of a b s f g is = is.eq ∙ ap (λ (n : ℕ). n % p) e ∙ (kept_same p (0 + x * y)).rest ∙ ap (λ (n : ℕ). n % p) (omega (arith, ap₂ (λ (u v : ℕ). u * v) f g))
+  pub front_long : length (take (t + 1) ws) ≡ t + 1
+  front_long = length-take-le (t + 1) ws (omega arith)
 
--- the polynomial of a dealing of q with t coins, and that it fits the powers ws of a point
-module _ (p t from q : ℕ) (ws coins : List ℕ) (room : from + t ≤ length coins / width) where
-  own_long : length (take t (drop from (numbers coins))) ≡ t
-  own_long = length-take-le t (drop from (numbers coins)) (omega (arith, length-drop from (numbers coins), numbers-length coins))
+  pub front_below : all_below h.field.p (take (t + 1) ws) ≡ true
+  front_below = all_below-take h.field.p (t + 1) ws row.below
 
-  pub coefficients_below : Ready p → all_below p (numbers coins) ≡ true → q < p → all_below p (q ∷ take t (drop from (numbers coins))) ≡ true
-  unfolding all_below
-  coefficients_below r b l = rw (lt-ltb q p l) (all_below-take p t (drop from (numbers coins)) (all_below-drop p from (numbers coins) b))
+  front_are : take (t + 1) ws ≡ powers h.field.p x (t + 1)
+  unfolding powers
+  front_are = ap (take (t + 1)) row.are ∙ take-tab (power h.field.p x) (length ws) (t + 1) (omega arith)
 
-  module _ (long : length ws ≡ t + 1) where
+  module _ (s from : ℕ) (coins : List ℕ) (room : from + t ≤ length coins / width) where
+    coins_long : length (take t (drop from (numbers coins))) ≡ t
+    coins_long = length-take-le t (drop from (numbers coins)) (omega (arith, length-drop from (numbers coins), numbers-length coins))
+
+    pub piece_is : (v : ℕ) → Is h.field.p (dot h.field.p (take (t + 1) ws) (s ∷ take t (drop from (numbers coins)))) v
+        → Is h.field.p (eval h.field.p (s ∷ take t (drop from (numbers coins))) x) v
+    piece_is v is =
+        let f : List ℕ = s ∷ take t (drop from (numbers coins)) in
+        let long : t + 1 ≡ length f = omega (arith, coins_long) in
+        rw (ap (λ (us : List ℕ). dot h.field.p us f) (front_are ∙ ap (powers h.field.p x) long) ∙ eval-powers h.field.p f x) at is
+
+    pub coefficients_below : all_below h.field.p (numbers coins) ≡ true → s < h.field.p → all_below h.field.p (s ∷ take t (drop from (numbers coins))) ≡ true
+    unfolding all_below
+    coefficients_below b l = rw (lt-ltb s h.field.p l) (all_below-take h.field.p t (drop from (numbers coins)) (all_below-drop h.field.p from (numbers coins) b))
+
     pub dealt_first :
-        (s z : ℕ) → Ready p → all_below p ws ≡ true → all_below p (numbers coins) ≡ true → q < p → s ≡ q → z ≡ kept p (0 + get_or ws 0 0 * s) → Summed p ws (q ∷ take t (drop from (numbers coins))) z 1
-    dealt_first s z r bw b l e ez =
-        sum_more p ws (q ∷ take t (drop from (numbers coins))) r 0 0 (sum-none p ws (q ∷ take t (drop from (numbers coins)))) bw (coefficients_below r b l) (get_or ws 0 0) s
-        (record { within = omega arith; also = omega arith; left = refl; right = e }) z 1 ez refl
+        (z : ℕ) → Ready h.field.p → all_below h.field.p (numbers coins) ≡ true → s < h.field.p → z ≡ kept h.field.p (0 + get_or (take (t + 1) ws) 0 0 * s)
+        → Summed h.field.p (take (t + 1) ws) (s ∷ take t (drop from (numbers coins))) z 1
+    dealt_first z r b l ez =
+        sum_more h.field.p (take (t + 1) ws) (s ∷ take t (drop from (numbers coins))) r 0 0 (sum-none h.field.p (take (t + 1) ws) (s ∷ take t (drop from (numbers coins)))) front_below
+        (coefficients_below b l) (get_or (take (t + 1) ws) 0 0) s (record { within = omega (arith, front_long); also = omega arith; left = refl; right = refl }) z 1 ez refl
 
-    pub next_pair : (j x : ℕ) → j < t → x ≡ get_or (numbers coins) (from + j) 0 → Pair ws (q ∷ take t (drop from (numbers coins))) (j + 1) (get_or ws (j + 1) 0) x
-    next_pair j x l e =
+    pub next_pair : (j c : ℕ) → j < t → c ≡ get_or (numbers coins) (from + j) 0 → Pair (take (t + 1) ws) (s ∷ take t (drop from (numbers coins))) (j + 1) (get_or (take (t + 1) ws) (j + 1) 0) c
+    next_pair j c l e =
         record {
-          within = omega arith;
-          also = omega (arith, own_long);
+          within = omega (arith, front_long);
+          also = omega (arith, coins_long);
           left = refl;
           right = e ∙ sym (rw add-one (get_or-take t (drop from (numbers coins)) j 0 l ∙ get_or-drop from (numbers coins) j 0));
         }
 
-pub first_below : (p v s : ℕ) (ws : List ℕ) → Ready p → all_below p ws ≡ true → Is p v s → Below2 p (get_or ws 0 0) s
-first_below p v s ws r b is = record { left = entry_below p ws 0 r b; right = is.lt }
+  pub first_below : (s : ℕ) → Ready h.field.p → s < h.field.p → Below2 h.field.p (get_or (take (t + 1) ws) 0 0) s
+  first_below s r l = record { left = entry_below h.field.p (take (t + 1) ws) 0 r front_below; right = l }
 
-pub powers_short : (t : ℕ) (ws : List ℕ) → length ws ≡ t + 1 → t ≤ 14 → length ws ≤ 16
-powers_short t ws e l = omega arith
+  pub front_short : length (take (t + 1) ws) ≤ 16
+  front_short = omega (arith, front_long, row.few)
+
+  pub power_within : (j : ℕ) → j < t → j + 1 < length (take (t + 1) ws)
+  power_within j l = omega (arith, front_long)
+
+  pub front_end : (j : ℕ) → t ≤ j → length (take (t + 1) ws) ≤ j + 1
+  front_end j l = omega (arith, front_long)
 
 -- As it is: answers name this set, since the check leaves their goals open by `using` alone.
-pub ruleset dealing = (summing, nothing_low, product_low, product_small, product_of, coefficients_below, dealt_first, next_pair, first_below, powers_short)
+pub ruleset dealing = (summing, nothing_low, end_fits_in, end_within, front_below, front_long, front_short, power_within, front_end, piece_is, coefficients_below, dealt_first, next_pair, first_below, part_within, part_fits)
 
 -- ---- the pieces
--- the invariant at dealer d
-pub record Piecing (h : Header) (table : List ℕ) (a b : ℕ) (cs : List ℕ) (from : ℕ) (ws : List ℕ) (at : ℕ) (old new : List ℕ) (next d : ℕ) : Type 0 where
-  pub tabbed : Tabbing (piece_in h table a b cs from ws) (h.t + h.t + 1) at old new next d
+-- the invariant at dealing d
+pub record Piecing (p : ℕ) (vs : List ℕ) (t : ℕ) (cs : List ℕ) (from step x at : ℕ) (old new : List ℕ) (next d : ℕ) : Type 0 where
+  pub tabbed : Tabbing (λ j. eval p (get_or vs j 0 ∷ take t (drop (from + step * j) cs)) x) (length vs) at old new next d
 
-module _ (h : Header) (table : List ℕ) (a b : ℕ) (cs : List ℕ) (from : ℕ) (ws : List ℕ) (at : ℕ) (old : List ℕ) where
-  pub pieces_all : at ≤ length old / width → Piecing h table a b cs from ws at old old at 0
+module _ (p : ℕ) (vs : List ℕ) (t : ℕ) (cs : List ℕ) (from step x at : ℕ) (old : List ℕ) where
+  pub pieces_all : at ≤ length old / width → Piecing p vs t cs from step x at old old at 0
   pieces_all l = record { tabbed = tab_all _ _ at old l }
 
-  module _ (new : List ℕ) (next d : ℕ) (s : Piecing h table a b cs from ws at old new next d) where
+  module _ (new : List ℕ) (next d : ℕ) (s : Piecing p vs t cs from step x at old new next d) where
     pub pieces_next :
-        (new' : List ℕ) (next' v : ℕ) → d < h.t + h.t + 1
-        → Is h.field.p (dot h.field.p ws (mul h.field.p (share_in h.n table (d + 1) a) (share_in h.n table (d + 1) b) ∷ take h.t (drop (from + h.t * d) cs))) v → Wrote (v ∷ []) next new new' next' → Piecing h table a b cs from ws at old new' next' (d + 1)
-    unfolding piece_in
-    pieces_next new' next' v l iv w =
-        record {
-          tabbed = tab_put (piece_in h table a b cs from ws) (h.t + h.t + 1) at old new next d s.tabbed v new' next' l iv.eq w;
-        }
+        (new' : List ℕ) (next' v y : ℕ) → d < length vs → y ≡ get_or vs d 0 → Is p (eval p (y ∷ take t (drop (from + step * d) cs)) x) v → Wrote (v ∷ []) next new new' next'
+        → Piecing p vs t cs from step x at old new' next' (d + 1)
+    pieces_next new' next' v y l e iv w =
+        record { tabbed = tab_put _ (length vs) at old new next d s.tabbed v new' next' l (iv.eq ∙ ap (λ (z : ℕ). eval p (z ∷ take t (drop (from + step * d) cs)) x) e) w }
 
-    pub pieces_end : h.t + h.t + 1 ≤ d → Wrote (tab (piece_in h table a b cs from ws) (h.t + h.t + 1)) at old new next
-    pieces_end l = tab_done _ (h.t + h.t + 1) at old new next d s.tabbed l
+    pub pieces_end : length vs ≤ d → Wrote (pieces_of p vs t cs from step x) at old new next
+    unfolding pieces_of
+    pieces_end l = tab_done _ (length vs) at old new next d s.tabbed l
 
-    module _ (coins : List ℕ) (m : Multiplies h a b from (length coins / width)) (l : d < h.t + h.t + 1) where
-      pub piece_room : from + h.t * d + h.t ≤ length coins / width
-      piece_room = omega (arith, m.room, row_room h.t d (h.t + h.t + 1) l)
+module _ (p k : ℕ) (vs : List ℕ) (t from step d : ℕ) (coins : List ℕ) (s : Seen p k vs t from step (length coins / width)) (l : d < length vs) where
+  pub piece_room : from + step * d + t ≤ length coins / width
+  piece_room = omega (arith, s.room, row_room step d (length vs) l)
 
-      pub piece_turn_fits : length coins < 2 ^ 63 → Fits w64 (h.t * d)
-      piece_turn_fits f = record { fits = omega (arith, piece_room) }
+  pub piece_turn_fits : length coins < 2 ^ 63 → Fits w64 (step * d)
+  piece_turn_fits f = record { fits = omega (arith, piece_room) }
 
-      pub piece_place_fits : length coins < 2 ^ 63 → Fits w64 (from + h.t * d)
-      piece_place_fits f = record { fits = omega (arith, piece_room) }
+  pub piece_place_fits : length coins < 2 ^ 63 → Fits w64 (from + step * d)
+  piece_place_fits f = record { fits = omega (arith, piece_room) }
+
+  pub value_below : get_or vs d 0 < p
+  value_below = all_below_at p vs d s.below l
 
 -- As it is: answers name this set, since the check leaves their goals open by `using` alone.
-pub ruleset pieces = (rules, in_range, running_field, pieces_all, pieces_next, pieces_end, piece_room, piece_turn_fits, piece_place_fits)
+pub ruleset pieces = (rules, not-true, not-false, pieces_all, pieces_next, pieces_end, piece_room, piece_turn_fits, piece_place_fits, value_below)
 
 -- ---- the mail of a gate's steps
-none_seen : (h : Header) (table xs : List ℕ) (from : ℕ) (ws : List ℕ) (x : Gate) → ((a b : ℕ) → x ≡ Multiply a b → ⊥) → pieces_in h table xs from ws x ≡ []
-unfolding pieces_in
-none_seen h table xs from ws (Input i) n = refl
-none_seen h table xs from ws (Add a b) n = refl
-none_seen h table xs from ws (Scale a c) n = refl
-none_seen h table xs from ws (Offset a c) n = refl
-none_seen h table xs from ws (Multiply a b) n = absurd (n a b refl)
-none_seen h table xs from ws Random n = refl
-none_seen h table xs from ws (Spend a b) n = refl
-
-module _ (bs : List ℕ) (h : Header) (table cs : List ℕ) (from : ℕ) (ws : List ℕ) (g : ℕ) (gate : Gate) (is : gate ≡ gate_at bs g) (at : ℕ) (old : List ℕ) where
-  pub no_pieces : ((a b : ℕ) → gate ≡ Multiply a b → ⊥) → at ≤ length old / width → Wrote (pieces_in h table cs from ws (gate_at bs g)) at old old at
-  no_pieces n l = rw (← is, none_seen h table cs from ws gate n) (wrote_none at old l)
-
-  pub multiply_pieces :
-      (a b : ℕ) (new : List ℕ) (next : ℕ) → gate ≡ Multiply a b → Wrote (tab (piece_in h table a b cs from ws) (h.t + h.t + 1)) at old new next
-      → Wrote (pieces_in h table cs from ws (gate_at bs g)) at old new next
+module _ (h : Header) (table xs cs : List ℕ) (x next from at : ℕ) (old new : List ℕ) (next' : ℕ) where
+  pub products_put : (a b : ℕ) (vs : List ℕ) → vs ≡ products_of h.field.p h.n (h.t + h.t + 1) a b table → Wrote (pieces_of h.field.p vs h.t cs from h.t x) at old new next'
+      → Wrote (pieces_in h table xs cs x (Multiply a b) 0 from) at old new next'
   unfolding pieces_in
-  multiply_pieces a b new next e w = rw (← is, e) w
+  products_put a b vs e w = rw (← e) w
 
-module _ (bs : List ℕ) (h : Header) (g : ℕ) (gate : Gate) (a b : ℕ) (pl : Planned bs h) (l : g < h.gates) (is : gate ≡ gate_at bs g) (e : gate ≡ Multiply a b) where
-  operands_kept : (a < g) × (b < g)
-  unfolding gate_ok
-  operands_kept =
-      let ok = both_true (ltb a g) (ltb b g) (rw e at (gate-kept bs h pl g gate l is)) in
-      (ltb-true a g ok.0, ltb-true b g ok.1)
+  pub draws_put : (vs list : List ℕ) → vs ≡ draws_of h.n (numbers list) → numbers list ≡ drop next xs → Wrote (pieces_of h.field.p vs h.t cs from h.t x) at old new next'
+      → Wrote (pieces_in h table xs cs x Random next from) at old new next'
+  unfolding pieces_in
+  draws_put vs list e rest w = rw (← rest, ← e) w
 
-  pub gate_multiplies : (from count : ℕ) → from + length (coin_owners_at (plan_of bs) (gate_at bs g)) ≤ count → Multiplies h a b from count
-  unfolding multiplying is_kind kind_of
-  gate_multiplies from count room =
+  module _ (bs : List ℕ) (g : ℕ) (gate : Gate) (is : gate ≡ gate_at bs g) where
+    pub multiply_pieces : (a b : ℕ) → gate ≡ Multiply a b → Wrote (pieces_in h table xs cs x (Multiply a b) 0 from) at old new next'
+        → Wrote (pieces_in h table xs cs x (gate_at bs g) next from) at old new next'
+    unfolding pieces_in
+    multiply_pieces a b e w = rw (← is, e) w
+
+    pub random_pieces : gate ≡ Random → Wrote (pieces_in h table xs cs x Random next from) at old new next' → Wrote (pieces_in h table xs cs x (gate_at bs g) next from) at old new next'
+    random_pieces e w = rw (← is, e) w
+
+none_seen : (h : Header) (table xs cs : List ℕ) (x next from : ℕ) (gate : Gate) → ((a b : ℕ) → gate ≡ Multiply a b → ⊥) → (gate ≡ Random → ⊥) → pieces_in h table xs cs x gate next from ≡ []
+unfolding pieces_in
+none_seen h table xs cs x next from (Input i) n r = refl
+none_seen h table xs cs x next from (Add a b) n r = refl
+none_seen h table xs cs x next from (Scale a c) n r = refl
+none_seen h table xs cs x next from (Offset a c) n r = refl
+none_seen h table xs cs x next from (Multiply a b) n r = absurd (n a b refl)
+none_seen h table xs cs x next from Random n r = absurd (r refl)
+none_seen h table xs cs x next from (Spend a b) n r = refl
+
+pub no_pieces : (bs : List ℕ) (h : Header) (table xs cs : List ℕ) (x next from g : ℕ) (gate : Gate) → gate ≡ gate_at bs g → ((a b : ℕ) → gate ≡ Multiply a b → ⊥) → (gate ≡ Random → ⊥)
+    → (at : ℕ) (old : List ℕ) → at ≤ length old / width → Wrote (pieces_in h table xs cs x (gate_at bs g) next from) at old old at
+no_pieces bs h table xs cs x next from g gate is n r at old l = rw (← is, none_seen h table xs cs x next from gate n r) (wrote_none at old l)
+
+module _ (bs : List ℕ) (h : Header) (g : ℕ) (gate : Gate) (pl : Planned bs h) (l : g < h.gates) (is : gate ≡ gate_at bs g) where
+  module _ (a b : ℕ) (e : gate ≡ Multiply a b) where
+    operands_kept : (a < g) × (b < g)
+    unfolding gate_ok
+    operands_kept =
+        let ok = both_true (ltb a g) (ltb b g) (rw e at (gate-kept bs h pl g gate l is)) in
+        (ltb-true a g ok.0, ltb-true b g ok.1)
+
+    pub gate_multiplies : (count : ℕ) (from : ℕ) → from + length (coin_owners_at (plan_of bs) (gate_at bs g)) ≤ count → Multiplies h a b from count
+    unfolding multiplying is_kind kind_of
+    gate_multiplies count from room =
+        record {
+          majority = gate_majority bs h pl g gate l is (ap multiplying e);
+          left = omega (arith, operands_kept.0);
+          right = omega (arith, operands_kept.1);
+          room = omega (arith, coins_reduction bs h pl g gate is a b e (sym (plan_rule pl) ∙ (plain bs pl.passes).rule));
+        }
+
+  pub gate_draws : gate ≡ Random → (count from : ℕ) → from + length (coin_owners_at (plan_of bs) (gate_at bs g)) ≤ count → from + h.t * h.n ≤ count
+  gate_draws e count from room = omega (arith, coins_random bs h pl g gate is e)
+
+-- what the dealers of a product deal
+product_low : (p a b : ℕ) → Ready p → mul p a b < p
+unfolding mul
+product_low p a b r = mod-lt (a * b) (omega (arith, r.prime.above))
+
+module _ (h : Header) (table : List ℕ) (r : Running h table) (a b from count : ℕ) (m : Multiplies h a b from count) where
+  rowed_of : (w : ℕ) → w < h.gates → Rowed h.field.p h.n w table
+  unfolding row_in
+  rowed_of w l = record { room = row_within h table r w l; below = row_below h table r w l }
+
+  pub left_row : Rowed h.field.p h.n a table
+  left_row = rowed_of a m.left
+
+  pub right_row : Rowed h.field.p h.n b table
+  right_row = rowed_of b m.right
+
+  pub dealers_within : (h.t + h.t + 1 ≤ h.n) × (h.n ≤ 15)
+  dealers_within = (omega (arith, m.majority), r.few)
+
+  module _ (row : List ℕ) (e : take (h.t + h.t + 1) row ≡ products_of h.field.p h.n (h.t + h.t + 1) a b table) where
+    products_small : all_below h.field.p (products_of h.field.p h.n (h.t + h.t + 1) a b table) ≡ true
+    unfolding products_of
+    products_small =
+        at-all_below h.field.p _
+        (λ i l.
+        rw (get_or-tab (product_at h.field.p h.n a b table) (h.t + h.t + 1) i 0 (rw length-tab at l))
+        (product_low h.field.p (get_or table (h.n * a + i) 0) (get_or table (h.n * b + i) 0) r.ready))
+
+    pub products_seen : (x : ℕ) (ws : List ℕ) → PowerRow h x ws → Seen h.field.p (length ws) (take (h.t + h.t + 1) row) h.t from h.t count
+    unfolding products_of
+    products_seen x ws q =
+        record {
+          few = q.some;
+          below = rw e products_small;
+          room = rw (e, length-tab (product_at h.field.p h.n a b table) (h.t + h.t + 1)) (omega (arith, m.room));
+        }
+
+-- what all parties draw
+module _ (plan : Plan) (h : Header) (xs cs table : List ℕ) (ran : Ran plan h xs cs table) (next : ℕ) (list row : List ℕ) (rest : numbers list ≡ drop next xs) (e : take h.n row ≡ draws_of h.n (numbers list)) where
+  draws_small : all_below h.field.p (draws_of h.n (numbers list)) ≡ true
+  unfolding draws_of
+  draws_small =
+      at-all_below h.field.p _
+      (λ i l.
+      rw (get_or-tab (λ d. get_or (numbers list) d 0) h.n i 0 (rw length-tab at l))
+      (entry_below h.field.p (numbers list) i ran.running.ready (rw rest (all_below-drop h.field.p next xs ran.inputs_below))))
+
+  -- those of the first k parties
+  pub draws_seen : (x : ℕ) (ws : List ℕ) → PowerRow h x ws → (from count k : ℕ) → from + h.t * h.n ≤ count → k ≤ h.n → Seen h.field.p (length ws) (take k row) h.t from h.t count
+  unfolding draws_of
+  draws_seen x ws q from count k room l =
+      let long : length (take h.n row) ≡ h.n = ap length e ∙ length-tab (λ d. get_or (numbers list) d 0) h.n in
+      let first : take k (take h.n row) ≡ take k row = take-take k h.n row l in
+      let count_is : length (take k row) ≡ k = ap length (sym first) ∙ length-take-le k (take h.n row) (omega (arith, long)) in
       record {
-        majority = gate_majority bs h pl g gate l is (ap multiplying e);
-        left = omega (arith, operands_kept.0);
-        right = omega (arith, operands_kept.1);
-        room = omega (arith, coins_multiply bs h pl g gate is a b e);
+        few = q.some;
+        below = rw (← first) (all_below-take h.field.p k (take h.n row) (rw e draws_small));
+        room = omega (arith, ap (λ (m : ℕ). h.t * m) count_is, mul-le-mul_left {m = k} {n = h.n} h.t l);
       }
 
 -- As it is: answers name this set, since the check leaves their goals open by `using` alone.
-pub ruleset gate_pieces = (rules, gate_multiplies, no_pieces, multiply_pieces)
+pub ruleset gate_pieces = (rules, gate_multiplies, gate_draws, left_row, right_row, dealers_within, products_seen, draws_seen, products_put, draws_put, multiply_pieces, random_pieces, no_pieces)
 
--- ---- the mail of all gates' steps
-steps_gathered : (plan : Plan) (h : Header) (table xs ws : List ℕ) (gs : List Gate) (from : ℕ)
-    → steps_in plan h table xs ws from gs ≡ gathered (λ x m. pieces_in h table xs m ws x) (coin_owners_at plan) from gs
-unfolding gathered steps_in
-steps_gathered plan h table xs ws [] from = refl
-steps_gathered plan h table xs ws (x ∷ gs) from = ap (λ (l : List ℕ). pieces_in h table xs from ws x ++ l) (steps_gathered plan h table xs ws gs (from + length (coin_owners_at plan x)))
+-- ---- the powers of a party's point
+module _ (bs : List ℕ) (h : Header) (pl : Planned bs h) (p t : ℕ) (points ws : List ℕ) (fitted : Fitted bs h p t points ws) (i : ℕ) (low : 1 ≤ i) (high : i ≤ h.n) where
+  pub point_there : i - 1 < length points
+  point_there = omega (arith, ap length fitted.are, plan_points_long bs h pl)
 
-module _ (plan : Plan) (h : Header) (table xs ws : List ℕ) (at next : ℕ) (old new : List ℕ) where
-  pub steps_put : Wrote (gathered (λ x m. pieces_in h table xs m ws x) (coin_owners_at plan) 0 plan.gates) at old new next → Wrote (steps_in plan h table xs ws 0 plan.gates) at old new next
-  steps_put w = wrote_as _ _ at next old new (sym (steps_gathered plan h table xs ws plan.gates 0)) w
-
-pub ruleset stepping = (rules, steps_put)
-
--- ---- the powers of a point
-module _ (t : ℕ) (few : t ≤ 14) (row : List ℕ) (l : length row ≡ 16) where
-  pub row_count : t + 1 ≡ length (take (t + 1) row)
-  row_count = sym (length-take-le (t + 1) row (omega arith))
-
-  pub power_front : (p x : ℕ) (ys : List ℕ) → ys ≡ powers p x (length (take (t + 1) row)) → take (t + 1) (ys ++ drop (t + 1) row) ≡ powers p x (t + 1)
-  power_front p x ys e =
-      let f : ys ≡ powers p x (t + 1) = e ∙ ap (powers p x) (sym row_count) in
-      take_at ys (drop (t + 1) row) (t + 1) (ap length f ∙ length-powers p x (t + 1)) ∙ f
-
-module _ (bs : List ℕ) (h : Header) (pl : Planned bs h) (i : ℕ) (from1 : 1 ≤ i) (upto : i ≤ h.n) where
-  pub powers_row : (row : List ℕ) → take (h.t + 1) row ≡ powers h.field.p (point_of (plan_of bs) i) (h.t + 1) → PowerRow h (take (h.t + 1) row)
-  powers_row row e =
+  pub powers_row : (row : List ℕ) → t < length row → length row ≤ 16 → row ≡ powers p (get_or points (i - 1) 0) (length row) → PowerRow h (point_of (plan_of bs) i) row
+  unfolding point_of
+  powers_row row some few are =
       record {
-        long = ap length e ∙ length-powers h.field.p (point_of (plan_of bs) i) (h.t + 1);
-        below = rw e (powers_below h.field.p (point_of (plan_of bs) i) (h.t + 1) (planned-ready bs h pl));
+        some = omega (arith, fitted.threshold);
+        few = few;
+        are = are ∙ ap₂ (λ (q : ℕ) (ps : List ℕ). powers q (get_or ps (i - 1) 0) (length row)) fitted.field fitted.are;
+        below = rw (are, fitted.field) (powers_below h.field.p (get_or points (i - 1) 0) (length row) (planned-ready bs h pl));
       }
 
-  -- party i's point
-  module _ (all : List ℕ) (e : take h.n all ≡ (plan_of bs).points) where
-    point_at : get_or all (i - 1) 0 ≡ point_of (plan_of bs) i
-    unfolding point_of
-    point_at = points-at bs h pl all e (i - 1) (omega arith)
-
-    pub point_below : get_or all (i - 1) 0 < h.field.p
-    point_below =
-        rw (points-at bs h pl all e (i - 1) (omega arith))
-        (all_below_at h.field.p (plan_of bs).points (i - 1) (plan_points_below bs h pl) (omega (arith, plan_points_long bs h pl)))
-
-    pub powers_of : (k : ℕ) (r : List ℕ) → take k r ≡ powers h.field.p (get_or all (i - 1) 0) k → take k r ≡ powers h.field.p (point_of (plan_of bs) i) k
-    powers_of k r q = q ∙ ap (λ (x : ℕ). powers h.field.p x k) point_at
-
-pub few_powers : (bs : List ℕ) (h : Header) → Planned bs h → h.t ≤ 14
-few_powers bs h pl = omega (arith, pl.threshold, pl.n-high)
-
-pub ruleset powering = (rules, planned-ready, few_powers, row_count, power_front, point_below, powers_of)
+-- the mail of all gates' steps
+pub ruleset stepping = (rules, point_there, powers_row)

@@ -3,15 +3,14 @@ use Rattle.std.specs.Prelude.{ℕ, ◌+◌, ◌-◌, ◌*◌, ◌<◌, ◌≤◌
 use mathlib.Core.List.{List, [], ◌∷◌, ◌++◌, map, flat_map}
 use Rattle.numbers.specs.Tables.{tab}
 use Rattle.numbers.specs.Bytes.{all_below}
-use Rattle.field.specs.Mod.{mul}
-use Rattle.sharing_laws.specs.Interp.{dot}
+use Rattle.sharing_laws.specs.Poly.{eval}
 use Rattle.sharing_laws.specs.Sharing.{opened}
 use Rattle.field.specs.Field.{Ready}
 use Rattle.plan.specs.declared.Gate.{Gate}
 use Rattle.plan.specs.declared.Gate.TheVariants.{Input, Add, Scale, Offset, Multiply, Random, Spend}
 use Rattle.plan.specs.declared.Header.{Header}
-use Rattle.plan.specs.Plans.{Plan, parties, point_of, input_wires, out_wires, coin_owners_at, coin_count, own_of, own_inputs, own_coins}
-use Rattle.run_dealings.specs.Rows.{powers}
+use Rattle.plan.specs.Plans.{Plan, parties, point_of, input_wires, out_wires, input_owners_at, coin_owners_at, input_count, coin_count, own_of, own_inputs, own_coins}
+use Rattle.run_dealings.specs.Rows.{powers, products_of, draws_of}
 
 -- party i's share of wire w, of n parties
 unfoldable pub share_in : ℕ → List ℕ → ℕ → ℕ → ℕ
@@ -33,26 +32,26 @@ outs_in plan n table i = flat_map (λ j. map (share_in n table j) (out_wires pla
 unfoldable pub opened_in : Plan → Header → List ℕ → ℕ → ℕ
 opened_in plan h table w = opened h.field.p h.t plan.points (row_in h.n table w)
 
--- the piece of dealer d's product of its shares of two wires at the point whose powers are ws, d counted from 0, when the
--- dealings' coins begin at `from`
-unfoldable pub piece_in : Header → List ℕ → ℕ → ℕ → List ℕ → ℕ → List ℕ → ℕ → ℕ
-piece_in h table a b cs from ws d =
-    dot h.field.p ws (mul h.field.p (share_in h.n table (d + 1) a) (share_in h.n table (d + 1) b) ∷ take h.t (drop (from + h.t * d) cs))
+-- the pieces at the point x of dealings of these values with t coins each; the first one's coins begin at `from`, each next one's `step` numbers later
+unfoldable pub pieces_of : ℕ → List ℕ → ℕ → List ℕ → ℕ → ℕ → ℕ → List ℕ
+pieces_of p vs t cs from step x = tab (λ d. eval p (get_or vs d 0 ∷ take t (drop (from + step * d) cs)) x) (length vs)
 
--- the mail of a gate's steps; no plan file has a gate of the last two kinds
-unfoldable pub pieces_in : Header → List ℕ → List ℕ → ℕ → List ℕ → Gate → List ℕ
-pieces_in h table cs from ws (Input s) = []
-pieces_in h table cs from ws (Add a b) = []
-pieces_in h table cs from ws (Scale a c) = []
-pieces_in h table cs from ws (Offset a c) = []
-pieces_in h table cs from ws (Multiply a b) = tab (piece_in h table a b cs from ws) (h.t + h.t + 1)
-pieces_in h table cs from ws Random = []
-pieces_in h table cs from ws (Spend a b) = []
+-- the mail of a gate's steps to the point x, when the gate's inputs begin at number i and its coins at `from`
+unfoldable pub pieces_in : Header → List ℕ → List ℕ → List ℕ → ℕ → Gate → ℕ → ℕ → List ℕ
+pieces_in h table xs cs x (Input s) i from = []
+pieces_in h table xs cs x (Add a b) i from = []
+pieces_in h table xs cs x (Scale a c) i from = []
+pieces_in h table xs cs x (Offset a c) i from = []
+pieces_in h table xs cs x (Multiply a b) i from =
+    pieces_of h.field.p (products_of h.field.p h.n (h.t + h.t + 1) a b table) h.t cs from h.t x
+pieces_in h table xs cs x Random i from = pieces_of h.field.p (draws_of h.n (drop i xs)) h.t cs from h.t x
+pieces_in h table xs cs x (Spend a b) i from = []
 
--- of the steps of these gates, when the first gate's coins begin at `from`
-unfoldable pub steps_in : Plan → Header → List ℕ → List ℕ → List ℕ → ℕ → List Gate → List ℕ
-steps_in plan h table cs ws from [] = []
-steps_in plan h table cs ws from (x ∷ gs) = pieces_in h table cs from ws x ++ steps_in plan h table cs ws (from + length (coin_owners_at plan x)) gs
+-- what each gate puts, by the places at which its inputs and its coins begin; those of the first gate begin at i and `from`
+unfoldable pub gathered : (Gate → ℕ → ℕ → List ℕ) → Plan → ℕ → ℕ → List Gate → List ℕ
+gathered f plan i from [] = []
+gathered f plan i from (x ∷ gs) =
+    f x i from ++ gathered f plan (i + length (input_owners_at plan x)) (from + length (coin_owners_at plan x)) gs
 
 -- a flat table of elements of the field of p, for n parties and so many gates
 pub record Flat (p n gates : ℕ) (table : List ℕ) : Type 0 where
@@ -68,13 +67,17 @@ pub record Running (h : Header) (table : List ℕ) : Type 0 where
   pub gates : h.gates ≤ 1024
   pub flat : Flat h.field.p h.n h.gates table
 
--- t + 1 elements, the powers of a point
-pub record PowerRow (h : Header) (ws : List ℕ) : Type 0 where
-  pub long : length ws ≡ h.t + 1
+-- powers of the point x, t + 1 of them or more, and no more than there is room for
+pub record PowerRow (h : Header) (x : ℕ) (ws : List ℕ) : Type 0 where
+  pub some : h.t < length ws
+  pub few : length ws ≤ 16
+  pub are : ws ≡ powers h.field.p x (length ws)
   pub below : all_below h.field.p ws ≡ true
 
--- a run's coins and table
-pub record Ran (plan : Plan) (h : Header) (cs table : List ℕ) : Type 0 where
+-- a run's inputs, coins and table
+pub record Ran (plan : Plan) (h : Header) (xs cs table : List ℕ) : Type 0 where
+  pub inputs_full : length xs ≡ input_count plan
+  pub inputs_below : all_below h.field.p xs ≡ true
   pub full : length cs ≡ coin_count plan
   pub below : all_below h.field.p cs ≡ true
   pub running : Running h table
@@ -86,23 +89,24 @@ pub record Multiplies (h : Header) (a b from count : ℕ) : Type 0 where
   pub right : b < h.gates
   pub room : from + h.t * (h.t + h.t + 1) ≤ count
 
--- among dealings of t coins each, whose coins have these owners, number k is party i's
-pub record Deals (t i : ℕ) (owners : List ℕ) (k : ℕ) : Type 0 where
-  pub room : t * k + t ≤ length owners
-  pub own : (xs : List ℕ) → length owners ≤ length xs → own_of i owners xs ≡ take t (drop (t * k) xs)
+-- dealings of these values with t coins each, for a row of `row` powers: of `count` coins the first one's begin at `from`, each next one's `step` numbers later
+pub record Seen (p row : ℕ) (vs : List ℕ) (t from step count : ℕ) : Type 0 where
+  pub few : t < row
+  pub below : all_below p vs ≡ true
+  pub room : from + step * length vs + t ≤ count + step
 
--- what each gate puts, by the place at which what it takes of a list begins; that of the first gate begins at k
-unfoldable pub gathered : (Gate → ℕ → List ℕ) → (Gate → List ℕ) → ℕ → List Gate → List ℕ
-gathered f owners k [] = []
-gathered f owners k (x ∷ gs) = f x k ++ gathered f owners (k + length (owners x)) gs
+-- of numbers with these owners, party i's own are `count` numbers from number `at` on
+pub record Owns (i : ℕ) (owners : List ℕ) (at count : ℕ) : Type 0 where
+  pub room : at + count ≤ length owners
+  pub own : (xs : List ℕ) → length owners ≤ length xs → own_of i owners xs ≡ take count (drop at xs)
 
 -- all mail to party i
-unfoldable pub mail_in : Plan → Header → List ℕ → List ℕ → ℕ → List ℕ
-mail_in plan h table cs i =
+unfoldable pub mail_in : Plan → Header → List ℕ → List ℕ → List ℕ → ℕ → List ℕ
+mail_in plan h table xs cs i =
     first_in plan h.n table i
-    ++ (steps_in plan h table cs (powers h.field.p (point_of plan i) (h.t + 1)) 0 plan.gates ++ outs_in plan h.n table i)
+    ++ (gathered (pieces_in h table xs cs (point_of plan i)) plan 0 0 plan.gates ++ outs_in plan h.n table i)
 
 -- party i's view
 unfoldable pub view_in : Plan → Header → List ℕ → List ℕ → List ℕ → ℕ → List ℕ
 view_in plan h table xs cs i =
-    own_inputs plan i xs ++ (own_coins plan i cs ++ (mail_in plan h table cs i ++ map (opened_in plan h table) (out_wires plan i)))
+    own_inputs plan i xs ++ (own_coins plan i cs ++ (mail_in plan h table xs cs i ++ map (opened_in plan h table) (out_wires plan i)))

@@ -6,23 +6,25 @@ ghost use Rattle.std.specs.Prelude.{ℕ, List, IfSome, IfNone, ◌≡◌, cond, 
 ghost use mathlib.Core.List.{[], ◌∷◌, map, flat_map};
 ghost use Rattle.numbers.specs.Tables.{tab};
 ghost use Rattle.numbers.specs.Bytes.{width, numbers, bytes_of};
-ghost use Rattle.field.specs.Mod.{mul};
 ghost use Rattle.field.specs.Field.{Is, is_wide};
-ghost use Rattle.sharing_laws.specs.Interp.{dot};
+ghost use Rattle.sharing_laws.specs.Poly.{eval};
 ghost use Rattle.plan.specs.Plans.{point_of, is_input_of, input_wires, out_wires, input_owners_at, coin_owners_at, own_of, own_inputs, own_coins};
 ghost use Rattle.plan.specs.declared.Gate.{Gate};
+ghost use Rattle.plan.specs.declared.Gate.TheVariants.{Multiply, Random};
 ghost use Rattle.plan.specs.File.{plan_of, gate_place, gate_at};
 ghost use Rattle.plan_coalition.specs.Coalitions.{in_set, members};
 ghost use Rattle.run_protocol.specs.Rounds.{view_count};
 ghost use Rattle.run_protocol.specs.Shares.{share_table};
 ghost use Rattle.run_protocol.specs.Tables.{table_view_of};
-ghost use Rattle.run_dealings.specs.Rows.{rows_of, powers, Given};
-ghost use Rattle.run_views.specs.Flat.{share_in, first_in, outs_in, opened_in, piece_in, pieces_in, steps_in, mail_in, view_in, gathered, Multiplies, Deals, PowerRow, Ran};
+ghost use Rattle.run_dealings.specs.Rows.{rows_of, Fitted, Given};
+ghost use Rattle.run_views.specs.Flat.{share_in, first_in, outs_in, opened_in, pieces_of, pieces_in, mail_in, view_in, gathered, Multiplies, Seen, Owns, PowerRow, Ran};
 ghost use Rattle.run_views.specs.Writing.{Put};
 
 use crate::writer::Writer;
 use field::Sums;
-use plan::{Gate, Gates, PlanFile};
+use plan::{Gate, Gates, PlanFile, Rule};
+use run_dealings::Dealings;
+use run_tables::RunPlan;
 
 mod writer;
 
@@ -40,19 +42,32 @@ impl Writer<'_> {
             self.at += 1;
         }
     }
+
+    // So many numbers of a lent list, from number `from` on.
+    #[tactic(auto, using(crate::proofs::ViewLaws::copying))]
+    fn put_part(&mut self, list: &[u8], from: usize, count: usize)
+        requires count_in_bounds { from + count ≤ length list.now / width }
+        ensures { Put (take count (drop from (numbers list.now))) self.old self.new }
+    {
+        for j in 0..count {
+            self.put(numbers::number(list, from + j));
+        }
+    }
 }
 
 // ---- the run
 
-// A run that is seen: its plan, all inputs and coins, and its table of shares.
+// A run that is seen: its plan, what its dealings are worked with, all inputs and coins, and its table of shares.
 #[derive(Clone, Copy)]
 struct Run<'a> {
     plan: &'a PlanFile<'a>,
+    dealings: &'a Dealings<'a>,
     inputs: &'a [u8],
     coins: &'a [u8],
     table: &'a [u64],
-    ghost ran: { Ran (plan_of plan.now.bytes.now) plan.now.header (numbers coins.now) table.now },
-    ghost lent: { length coins.now < 2 ^ 63 },
+    ghost fitted: { Fitted plan.now.bytes.now plan.now.header dealings.now.sums.field.p dealings.now.t dealings.now.points.now dealings.now.weights.now },
+    ghost ran: { Ran (plan_of plan.now.bytes.now) plan.now.header (numbers inputs.now) (numbers coins.now) table.now },
+    ghost lent: { (length inputs.now < 2 ^ 63) × (length coins.now < 2 ^ 63) },
 }
 
 // Whether gate g is an input of party j. Its kind tells apart the gates that are no inputs before the whole gate is read.
@@ -88,10 +103,9 @@ impl Run<'_> {
         ensures { Is self.now.plan.now.header.field.p (opened_in (plan_of self.now.plan.now.bytes.now) self.now.plan.now.header self.now.table.now w) result }
     {
         let h = self.plan.header;
-        let points = seat_messages::points_of(self.plan);
         let a = h.n * w;
         let e = a + h.n;
-        sharing_openings::opened(h.field, h.t, &points[..h.n], &self.table[a..e])
+        sharing_openings::opened(h.field, h.t, self.dealings.points, &self.table[a..e])
     }
 
     // Party i's shares of party j's inputs.
@@ -124,16 +138,18 @@ impl Run<'_> {
         }
     }
 
-    // What each gate puts, by the place at which its coins begin.
+    // What each gate puts, by the places at which its inputs and its coins begin.
     #[tactic(auto, using(crate::proofs::ViewLaws::gathering))]
-    fn put_gates<F: Fn(usize, usize, &mut Writer)>(&self, put: F, out: &mut Writer)
-        requires { (g from : ℕ) (w : _) → g < self.now.plan.now.header.gates → from + length (coin_owners_at (plan_of self.now.plan.now.bytes.now) (gate_at self.now.plan.now.bytes.now g)) ≤ length self.now.coins.now / width → F.pre put g from w }
-        ensures { (f : Gate → ℕ → List ℕ) → ((g from : ℕ) (w w' : _) → g < self.now.plan.now.header.gates → F.post put g from w tt w' → Put (f (gate_at self.now.plan.now.bytes.now g) from) w.now w'.now)
-            → Put (gathered f (coin_owners_at (plan_of self.now.plan.now.bytes.now)) 0 (plan_of self.now.plan.now.bytes.now).gates) out.old out.new }
+    fn put_gates<F: Fn(usize, usize, usize, &mut Writer)>(&self, put: F, out: &mut Writer)
+        requires { (g i from : ℕ) (w : _) → g < self.now.plan.now.header.gates → i + length (input_owners_at (plan_of self.now.plan.now.bytes.now) (gate_at self.now.plan.now.bytes.now g)) ≤ length self.now.inputs.now / width → from + length (coin_owners_at (plan_of self.now.plan.now.bytes.now) (gate_at self.now.plan.now.bytes.now g)) ≤ length self.now.coins.now / width → F.pre put g i from w }
+        ensures { (f : Gate → ℕ → ℕ → List ℕ) → ((g i from : ℕ) (w w' : _) → g < self.now.plan.now.header.gates → F.post put g i from w tt w' → Put (f (gate_at self.now.plan.now.bytes.now g) i from) w.now w'.now)
+            → Put (gathered f (plan_of self.now.plan.now.bytes.now) 0 0 (plan_of self.now.plan.now.bytes.now).gates) out.old out.new }
     {
+        let mut i = 0;
         let mut from = 0;
         for g in 0..self.plan.header.gates {
-            put(g, from, out);
+            put(g, i, from, out);
+            i += run_ideal::inputs_taken(self.plan, g);
             from += run_dealings::coins_taken(self.plan, g);
         }
     }
@@ -154,76 +170,136 @@ impl Run<'_> {
 
 // ---- the pieces
 
-// The pieces of a run's products at a point, whose powers are lent.
+// Dealings of values with t coins each: the first one's coins begin at number `from`, each next one's `step` numbers later.
+#[derive(Clone, Copy)]
+struct Dealt<'a> {
+    values: &'a [u64],
+    t: usize,
+    from: usize,
+    step: usize,
+}
+
+// The mail of a run's gates to party i, with the powers of its point.
 #[derive(Clone, Copy)]
 struct Pieces<'a> {
     run: &'a Run<'a>,
+    i: usize,
     powers: &'a [u64],
-    sums: Sums,
-    ghost row: { PowerRow run.now.plan.now.header powers.now },
-    ghost same: { sums.field.p ≡ run.now.plan.now.header.field.p },
+    ghost row: { PowerRow run.now.plan.now.header (point_of (plan_of run.now.plan.now.bytes.now) i) powers.now },
 }
 
 impl Pieces<'_> {
-    // The piece of party d + 1's product of its shares of two wires, when its coins begin at number `from`.
+    // The piece of a dealing of s with t coins, which begin at number `from`.
     // As it is: the sums are built here with the prime's range as a constant, as `column` of run_dealings builds them; no private function is seen by
     // both crates, and a public one of field would be there for these two.
     #[tactic(auto, using(crate::proofs::ViewLaws::dealing))]
-    fn piece<const WIDE: bool>(&self, a: usize, b: usize, d: usize, from: usize) -> u64
+    fn piece<const WIDE: bool>(&self, s: u64, t: usize, from: usize) -> u64
         requires wide_value { WIDE ≡ is_wide self.now.run.now.plan.now.header.field.p }
-        requires a_lt_gates { a < self.now.run.now.plan.now.header.gates }
-        requires b_lt_gates { b < self.now.run.now.plan.now.header.gates }
-        requires d_lt_n { d < self.now.run.now.plan.now.header.n }
-        requires t_in_bounds { from + self.now.run.now.plan.now.header.t ≤ length self.now.run.now.coins.now / width }
-        ensures { Is self.now.run.now.plan.now.header.field.p (dot self.now.run.now.plan.now.header.field.p self.now.powers.now (mul self.now.run.now.plan.now.header.field.p (share_in self.now.run.now.plan.now.header.n self.now.run.now.table.now (d + 1) a) (share_in self.now.run.now.plan.now.header.n self.now.run.now.table.now (d + 1) b) ∷ take self.now.run.now.plan.now.header.t (drop from (numbers self.now.run.now.coins.now)))) result }
+        requires s_lt_p { s < self.now.run.now.plan.now.header.field.p }
+        requires t_lt_powers { t < length self.now.powers.now }
+        requires t_in_bounds { from + t ≤ length self.now.run.now.coins.now / width }
+        ensures { Is self.now.run.now.plan.now.header.field.p (eval self.now.run.now.plan.now.header.field.p (s ∷ take t (drop from (numbers self.now.run.now.coins.now))) (point_of (plan_of self.now.run.now.plan.now.bytes.now) self.now.i)) result }
     {
         let sums = Sums {
             field: self.run.plan.header.field,
             wide: WIDE,
-            reciprocal: self.sums.reciprocal,
+            reciprocal: self.run.dealings.sums.reciprocal,
         };
-        let left = self.run.share(d + 1, a);
-        let right = self.run.share(d + 1, b);
-        let s = sums.reduced(sums.add_product(0, left, right));
-        let mut sum = sums.add_product(0, self.powers[0], s);
-        for j in 0..self.run.plan.header.t {
+        let powers = &self.powers[..t + 1];
+        let mut sum = sums.add_product(0, powers[0], s);
+        for j in 0..t {
             let coin = numbers::number(self.run.coins, from + j);
-            sum = sums.add_product(sum, self.powers[j + 1], coin);
+            sum = sums.add_product(sum, powers[j + 1], coin);
         }
         sums.reduced(sum)
     }
 
-    // The pieces of all dealers' products, when the first dealer's coins begin at number `from`.
+    // The pieces of dealings.
     #[tactic(auto, using(crate::proofs::ViewLaws::pieces))]
-    fn put<const WIDE: bool>(&self, a: usize, b: usize, from: usize, out: &mut Writer)
+    fn put_by<const WIDE: bool>(&self, dealt: &Dealt, out: &mut Writer)
         requires wide_value { WIDE ≡ is_wide self.now.run.now.plan.now.header.field.p }
-        requires multiplies { Multiplies self.now.run.now.plan.now.header a b from (length self.now.run.now.coins.now / width) }
-        ensures { Put (tab (piece_in self.now.run.now.plan.now.header self.now.run.now.table.now a b (numbers self.now.run.now.coins.now) from self.now.powers.now) (self.now.run.now.plan.now.header.t + self.now.run.now.plan.now.header.t + 1)) out.old out.new }
+        requires seen { Seen self.now.run.now.plan.now.header.field.p (length self.now.powers.now) dealt.now.values.now dealt.now.t dealt.now.from dealt.now.step (length self.now.run.now.coins.now / width) }
+        ensures { Put (pieces_of self.now.run.now.plan.now.header.field.p dealt.now.values.now dealt.now.t (numbers self.now.run.now.coins.now) dealt.now.from dealt.now.step (point_of (plan_of self.now.run.now.plan.now.bytes.now) self.now.i)) out.old out.new }
     {
-        let t = self.run.plan.header.t;
-        let dealers = t + t + 1;
-        for d in 0..dealers {
-            out.put(self.piece::<WIDE>(a, b, d, from + t * d));
+        for (d, value) in dealt.values.iter().enumerate() {
+            out.put(self.piece::<WIDE>(*value, dealt.t, dealt.from + dealt.step * d));
         }
     }
 
-    // The mail of gate g's steps, when the gate's coins begin at number `from`; the prime's range is a constant in each call. No plan file has a
-    // gate of the last two kinds.
+    // The same; the prime's range is a constant in each call.
+    #[tactic(auto, using(crate::proofs::ViewLaws::pieces))]
+    fn put(&self, dealt: &Dealt, out: &mut Writer)
+        requires { Seen self.now.run.now.plan.now.header.field.p (length self.now.powers.now) dealt.now.values.now dealt.now.t dealt.now.from dealt.now.step (length self.now.run.now.coins.now / width) }
+        ensures { Put (pieces_of self.now.run.now.plan.now.header.field.p dealt.now.values.now dealt.now.t (numbers self.now.run.now.coins.now) dealt.now.from dealt.now.step (point_of (plan_of self.now.run.now.plan.now.bytes.now) self.now.i)) out.old out.new }
+    {
+        if self.run.dealings.sums.wide {
+            self.put_by::<true>(dealt, out)
+        } else {
+            self.put_by::<false>(dealt, out)
+        }
+    }
+
+    // The pieces of the dealers' products of their shares of two wires, when the first dealer's coins begin at number `from`.
     #[tactic(auto, using(crate::proofs::ViewLaws::gate_pieces))]
-    fn put_steps(&self, g: usize, from: usize, out: &mut Writer)
+    fn put_products(&self, a: usize, b: usize, from: usize, out: &mut Writer)
+        requires { Multiplies self.now.run.now.plan.now.header a b from (length self.now.run.now.coins.now / width) }
+        ensures { Put (pieces_in self.now.run.now.plan.now.header self.now.run.now.table.now (numbers self.now.run.now.inputs.now) (numbers self.now.run.now.coins.now) (point_of (plan_of self.now.run.now.plan.now.bytes.now) self.now.i) (Multiply a b) 0 from) out.old out.new }
+    {
+        let h = self.run.plan.header;
+        let t = h.t;
+        let m = t + t + 1;
+        let products = run_dealings::products(h.field, h.n, m, a, b, self.run.table);
+        let dealt = Dealt {
+            values: &products[..m],
+            t,
+            from,
+            step: t,
+        };
+        self.put(&dealt, out);
+    }
+
+    // The pieces of all draws, when the first one is number `next` of the inputs and its coins begin at number `from`.
+    #[tactic(auto, using(crate::proofs::ViewLaws::gate_pieces))]
+    fn put_draws(&self, next: usize, from: usize, out: &mut Writer)
+        requires { from + self.now.run.now.plan.now.header.t * self.now.run.now.plan.now.header.n ≤ length self.now.run.now.coins.now / width }
+        ensures { Put (pieces_in self.now.run.now.plan.now.header self.now.run.now.table.now (numbers self.now.run.now.inputs.now) (numbers self.now.run.now.coins.now) (point_of (plan_of self.now.run.now.plan.now.bytes.now) self.now.i) Random next from) out.old out.new }
+    {
+        let h = self.run.plan.header;
+        let draws = run_dealings::draws(h.n, numbers::rest(self.run.inputs, next));
+        let dealt = Dealt {
+            values: &draws[..h.n],
+            t: h.t,
+            from,
+            step: h.t,
+        };
+        self.put(&dealt, out);
+    }
+
+    // The mail of gate g's steps, when the gate's inputs begin at number `next` and its coins at number `from`.
+    #[tactic(auto, using(crate::proofs::ViewLaws::gate_pieces))]
+    fn put_steps(&self, g: usize, next: usize, from: usize, out: &mut Writer)
         requires g_lt_gates { g < self.now.run.now.plan.now.header.gates }
         requires g_in_bounds { from + length (coin_owners_at (plan_of self.now.run.now.plan.now.bytes.now) (gate_at self.now.run.now.plan.now.bytes.now g)) ≤ length self.now.run.now.coins.now / width }
-        ensures { Put (pieces_in self.now.run.now.plan.now.header self.now.run.now.table.now (numbers self.now.run.now.coins.now) from self.now.powers.now (gate_at self.now.run.now.plan.now.bytes.now g)) out.old out.new }
+        ensures { Put (pieces_in self.now.run.now.plan.now.header self.now.run.now.table.now (numbers self.now.run.now.inputs.now) (numbers self.now.run.now.coins.now) (point_of (plan_of self.now.run.now.plan.now.bytes.now) self.now.i) (gate_at self.now.run.now.plan.now.bytes.now g) next from) out.old out.new }
     {
         match self.run.plan.gate(g) {
-            Gate::Multiply(a, b) if self.sums.wide => self.put::<true>(a, b, from, out),
-            Gate::Multiply(a, b) => self.put::<false>(a, b, from, out),
+            Gate::Multiply(a, b) => self.put_products(a, b, from, out),
+            Gate::Random => self.put_draws(next, from, out),
             _ => (),
         }
     }
 }
 
 // ---- a party
+
+// A part of what a gate takes of a list: so many numbers from number `at` on.
+#[derive(Clone, Copy)]
+struct Part {
+    at: usize,
+    count: usize,
+}
+
+const NONE: Part = Part { at: 0, count: 0 };
 
 // A party of a run, whose view is written.
 #[derive(Clone, Copy)]
@@ -234,71 +310,105 @@ struct Member<'a> {
 }
 
 impl Member<'_> {
-    // The party's own inputs. No plan file has a gate of draws, so that an input gate takes one number and others none.
-    #[tactic(auto, using(crate::proofs::ViewLaws::inputting))]
-    fn write_inputs(&self, out: &mut Writer)
-        ensures { Put (own_inputs (plan_of self.now.run.now.plan.now.bytes.now) self.now.i (numbers self.now.run.now.inputs.now)) out.old out.new }
+    // The party's of blocks of so many numbers, one for each party.
+    fn block(&self, count: usize) -> Part
+        requires { count ≤ 42 }
+        ensures { record { at : result.at ≡ count * (self.now.i - 1); count : result.count ≡ count } }
     {
-        let mut k = 0;
-        for g in 0..self.run.plan.header.gates {
-            if let Gate::Input(party) = self.run.plan.gate(g) {
-                if party == self.i {
-                    out.put(numbers::read(self.run.inputs, k));
-                }
-                k += 1;
-            }
+        Part {
+            at: count * (self.i - 1),
+            count,
         }
     }
 
-    // Which of a gate's dealings is the party's, if one is.
-    #[tactic(auto, using(crate::proofs::ViewLaws::dealing_own))]
-    fn own_dealing(&self, gate: Gate) -> Option<usize>
-        ensures some { IfSome result (λ k. Deals self.now.run.now.plan.now.header.t self.now.i (coin_owners_at (plan_of self.now.run.now.plan.now.bytes.now) gate) k) }
-        ensures none { IfNone result ((xs : List ℕ) → own_of self.now.i (coin_owners_at (plan_of self.now.run.now.plan.now.bytes.now) gate) xs ≡ []) }
+    // Of the inputs that a gate takes, the party's own: a random wire has a draw of each party.
+    #[tactic(auto, using(crate::proofs::ViewLaws::owning))]
+    fn own_inputs(&self, gate: Gate) -> Part
+        ensures { Owns self.now.i (input_owners_at (plan_of self.now.run.now.plan.now.bytes.now) gate) result.at result.count }
+    {
+        match gate {
+            Gate::Input(party) => if party == self.i {
+                Part { at: 0, count: 1 }
+            } else {
+                NONE
+            },
+            Gate::Random => self.block(1),
+            _ => NONE,
+        }
+    }
+
+    // Of the coins that a multiply gate takes, the party's own: of its product, or of zero and of its masked product.
+    #[tactic(auto, using(crate::proofs::ViewLaws::owning))]
+    fn own_multiply(&self) -> Part
+        ensures { Owns self.now.i (coin_owners_at (plan_of self.now.run.now.plan.now.bytes.now) (Multiply 0 0)) result.at result.count }
+    {
+        let t = self.run.plan.header.t;
+        match self.run.plan.header.rule {
+            Rule::Reduction => if self.i <= t + t + 1 {
+                self.block(t)
+            } else {
+                NONE
+            },
+            Rule::Truncation => self.block(3 * t),
+        }
+    }
+
+    // Of the coins that a gate takes, the party's own.
+    #[tactic(auto, using(crate::proofs::ViewLaws::owning))]
+    fn own_coins(&self, gate: Gate) -> Part
+        ensures { Owns self.now.i (coin_owners_at (plan_of self.now.run.now.plan.now.bytes.now) gate) result.at result.count }
     {
         let t = self.run.plan.header.t;
         match gate {
-            Gate::Input(s) => if s == self.i { Some(0) } else { None },
-            Gate::Multiply(_, _) => if self.i <= t + t + 1 {
-                Some(self.i - 1)
+            Gate::Input(party) => if party == self.i {
+                Part { at: 0, count: t }
             } else {
-                None
+                NONE
             },
-            Gate::Random => Some(self.i - 1),
-            _ => None,
+            Gate::Multiply(_, _) => self.own_multiply(),
+            Gate::Random => self.block(t),
+            _ => NONE,
         }
     }
 
-    // The t coins from number `from` on.
-    #[tactic(auto, using(crate::proofs::ViewLaws::copying))]
-    fn put_coins(&self, from: usize, out: &mut Writer)
-        requires t_in_bounds { from + self.now.run.now.plan.now.header.t ≤ length self.now.run.now.coins.now / width }
-        ensures { Put (take self.now.run.now.plan.now.header.t (drop from (numbers self.now.run.now.coins.now))) out.old out.new }
+    // The party's own of the inputs that gate g takes, which begin at number `next`.
+    #[tactic(auto, using(crate::proofs::ViewLaws::own_parts))]
+    fn put_inputs(&self, g: usize, next: usize, out: &mut Writer)
+        requires g_lt_gates { g < self.now.run.now.plan.now.header.gates }
+        requires g_in_bounds { next + length (input_owners_at (plan_of self.now.run.now.plan.now.bytes.now) (gate_at self.now.run.now.plan.now.bytes.now g)) ≤ length self.now.run.now.inputs.now / width }
+        ensures { Put (own_of self.now.i (input_owners_at (plan_of self.now.run.now.plan.now.bytes.now) (gate_at self.now.run.now.plan.now.bytes.now g)) (drop next (numbers self.now.run.now.inputs.now))) out.old out.new }
     {
-        for j in 0..self.run.plan.header.t {
-            out.put(numbers::number(self.run.coins, from + j));
-        }
+        let own = self.own_inputs(self.run.plan.gate(g));
+        out.put_part(self.run.inputs, next + own.at, own.count);
     }
 
     // The party's own of the coins that gate g takes, which begin at number `from`.
-    #[tactic(auto, using(crate::proofs::ViewLaws::drawing))]
-    fn put_own(&self, g: usize, from: usize, out: &mut Writer)
+    #[tactic(auto, using(crate::proofs::ViewLaws::own_parts))]
+    fn put_coins(&self, g: usize, from: usize, out: &mut Writer)
         requires g_lt_gates { g < self.now.run.now.plan.now.header.gates }
         requires g_in_bounds { from + length (coin_owners_at (plan_of self.now.run.now.plan.now.bytes.now) (gate_at self.now.run.now.plan.now.bytes.now g)) ≤ length self.now.run.now.coins.now / width }
         ensures { Put (own_of self.now.i (coin_owners_at (plan_of self.now.run.now.plan.now.bytes.now) (gate_at self.now.run.now.plan.now.bytes.now g)) (drop from (numbers self.now.run.now.coins.now))) out.old out.new }
     {
-        if let Some(k) = self.own_dealing(self.run.plan.gate(g)) {
-            self.put_coins(from + self.run.plan.header.t * k, out);
-        }
+        let own = self.own_coins(self.run.plan.gate(g));
+        out.put_part(self.run.coins, from + own.at, own.count);
+    }
+
+    // The party's own inputs.
+    #[tactic(auto, using(crate::proofs::ViewLaws::own_gates))]
+    fn write_inputs(&self, out: &mut Writer)
+        ensures { Put (own_inputs (plan_of self.now.run.now.plan.now.bytes.now) self.now.i (numbers self.now.run.now.inputs.now)) out.old out.new }
+    {
+        self.run
+            .put_gates(|g, next, _from, out| self.put_inputs(g, next, out), out);
     }
 
     // The party's own coins.
-    #[tactic(auto, using(crate::proofs::ViewLaws::owning))]
+    #[tactic(auto, using(crate::proofs::ViewLaws::own_gates))]
     fn write_coins(&self, out: &mut Writer)
         ensures { Put (own_coins (plan_of self.now.run.now.plan.now.bytes.now) self.now.i (numbers self.now.run.now.coins.now)) out.old out.new }
     {
         self.run
-            .put_gates(|g, from, out| self.put_own(g, from, out), out);
+            .put_gates(|g, _next, from, out| self.put_coins(g, from, out), out);
     }
 
     // The mail of round 0: the party's shares of all inputs, by the party that gave them.
@@ -329,43 +439,29 @@ impl Member<'_> {
         self.run.put_outs(self.i, |w| self.run.opening(w), out);
     }
 
-    // The powers of the party's point, t + 1 of them.
-    #[tactic(auto, using(crate::proofs::ViewLaws::powering))]
-    fn power_row(&self) -> [u64; 16]
-        ensures { take (self.now.run.now.plan.now.header.t + 1) result ≡ powers self.now.run.now.plan.now.header.field.p (point_of (plan_of self.now.run.now.plan.now.bytes.now) self.now.i) (self.now.run.now.plan.now.header.t + 1) }
-    {
-        let h = self.run.plan.header;
-        let points = seat_messages::points_of(self.run.plan);
-        let mut row = [0u64; 16];
-        let k = h.t + 1;
-        run_dealings::powers(h.field, points[self.i - 1], &mut row[..k]);
-        row
-    }
-
-    // The mail of all gates' steps, by the powers of the party's point.
+    // The mail of all gates' steps.
     #[tactic(auto, using(crate::proofs::ViewLaws::stepping))]
-    fn write_steps(&self, powers: &[u64], out: &mut Writer)
-        requires { PowerRow self.now.run.now.plan.now.header powers.now }
-        ensures { Put (steps_in (plan_of self.now.run.now.plan.now.bytes.now) self.now.run.now.plan.now.header self.now.run.now.table.now (numbers self.now.run.now.coins.now) powers.now 0 (plan_of self.now.run.now.plan.now.bytes.now).gates) out.old out.new }
+    fn write_steps(&self, out: &mut Writer)
+        ensures { Put (gathered (pieces_in self.now.run.now.plan.now.header self.now.run.now.table.now (numbers self.now.run.now.inputs.now) (numbers self.now.run.now.coins.now) (point_of (plan_of self.now.run.now.plan.now.bytes.now) self.now.i)) (plan_of self.now.run.now.plan.now.bytes.now) 0 0 (plan_of self.now.run.now.plan.now.bytes.now).gates) out.old out.new }
     {
         let pieces = Pieces {
             run: self.run,
-            powers,
-            sums: Sums::new(self.run.plan.header.field),
+            i: self.i,
+            powers: self.run.dealings.power_row(self.i - 1),
         };
-        self.run
-            .put_gates(|g, from, out| pieces.put_steps(g, from, out), out);
+        self.run.put_gates(
+            |g, next, from, out| pieces.put_steps(g, next, from, out),
+            out,
+        );
     }
 
     // All mail to the party.
     #[tactic(auto, using(crate::proofs::JoinLaws::joining))]
     fn write_mail(&self, out: &mut Writer)
-        ensures { Put (mail_in (plan_of self.now.run.now.plan.now.bytes.now) self.now.run.now.plan.now.header self.now.run.now.table.now (numbers self.now.run.now.coins.now) self.now.i) out.old out.new }
+        ensures { Put (mail_in (plan_of self.now.run.now.plan.now.bytes.now) self.now.run.now.plan.now.header self.now.run.now.table.now (numbers self.now.run.now.inputs.now) (numbers self.now.run.now.coins.now) self.now.i) out.old out.new }
     {
-        let row = self.power_row();
-        let k = self.run.plan.header.t + 1;
         self.write_first(out);
-        self.write_steps(&row[..k], out);
+        self.write_steps(out);
         self.write_outs(out);
     }
 
@@ -386,27 +482,28 @@ impl Member<'_> {
 // The views of a set's members, ascending, from the table of shares of the run; the set names no party above n.
 #[tactic(auto, using(crate::proofs::JoinLaws::viewing))]
 pub fn write_views(
-    plan: &PlanFile,
+    run: &RunPlan,
     set: u16,
     inputs: &[u8],
     coins: &[u8],
     table: &[u64],
     out: &mut [u8],
 )
-    requires given { Given (plan_of plan.now.bytes.now) inputs.now coins.now }
-    requires table_value { table.now ≡ rows_of (plan_of plan.now.bytes.now).points (share_table (plan_of plan.now.bytes.now) (numbers inputs.now) (numbers coins.now) []) }
-    requires set_bound { set < 2 ^ plan.now.header.n }
-    requires out_len { length out.old ≡ width * view_count (plan_of plan.now.bytes.now) (members set) }
-    ensures { out.new ≡ bytes_of (flat_map (table_view_of (plan_of plan.now.bytes.now) (numbers inputs.now) (numbers coins.now) []) (members set)) }
+    requires given { Given (plan_of run.now.plan.now.bytes.now) inputs.now coins.now }
+    requires table_value { table.now ≡ rows_of (plan_of run.now.plan.now.bytes.now).points (share_table (plan_of run.now.plan.now.bytes.now) (numbers inputs.now) (numbers coins.now) []) }
+    requires set_bound { set < 2 ^ run.now.plan.now.header.n }
+    requires out_len { length out.old ≡ width * view_count (plan_of run.now.plan.now.bytes.now) (members set) }
+    ensures { out.new ≡ bytes_of (flat_map (table_view_of (plan_of run.now.plan.now.bytes.now) (numbers inputs.now) (numbers coins.now) []) (members set)) }
 {
-    let run = Run {
-        plan,
+    let seen = Run {
+        plan: run.plan,
+        dealings: &run.dealings,
         inputs,
         coins,
         table,
     };
     let mut writer = Writer { out, at: 0 };
     for i in 1..=16 {
-        run.write_member(set, i, &mut writer);
+        seen.write_member(set, i, &mut writer);
     }
 }

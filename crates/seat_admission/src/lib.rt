@@ -61,7 +61,7 @@ pub fn check_coins(coins: &[u8], count: usize, p: u64) -> Result<(), Refusal>
 #[tactic(auto, using(crate::proofs::CheckLaws::stating))]
 fn check_state(state: &[u8], gates: usize, last: usize, p: u64) -> Result<(), Refusal>
     requires gates_bound { gates ≤ 1024 }
-    requires last_bound { last ≤ 1026 }
+    requires last_bound { last ≤ 3074 }
     ensures { result ≡ first_of (state_checks p gates last state.now) }
 {
     if !numbers::count_is(state, 1 + gates) {
@@ -128,7 +128,7 @@ fn check_own(seat: &Seat, lists: &Lists) -> Result<(), Refusal>
         return Err(Refusal::Coalition);
     }
     check_inputs(lists.inputs, seat.own_inputs(), h.field.p)?;
-    check_coins(lists.coins, seat.tally.coins, h.field.p)
+    check_coins(lists.coins, seat.own_coins(), h.field.p)
 }
 
 // Refusals 17 to 20 of call number k.

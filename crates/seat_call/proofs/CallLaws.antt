@@ -161,11 +161,13 @@ state-fresh plan k mail s z b = record { long = refl; eq = rw z; below = b }
 pub lent_parts : (plan : Plan) (i k : ℕ) (inputs coins s mail out : List ℕ) → Sendable plan i k inputs coins (drop 1 (numbers s)) mail out
     → Lent plan i k inputs coins (take (length s - width) (drop width s)) mail out
 lent_parts plan i k inputs coins s mail out a = record {
-  party = a.party_low;
   call = a.call-high;
-  own = record { inputs_below = a.inputs_below; coined = record { below = a.coins_below; long = a.coins_long } };
-  shares_below = part_below plan.p plan.p s refl a.shares_below;
-  mail_below = a.mail_below;
+  elements = record {
+    inputs_below = a.inputs_below;
+    coins_below = a.coins_below;
+    shares_below = part_below plan.p plan.p s refl a.shares_below;
+    mail_below = a.mail_below;
+  };
   room = a.out_long;
 }
 
@@ -209,10 +211,7 @@ module _ (plan : Plan) (i : ℕ) (inputs coins s mail out : List ℕ) (a : Admit
 
     pub learnt-sendable : Sendable plan i k inputs coins (drop 1 (numbers n)) mail out
     learnt-sendable = record {
-      party_low = a.party_low;
-      inputs_long = a.inputs_long;
       inputs_below = a.inputs_below;
-      coins_long = a.coins_long;
       coins_below = a.coins_below;
       shares_below = l.below;
       mail_below = a.mail_below;

@@ -33,10 +33,7 @@ pub record Learnt (plan : Plan) (k : ℕ) (mail old new : List ℕ) : Type 0 whe
 
 -- what call number k writes from, with these shares
 pub record Sendable (plan : Plan) (i k : ℕ) (inputs coins shares mail out : List ℕ) : Type 0 where
-  pub party_low : 1 ≤ i
-  pub inputs_long : length inputs ≡ width * own_input_count plan i
   pub inputs_below : all_below plan.p (numbers inputs) ≡ true
-  pub coins_long : length coins ≡ width * own_coin_count plan i
   pub coins_below : all_below plan.p (numbers coins) ≡ true
   pub shares_below : all_below plan.p shares ≡ true
   pub mail_below : all_below plan.p (numbers mail) ≡ true

@@ -4,7 +4,7 @@
 --     learning_one                   a wire of a party's inputs
 --     Learning, learning_own         all wires of a party's inputs
 --     Gathered, gathering            the wires of all parties' inputs
---     reducing                       the share of a product
+--     opening                        an opening of the mail
 --     learning_mail, resuming        a step's mail, and where the work goes on
 --     learning                       a step
 -- Assumes nothing.
@@ -12,8 +12,8 @@ use mathlib.Core.Path.{◌≡◌, refl, sym, ap, subst, ◌∙◌}
 use mathlib.Core.Logic.{◌⊎◌, inl, inr}
 use mathlib.Core.Bool.{Bool, true, false, cond}
 use mathlib.Core.List.{List, [], ◌∷◌, ◌++◌, flat_map}
-use Prim.Native.Nat.{ℕ, zero, suc, ◌+◌, ◌*◌, ◌<◌, ◌≤◌}
-use native.Mathlib.Nat.{mod-eq_of_lt, mod-lt}
+use Prim.Native.Nat.{ℕ, suc, ◌+◌, ◌*◌, ◌<◌, ◌≤◌}
+use native.Mathlib.Nat.{mod-lt}
 use native.Mathlib.Numerals.{add-one}
 use native.Mathlib.Omega.{arith}
 use borrow.Author.Rules.{rules}
@@ -24,32 +24,33 @@ use lib.ListN.{length, get_or, take, drop, set, drop_of_length-le}
 use lib.Seq.{take-take, drop-cons, drop-drop, get_or-drop, set-get_or}
 use Rattle.numbers.specs.Tables.{tab, count_where}
 use Rattle.numbers.specs.Bytes.{limit, numbers, stored, all_below}
-use Rattle.numbers.proofs.Tables.{length-tab, get_or-tab, tab-ext}
+use Rattle.numbers.proofs.Tables.{length-tab, get_or-tab}
 use Rattle.numbers.proofs.Bytes.{numbers-stored}
-use Rattle.numbers.proofs.Below.{all_below-set, all_below-tab, all_below-take, all_below-drop}
+use Rattle.numbers.proofs.Below.{all_below-set, all_below-take, all_below-drop}
 use Rattle.field.specs.Mod.{add, mul}
 use Rattle.field.specs.Field.{Is, Ready}
+use Rattle.sharing_laws.specs.Basis.{sum_all}
 use Rattle.sharing_laws.specs.Interp.{weights, dot, interpolate}
 use Rattle.sharing_laws.specs.Sharing.{opened}
 use Rattle.sharing_openings.specs.Openable.{Openable}
 use Rattle.sharing_laws.proofs.Interpolation.{length-weights}
 use Rattle.sharing.proofs.Coding.{entry_below}
-use Rattle.seat_messages.proofs.PointLaws.{plan_points_below, points-within, points-part, points-count}
+use Rattle.seat_messages.proofs.PointLaws.{gate_of_file, plan_points_below, points-within, points-part, points-count}
 use Rattle.plan.specs.declared.Gate.{Gate}
 use Rattle.plan.specs.declared.Gate.TheVariants.{Input, Add, Scale, Offset, Multiply, Random, Spend}
 use Rattle.plan.specs.declared.Step.{Step}
 use Rattle.plan.specs.declared.Step.TheVariants.{DealInputs, DealProduct, DealZero, DealMasked, SendTruncated, DealDraws, OpenSpent, SendOuts}
 use Rattle.plan.specs.declared.Header.{Header}
-use Rattle.plan.specs.Plans.{Plan, parties, dealer_points, kind_of, is_kind, multiplying, is_input_of, wires_from, input_wires}
+use Rattle.plan.specs.Plans.{Plan, parties, dealer_count, dealer_points, kind_of, is_kind, multiplying, is_input_of, wires_from, input_wires}
 use Rattle.plan.specs.File.{gate_at, plan_of}
 use Rattle.plan.specs.Planned.{Planned}
 use Rattle.plan.proofs.Wires.{length-input_wires}
-use Rattle.plan.proofs.Planned.{plan_t, plan_p, plan_n, plan_dealers, plan_gates, plan_gate}
+use Rattle.plan.proofs.Planned.{plan_t, plan_p, plan_n, plan_gates, plan_gate}
 use Rattle.plan.proofs.Valid.{valid, planned-ready, gate-kept, scale_constant, offset_constant}
 use Rattle.plan_counts.specs.Counts.{IsGate, Stepped}
 use Rattle.plan_counts.proofs.Steps.{stepped-product}
-use Rattle.seat_learning.specs.Lent.{Holds, reduced_from}
-use Rattle.seat_results.proofs.ResultLaws.{shares_long}
+use Rattle.seat_learning.specs.Lent.{Holds}
+use Rattle.seat_results.proofs.ResultLaws.{shares_long, shares_below, dot_from_one}
 use Rattle.seat_messages.specs.Messages.{from_each, work_gate, work_from, set_all, wires_by_party, learnt, resume_at, learn_from}
 
 -- ---- a plan that passes
@@ -145,7 +146,7 @@ module _ (bs : List ℕ) (h : Header) (from : ℕ) (s₀ : List ℕ) where
           record { rest = rw (add-one, k.eq) (rw (gates_from bs h pl g l, ← e, ← m, n) at w.rest); below = k.below; long = j ∙ w.long }
 
 -- As it is: answers name this set, since the check leaves their goals open by `using` alone.
-pub ruleset going_on = (rules, gate-kept, work-begin, work-end, work-stop, work_next)
+pub ruleset going_on = (rules, gate_of_file, gate-kept, work-begin, work-end, work-stop, work_next)
 
 -- ---- the wires of one party's inputs
 -- one gate
@@ -218,7 +219,7 @@ module _ (bs mail : List ℕ) (h : Header) (i from : ℕ) (s₀ : List ℕ) wher
     learn-count l = omega (arith, rw (gates-past bs h pl g l) at w.next)
 
 -- As it is: answers name this set, since the check leaves their goals open by `using` alone.
-pub ruleset learning_own = (rules, learn-none, learn-next, place_small, learn-end, learn-count)
+pub ruleset learning_own = (rules, gate_of_file, learn-none, learn-next, place_small, learn-end, learn-count)
 
 -- ---- the wires of all parties' inputs
 -- wires set in two parts
@@ -269,115 +270,97 @@ module _ (bs mail : List ℕ) (h : Header) (s₀ : List ℕ) where
 -- As it is: answers name this set, since the check leaves their goals open by `using` alone.
 pub ruleset gathering = (rules, gather_none, gather_next, begin-small, gather-end)
 
--- ---- the share of a product
--- of mail in which each party sent one number
-from_one : (n : ℕ) (vs : List ℕ) → from_each n 1 0 vs ≡ tab (λ j. get_or vs j 0) n
-unfolding from_each
-from_one n vs = tab-ext (λ i. get_or vs (1 * i + 0) 0) (λ j. get_or vs j 0) n (λ i l. let e : 1 * i + 0 ≡ i = omega arith in ap (λ (k : ℕ). get_or vs k 0) e)
+-- ---- an opening of the mail
+module _ (bs : List ℕ) (h : Header) (k : Planned bs h) (d : ℕ) (low : d < h.n) where
+  firsts_few : d + 1 ≤ h.n
+  firsts_few = omega arith
 
-dot-nil : (p : ℕ) (ws : List ℕ) → dot p ws [] ≡ 0
-unfolding dot
-dot-nil p [] = refl
-dot-nil p (w ∷ ws) = refl
+  firsts_fifteen : d + 1 ≤ 15
+  firsts_fifteen = omega (arith, k.n-high)
 
-add_zeros : (p w : ℕ) → 0 < p → add p (mul p w 0) 0 ≡ 0
-unfolding add mul
-add_zeros p w l = let z : w * 0 ≡ 0 = omega arith in rw (z, mod-eq_of_lt {n = 0} {m = p} l, mod-eq_of_lt {n = 0 + 0} {m = p} l)
+  pub firsts_within : (xs : List ℕ) → take h.n xs ≡ (plan_of bs).points → d + 1 ≤ length xs
+  firsts_within xs e = points-within bs h k xs e (d + 1) firsts_few
 
--- numbers that are missing weigh nothing
-dot_read : (p : ℕ) → 0 < p → (ws vs : List ℕ) (m : ℕ) → length ws ≤ m → dot p ws (tab (λ j. get_or vs j 0) m) ≡ dot p ws vs
-unfolding dot tab
-dot_read p l [] vs m h = refl
-dot_read p l (w ∷ ws) vs zero h = absurd (omega arith)
-dot_read p l (w ∷ ws) [] (suc m) h = rw (dot_read p l ws [] m (omega arith), dot-nil p ws) (add_zeros p w l)
-dot_read p l (w ∷ ws) (v ∷ vs) (suc m) h = rw (dot_read p l ws vs m (omega arith))
+  pub firsts_count : (xs : List ℕ) → take h.n xs ≡ (plan_of bs).points → length (take (d + 1) xs) ≡ d + 1
+  firsts_count xs e = points-count bs h k xs e (d + 1) firsts_few
 
-module _ (bs : List ℕ) (h : Header) (k : Planned bs h) (two : 2 * h.t < h.n) where
-  dealers_few : h.t + h.t + 1 ≤ h.n
-  dealers_few = omega arith
+  pub firsts_long : (xs mail : List ℕ) → take (d + 1) xs ≡ from_each (d + 1) 1 0 mail → length (take (d + 1) xs) ≡ d + 1
+  firsts_long xs mail e = ap length e ∙ shares_long (d + 1) 1 0 mail
 
-  dealers_fifteen : h.t + h.t + 1 ≤ 15
-  dealers_fifteen = omega (arith, dealers_few, k.n-high)
+  module _ (points pieces mail : List ℕ) (e : take h.n points ≡ (plan_of bs).points) (q : take (d + 1) pieces ≡ from_each (d + 1) 1 0 (numbers mail)) where
+    part : take (d + 1) points ≡ take (d + 1) (plan_of bs).points
+    part = points-part bs h k points e (d + 1) firsts_few
 
-  pub dealers_within : (xs : List ℕ) → take h.n xs ≡ (plan_of bs).points → h.t + h.t + 1 ≤ length xs
-  dealers_within xs e = points-within bs h k xs e (h.t + h.t + 1) dealers_few
-
-  pub dealers_count : (xs : List ℕ) → take h.n xs ≡ (plan_of bs).points → length (take (h.t + h.t + 1) xs) ≡ h.t + h.t + 1
-  dealers_count xs e = points-count bs h k xs e (h.t + h.t + 1) dealers_few
-
-  pub dealers_long : (xs mail : List ℕ) → take (h.t + h.t + 1) xs ≡ from_each (h.t + h.t + 1) 1 0 mail → length (take (h.t + h.t + 1) xs) ≡ h.t + h.t + 1
-  dealers_long xs mail e = ap length e ∙ shares_long (h.t + h.t + 1) 1 0 mail
-
-  module _ (points pieces mail : List ℕ) (e : take h.n points ≡ (plan_of bs).points) (q : take (h.t + h.t + 1) pieces ≡ from_each (h.t + h.t + 1) 1 0 (numbers mail)) where
-    taken : take (h.t + h.t + 1) pieces ≡ tab (λ j. get_or (numbers mail) j 0) (h.t + h.t + 1)
-    taken = q ∙ from_one (h.t + h.t + 1) (numbers mail)
-
-    dealt : take (h.t + h.t + 1) points ≡ dealer_points (plan_of bs)
-    unfolding dealer_points
-    dealt = points-part bs h k points e (h.t + h.t + 1) dealers_few ∙ ap (λ (m : ℕ). take m (plan_of bs).points) (sym (plan_dealers k))
-
-    pub pieces-openable : all_below h.field.p (numbers mail) ≡ true → Openable h.field.p (h.t + h.t) (take (h.t + h.t + 1) points) (take (h.t + h.t + 1) pieces)
+    pub pieces-openable : all_below h.field.p (numbers mail) ≡ true → Openable h.field.p d (take (d + 1) points) (take (d + 1) pieces)
     pieces-openable b = record {
-      elements = rw (points-part bs h k points e (h.t + h.t + 1) dealers_few) (all_below-take h.field.p (h.t + h.t + 1) (plan_of bs).points (plan_points_below bs h k));
-      known = rw taken (all_below-tab h.field.p (λ j. get_or (numbers mail) j 0) (h.t + h.t + 1) (λ j l. entry_below h.field.p (numbers mail) j (planned-ready bs h k) b));
-      threshold = omega (arith, dealers_count points e);
-      few = omega (arith, dealers_count points e, dealers_fifteen);
-      each = dealers_long pieces (numbers mail) q ∙ sym (dealers_count points e);
+      elements = rw part (all_below-take h.field.p (d + 1) (plan_of bs).points (plan_points_below bs h k));
+      known = rw q (shares_below h.field.p (d + 1) 1 0 (numbers mail) (planned-ready bs h k) b);
+      threshold = omega (arith, firsts_count points e);
+      few = omega (arith, firsts_count points e, firsts_fifteen);
+      each = firsts_long pieces (numbers mail) q ∙ sym (firsts_count points e);
     }
 
-    same-opening : opened h.field.p (h.t + h.t) (take (h.t + h.t + 1) points) (take (h.t + h.t + 1) pieces) ≡ reduced_from (plan_of bs) (numbers mail)
-    unfolding opened interpolate reduced_from
+    same-opening : opened h.field.p d (take (d + 1) points) (take (d + 1) pieces) ≡ opened h.field.p d (plan_of bs).points (numbers mail)
+    unfolding opened interpolate
     same-opening =
-        let w : take (h.t + h.t + 1) (take (h.t + h.t + 1) points) ≡ dealer_points (plan_of bs) = take-take (h.t + h.t + 1) (h.t + h.t + 1) points (omega arith) ∙ dealt in
-        let n : length (weights h.field.p 0 (dealer_points (plan_of bs))) ≤ h.t + h.t + 1 = omega (arith, length-weights h.field.p 0 (dealer_points (plan_of bs)), ap length dealt, dealers_count points e) in
-        rw (w, taken)
-        (dot_read h.field.p (omega (arith, k.p_low)) (weights h.field.p 0 (dealer_points (plan_of bs))) (numbers mail) (h.t + h.t + 1) n
-        ∙ sym (ap (λ (q : ℕ). dot q (weights q 0 (dealer_points (plan_of bs))) (numbers mail)) (plan_p k)))
+        let w : take (d + 1) (take (d + 1) points) ≡ take (d + 1) (plan_of bs).points = take-take (d + 1) (d + 1) points (omega arith) ∙ part in
+        let n : length (weights h.field.p 0 (take (d + 1) (plan_of bs).points)) ≤ d + 1 = omega (arith, length-weights h.field.p 0 (take (d + 1) (plan_of bs).points), ap length part, firsts_count points e) in
+        rw (w, q) (dot_from_one h.field.p (omega (arith, k.p_low)) (weights h.field.p 0 (take (d + 1) (plan_of bs).points)) (numbers mail) (d + 1) n)
 
-    pub reduced-is : (r : ℕ) → Is h.field.p (opened h.field.p (h.t + h.t) (take (h.t + h.t + 1) points) (take (h.t + h.t + 1) pieces)) r → Is h.field.p (reduced_from (plan_of bs) (numbers mail)) r
-    reduced-is r i = record { eq = i.eq ∙ same-opening; lt = i.lt }
+    pub opened-is : (r : ℕ) → Is h.field.p (opened h.field.p d (take (d + 1) points) (take (d + 1) pieces)) r → Is h.field.p (opened h.field.p d (plan_of bs).points (numbers mail)) r
+    opened-is r i = record { eq = i.eq ∙ same-opening; lt = i.lt }
 
-module _ (bs : List ℕ) (h : Header) (k : Planned bs h) where
-  pub product-set : (g v : ℕ) (mail s d : List ℕ) → Is h.field.p (reduced_from (plan_of bs) (numbers mail)) v → d ≡ stored s g v → numbers d ≡ set (numbers s) g (reduced_from (plan_of bs) (numbers mail))
-  product-set g v mail s d i q = written s d _ g v (omega (arith, i.lt, (planned-ready bs h k).small)) q (rw i.eq)
+-- As it is: answers name this set, since the check leaves their goals open by `using` alone.
+pub ruleset opening = (rules, firsts_within, firsts_long, firsts_count, pieces-openable, opened-is)
+
+-- ---- a step's mail
+-- the other steps of a plan teach nothing
+learnt_none : (plan : Plan) (step : Step) (xs mail : List ℕ) → Stepped plan step → (step ≡ DealInputs → ⊥) → ((g a b : ℕ) → step ≡ DealProduct g a b → ⊥) → ((g : ℕ) → step ≡ SendTruncated g → ⊥) → ((g : ℕ) → step ≡ DealDraws g → ⊥)
+    → learnt plan step [] xs mail ≡ xs
+unfolding learnt Stepped
+learnt_none plan DealInputs xs mail is inputs product truncated draws = absurd (inputs refl)
+learnt_none plan (DealProduct g a b) xs mail is inputs product truncated draws = absurd (product g a b refl)
+learnt_none plan (DealZero g) xs mail is inputs product truncated draws = refl
+learnt_none plan (DealMasked g a b) xs mail is inputs product truncated draws = refl
+learnt_none plan (SendTruncated g) xs mail is inputs product truncated draws = absurd (truncated g refl)
+learnt_none plan (DealDraws g) xs mail is inputs product truncated draws = absurd (draws g refl)
+learnt_none plan (OpenSpent g a b) xs mail is inputs product truncated draws = absurd is
+learnt_none plan SendOuts xs mail is inputs product truncated draws = refl
+
+module _ (bs : List ℕ) (h : Header) (k : Planned bs h) (step : Step) (mail s d : List ℕ) where
+  -- a step's wire is learnt
+  known : (g v x : ℕ) → Is h.field.p x v → d ≡ stored s g v → numbers d ≡ set (numbers s) g x
+  known g v x i q = written s d _ g v (omega (arith, i.lt, (planned-ready bs h k).small)) q (rw i.eq)
+
+  pub learnt_inputs : step ≡ DealInputs → numbers d ≡ set_all (numbers s) (wires_by_party (plan_of bs)) mail → numbers d ≡ learnt (plan_of bs) step [] (numbers s) mail
+  unfolding learnt
+  learnt_inputs e q = rw e q
+
+  pub learnt-product : (g a b v : ℕ) → step ≡ DealProduct g a b → Is h.field.p (opened h.field.p (h.t + h.t) (plan_of bs).points mail) v → d ≡ stored s g v → numbers d ≡ learnt (plan_of bs) step [] (numbers s) mail
+  unfolding learnt opened interpolate dealer_points dealer_count
+  learnt-product g a b v e i q = rw (e, plan_p k, plan_t k) (known g v _ i q)
+
+  pub learnt_truncated : (g v : ℕ) → step ≡ SendTruncated g → Is h.field.p (opened h.field.p h.t (plan_of bs).points mail) v → d ≡ stored s g v → numbers d ≡ learnt (plan_of bs) step [] (numbers s) mail
+  unfolding learnt
+  learnt_truncated g v e i q = rw (e, plan_p k, plan_t k) (known g v _ i q)
+
+  pub learnt_draws : (g v : ℕ) → step ≡ DealDraws g → Is h.field.p (sum_all h.field.p mail) v → d ≡ stored s g v → numbers d ≡ learnt (plan_of bs) step [] (numbers s) mail
+  unfolding learnt
+  learnt_draws g v e i q = rw (e, plan_p k) (known g v _ i q)
 
   -- a product's step has its majority
-  pub product_majority : (step : Step) (g a b : ℕ) → Stepped (plan_of bs) step → step ≡ DealProduct g a b → 2 * h.t < h.n
+  pub product_majority : (g a b : ℕ) → Stepped (plan_of bs) step → step ≡ DealProduct g a b → h.t + h.t < h.n
   unfolding multiplying is_kind kind_of
-  product_majority step g a b i e =
+  product_majority g a b i e =
       let at : IsGate (plan_of bs) g (Multiply a b) = stepped-product (plan_of bs) step g a b i e in
       omega (arith, (valid bs k.passes).majority g at.within (ap multiplying at.is), plan_t k, plan_n k)
 
--- As it is: answers name this set, since the check leaves their goals open by `using` alone.
-pub ruleset reducing = (rules, dealers_within, dealers_long, dealers_count, pieces-openable, reduced-is, product-set)
-
--- ---- a step's mail
--- a plan file's other steps teach nothing
-learnt_none : (plan : Plan) (step : Step) (xs mail : List ℕ) → Stepped plan step → (step ≡ DealInputs → ⊥) → ((g a b : ℕ) → step ≡ DealProduct g a b → ⊥) → learnt plan step [] xs mail ≡ xs
-unfolding learnt Stepped
-learnt_none plan DealInputs xs mail is inputs product = absurd (inputs refl)
-learnt_none plan (DealProduct g a b) xs mail is inputs product = absurd (product g a b refl)
-learnt_none plan (DealZero g) xs mail is inputs product = refl
-learnt_none plan (DealMasked g a b) xs mail is inputs product = refl
-learnt_none plan (SendTruncated g) xs mail is inputs product = absurd is
-learnt_none plan (DealDraws g) xs mail is inputs product = absurd is
-learnt_none plan (OpenSpent g a b) xs mail is inputs product = absurd is
-learnt_none plan SendOuts xs mail is inputs product = refl
-
-module _ (plan : Plan) (step : Step) (xs mail d : List ℕ) where
-  pub learnt_inputs : step ≡ DealInputs → d ≡ set_all xs (wires_by_party plan) mail → d ≡ learnt plan step [] xs mail
-  unfolding learnt
-  learnt_inputs e k = rw e k
-
-  pub learnt-product : (g a b : ℕ) → step ≡ DealProduct g a b → d ≡ set xs g (reduced_from plan mail) → d ≡ learnt plan step [] xs mail
-  unfolding learnt reduced_from
-  learnt-product g a b e k = rw e k
-
-pub learnt_other : (plan : Plan) (step : Step) (xs mail : List ℕ) → Stepped plan step → (step ≡ DealInputs → ⊥) → ((g a b : ℕ) → step ≡ DealProduct g a b → ⊥) → xs ≡ learnt plan step [] xs mail
-learnt_other plan step xs mail is inputs product = sym (learnt_none plan step xs mail is inputs product)
+pub learnt_other : (plan : Plan) (step : Step) (xs mail : List ℕ) → Stepped plan step → (step ≡ DealInputs → ⊥) → ((g a b : ℕ) → step ≡ DealProduct g a b → ⊥) → ((g : ℕ) → step ≡ SendTruncated g → ⊥) → ((g : ℕ) → step ≡ DealDraws g → ⊥)
+    → xs ≡ learnt plan step [] xs mail
+learnt_other plan step xs mail is inputs product truncated draws = sym (learnt_none plan step xs mail is inputs product truncated draws)
 
 -- As it is: answers name this set, since the check leaves their goals open by `using` alone.
-pub ruleset learning_mail = (rules, product_majority, learnt_inputs, learnt-product, learnt_other)
+pub ruleset learning_mail = (rules, product_majority, learnt_inputs, learnt-product, learnt_truncated, learnt_draws, learnt_other)
 
 -- ---- where the work goes on
 module _ (plan : Plan) (step : Step) where
@@ -414,14 +397,14 @@ module _ (bs : List ℕ) (h : Header) (k : Planned bs h) (step : Step) where
   unfolding resume_at
   resume_outs e = rw (e, plan_gates k)
 
-  -- past the gate of a step that makes a share known; a plan file has only products
+  -- past the gate of a step that makes a share known
   pub past_fits : Stepped (plan_of bs) step → (g : ℕ)
       → ((a : ℕ) × (b : ℕ) × step ≡ DealProduct g a b) ⊎ (step ≡ SendTruncated g ⊎ (step ≡ DealDraws g ⊎ ((a : ℕ) × (b : ℕ) × step ≡ OpenSpent g a b)))
       → Fits w64 (g + 1)
   unfolding Stepped
   past_fits i g (inl (a, b, e)) = record { fits = omega (arith, (stepped-product (plan_of bs) step g a b i e).within, plan_gates k, k.gates-high) }
-  past_fits i g (inr (inl e)) = absurd (subst (Stepped (plan_of bs)) e i)
-  past_fits i g (inr (inr (inl e))) = absurd (subst (Stepped (plan_of bs)) e i)
+  past_fits i g (inr (inl e)) = record { fits = omega (arith, (subst (Stepped (plan_of bs)) e i).0.within, plan_gates k, k.gates-high) }
+  past_fits i g (inr (inr (inl e))) = record { fits = omega (arith, (subst (Stepped (plan_of bs)) e i).within, plan_gates k, k.gates-high) }
   past_fits i g (inr (inr (inr (a, b, e)))) = absurd (subst (Stepped (plan_of bs)) e i)
 
 -- As it is: answers name this set, since the check leaves their goals open by `using` alone.
@@ -440,21 +423,26 @@ dot_below p l [] vs = l
 dot_below p l (w ∷ ws) [] = l
 dot_below p l (w ∷ ws) (v ∷ vs) = mod-lt _ {m = p} l
 
+sum_below : (p : ℕ) → 0 < p → (vs : List ℕ) → sum_all p vs < p
+unfolding sum_all add
+sum_below p l [] = l
+sum_below p l (v ∷ vs) = mod-lt _ {m = p} l
+
 -- what a step's mail makes known is below the prime
 learnt_below : (plan : Plan) → Ready plan.p → (step : Step) (xs mail : List ℕ) → Stepped plan step → all_below plan.p xs ≡ true → all_below plan.p mail ≡ true → all_below plan.p (learnt plan step [] xs mail) ≡ true
-unfolding learnt Stepped
+unfolding learnt Stepped opened interpolate
 learnt_below plan r DealInputs xs mail i b m = set_all_below plan.p r xs (wires_by_party plan) mail b m
 learnt_below plan r (DealProduct g a c) xs mail i b m = all_below-set plan.p g _ xs b (dot_below plan.p (omega (arith, r.prime.above)) _ mail)
 learnt_below plan r (DealZero g) xs mail i b m = b
 learnt_below plan r (DealMasked g a c) xs mail i b m = b
-learnt_below plan r (SendTruncated g) xs mail i b m = absurd i
-learnt_below plan r (DealDraws g) xs mail i b m = absurd i
+learnt_below plan r (SendTruncated g) xs mail i b m = all_below-set plan.p g _ xs b (dot_below plan.p (omega (arith, r.prime.above)) _ mail)
+learnt_below plan r (DealDraws g) xs mail i b m = all_below-set plan.p g _ xs b (sum_below plan.p (omega (arith, r.prime.above)) mail)
 learnt_below plan r (OpenSpent g a c) xs mail i b m = absurd i
 learnt_below plan r SendOuts xs mail i b m = b
 
-pub shares_below : (bs : List ℕ) (h : Header) → Planned bs h → (step : Step) (xs mail d : List ℕ) → Stepped (plan_of bs) step → all_below h.field.p xs ≡ true → all_below h.field.p mail ≡ true
+pub learnt_elements : (bs : List ℕ) (h : Header) → Planned bs h → (step : Step) (xs mail d : List ℕ) → Stepped (plan_of bs) step → all_below h.field.p xs ≡ true → all_below h.field.p mail ≡ true
     → d ≡ learnt (plan_of bs) step [] xs mail → all_below h.field.p d ≡ true
-shares_below bs h k step xs mail d i b m e =
+learnt_elements bs h k step xs mail d i b m e =
     let q = plan_p k in
     ap (all_below h.field.p) e ∙ rw (← q) (learnt_below (plan_of bs) (rw q (planned-ready bs h k)) step xs mail i (rw q b) (rw q m))
 
@@ -464,4 +452,4 @@ pub learnt_worked : (bs : List ℕ) (h : Header) (step : Step) (from : ℕ) (mai
 unfolding learn_from
 learnt_worked bs h step from mail s d e k q m n = record { eq = rw (n.eq, m, q, plan_p k); below = n.below }
 
-pub ruleset learning = (rules, shares_below, learnt_worked)
+pub ruleset learning = (rules, learnt_elements, learnt_worked)

@@ -2,20 +2,15 @@
 use Rattle.std.specs.Prelude.{ℕ, ◌≡◌, true, List}
 use denote.Struct.Props as logic
 use Rattle.numbers.specs.Bytes.{numbers, all_below}
-use Rattle.sharing_laws.specs.Interp.{weights, dot}
 use Rattle.plan.specs.declared.Step.{Step}
 use Rattle.plan.specs.declared.Step.TheVariants.{DealInputs, DealProduct, DealZero, DealMasked, SendTruncated, DealDraws, OpenSpent, SendOuts}
-use Rattle.plan.specs.Plans.{Plan, dealer_points}
+use Rattle.plan.specs.Plans.{Plan}
 use Rattle.plan_counts.specs.Counts.{Stepped}
 
 -- these bytes hold the numbers xs, which are below p
 pub record Holds (p : ℕ) (xs bs : List ℕ) : Type 0 where
   pub eq : numbers bs ≡ xs
   pub below : all_below p (numbers bs) ≡ true
-
--- the share that a product's dealers' pieces make
-unfoldable pub reduced_from : Plan → List ℕ → ℕ
-reduced_from plan mail = dot plan.p (weights plan.p 0 (dealer_points plan)) mail
 
 -- that a step is one of its gate's has one proof at most, so it may be a ghost field
 pub Stepped-prop : (plan : Plan) (step : Step) → IsProp (Stepped plan step)

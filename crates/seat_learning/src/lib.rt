@@ -4,10 +4,12 @@
 ghost use Rattle.std.specs.Prelude.{◌≡◌, true, cond, [], ◌<◌, ◌≤◌, ◌+◌, ◌*◌, length, drop, get_or, set};
 ghost use Rattle.numbers.specs.Bytes.{numbers, all_below};
 ghost use Rattle.field.specs.Field.{Is};
+ghost use Rattle.sharing_laws.specs.Basis.{sum_all};
+ghost use Rattle.sharing_laws.specs.Sharing.{opened};
 ghost use Rattle.plan.specs.Plans.{is_input_of, input_wires};
 ghost use Rattle.plan.specs.File.{gate_ok, plan_of};
 ghost use Rattle.plan_counts.specs.Counts.{Stepped};
-ghost use Rattle.seat_learning.specs.Lent.{Holds, reduced_from, Stepped-prop};
+ghost use Rattle.seat_learning.specs.Lent.{Holds, Stepped-prop};
 ghost use Rattle.seat_messages.specs.Messages.{work_gate, work_from, set_all, wires_by_party, learnt, resume_at, learn_from};
 
 use plan::{Gate, Header, PlanFile, Step};
@@ -43,8 +45,9 @@ fn work_from(plan: &PlanFile, from: usize, shares: &mut [u8])
     requires shares_value { all_below plan.now.header.field.p (numbers shares.old) ≡ true }
     ensures { Holds plan.now.header.field.p (work_from plan.now.header.field.p from (drop from (plan_of plan.now.bytes.now).gates) (numbers shares.old)) shares.new }
 {
+    let gates = plan.gates();
     for g in from..plan.header.gates {
-        let gate = plan.gate(g);
+        let gate = gates.gate(g);
         if plan_counts::takes_rounds(gate) {
             return;
         }
@@ -98,9 +101,10 @@ impl Mail<'_> {
           most : result ≤ from + 1024;
         } }
     {
+        let gates = self.plan.gates();
         let mut at = from;
         for g in 0..self.plan.header.gates {
-            at = self.learn_input(i, g, self.plan.gate(g), at, shares);
+            at = self.learn_input(i, g, gates.gate(g), at, shares);
         }
         at
     }
@@ -116,26 +120,16 @@ impl Mail<'_> {
         }
     }
 
-    // A multiply's share from its dealers' pieces: the opening at 0 from the first 2t + 1 points.
-    #[tactic(auto, using(crate::proofs::LearnLaws::reducing))]
-    fn reduced(&self) -> u64
-        requires t_bound { 2 * self.now.plan.now.header.t < self.now.plan.now.header.n }
-        ensures { Is self.now.plan.now.header.field.p (reduced_from (plan_of self.now.plan.now.bytes.now) (numbers self.now.bytes.now)) result }
+    // The value at 0 of the polynomial of degree d that has the mail's numbers at the first d + 1 points.
+    #[tactic(auto, using(crate::proofs::LearnLaws::opening))]
+    fn opened(&self, d: usize) -> u64
+        requires d_lt_n { d < self.now.plan.now.header.n }
+        ensures { Is self.now.plan.now.header.field.p (opened self.now.plan.now.header.field.p d (plan_of self.now.plan.now.bytes.now).points (numbers self.now.bytes.now)) result }
     {
-        let t = self.plan.header.t;
-        let m = t + t + 1;
+        let m = d + 1;
         let points = seat_messages::points_of(self.plan);
         let pieces = seat_results::from_each(m, 1, 0, self.bytes);
-        sharing_openings::opened(self.plan.header.field, t + t, &points[..m], &pieces[..m])
-    }
-
-    // Learns wire g from the pieces of its product.
-    #[tactic(auto, using(crate::proofs::LearnLaws::reducing))]
-    fn learn_product(&self, g: usize, shares: &mut [u8])
-        requires t_bound { 2 * self.now.plan.now.header.t < self.now.plan.now.header.n }
-        ensures { numbers shares.new ≡ set (numbers shares.old) g (reduced_from (plan_of self.now.plan.now.bytes.now) (numbers self.now.bytes.now)) }
-    {
-        numbers::write(shares, g, self.reduced());
+        sharing_openings::opened(self.plan.header.field, d, &points[..m], &pieces[..m])
     }
 
     // Learns the shares that the step's mail makes known.
@@ -145,9 +139,14 @@ impl Mail<'_> {
     fn learn(&self, shares: &mut [u8])
         ensures { numbers shares.new ≡ learnt (plan_of self.now.plan.now.bytes.now) self.now.step [] (numbers shares.old) (numbers self.now.bytes.now) }
     {
+        let h = self.plan.header;
         match self.step {
             Step::DealInputs => self.learn_inputs(shares),
-            Step::DealProduct(g, _, _) => self.learn_product(g, shares),
+            Step::DealProduct(g, _, _) => numbers::write(shares, g, self.opened(h.t + h.t)),
+            Step::SendTruncated(g) => numbers::write(shares, g, self.opened(h.t)),
+            Step::DealDraws(g) => {
+                numbers::write(shares, g, seat_messages::sum_all(h.field, self.bytes));
+            }
             _ => {}
         }
     }

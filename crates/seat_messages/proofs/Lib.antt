@@ -1,1 +1,2 @@
 pub mod PointLaws
+pub mod SumLaws

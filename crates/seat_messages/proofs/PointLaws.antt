@@ -1,5 +1,6 @@
--- Laws of the parties' points.
+-- Laws of the parties' points, and of a gate of the file.
 --     Pointing, pointing                   the loop that reads them, and what closes its needs
+--     gate_of_file                         a gate that is read by the file's own gates
 --     plan_points_below                    a plan's points are elements
 --     points-part, points-within, points-count, points-at      of a list whose first n are the plan's points, the first m
 -- Assumes nothing.
@@ -16,9 +17,10 @@ use Rattle.numbers.specs.Bytes.{all_below}
 use Rattle.numbers.proofs.Fills.{fill_next}
 use Rattle.numbers.proofs.Below.{at-all_below}
 use Rattle.sharing_laws.proofs.Alls.{all_at}
+use Rattle.plan.specs.declared.Gate.{Gate}
 use Rattle.plan.specs.declared.Header.{Header}
 use Rattle.plan.specs.Plans.{party_count}
-use Rattle.plan.specs.File.{point_at, plan_of}
+use Rattle.plan.specs.File.{gate_at, point_at, plan_of}
 use Rattle.plan.specs.Planned.{Planned}
 use Rattle.plan.proofs.Planned.{plan_p, plan_n, plan_points}
 use Rattle.plan.proofs.Valid.{valid}
@@ -46,6 +48,10 @@ module _ (bs : List ℕ) (n : ℕ) (d : List ℕ) (i : ℕ) (w : Pointing bs n d
         long = length-set d i v ∙ w.long;
         front = fill_next (point_at bs) i d v (point_place l) e w.front;
       }
+
+-- ---- a gate read from the file
+pub gate_of_file : (bs ds : List ℕ) (g : ℕ) (gate : Gate) → ds ≡ bs → gate ≡ gate_at ds g → gate ≡ gate_at bs g
+gate_of_file bs ds g gate e q = q ∙ ap (λ (s : List ℕ). gate_at s g) e
 
 -- ---- a plan's points
 module _ (bs : List ℕ) (h : Header) (k : Planned bs h) where

@@ -39,14 +39,12 @@ spent_share p c x y d e = sub p (add p c (add p (mul p e x) (mul p d y))) (mul p
 unfoldable pub learnt : Plan → Step → List ℕ → List ℕ → List ℕ → List ℕ
 learnt plan DealInputs triples shares mail = set_all shares (wires_by_party plan) mail
 learnt plan (DealProduct g a b) triples shares mail = set shares g (dot plan.p (weights plan.p 0 (dealer_points plan)) mail)
-learnt plan (DealZero g) triples shares mail = shares
-learnt plan (DealMasked g a b) triples shares mail = shares
 learnt plan (SendTruncated g) triples shares mail = set shares g (opened plan.p plan.t plan.points mail)
 learnt plan (DealDraws g) triples shares mail = set shares g (sum_all plan.p mail)
 learnt plan (OpenSpent g a b) triples shares mail =
     set shares g
     (spent_share plan.p (get_or triples (triple_at plan g + 2) 0) (get_or shares a 0) (get_or shares b 0) (opened_at plan 2 0 mail) (opened_at plan 2 1 mail))
-learnt plan SendOuts triples shares mail = shares
+learnt plan _ triples shares mail = shares
 
 -- the gate from which the work on own shares goes on: while a multiply is under way, that gate, which stops it
 unfoldable pub resume_at : Plan → Step → ℕ
@@ -61,13 +59,10 @@ resume_at plan SendOuts = length plan.gates
 
 -- gate g worked on a party's own shares; the other kinds are learnt from mail
 unfoldable pub work_gate : ℕ → ℕ → Gate → List ℕ → List ℕ
-work_gate p g (Input s) shares = shares
 work_gate p g (Add a b) shares = set shares g (add p (get_or shares a 0) (get_or shares b 0))
 work_gate p g (Scale a c) shares = set shares g (mul p (get_or shares a 0) c)
 work_gate p g (Offset a c) shares = set shares g (add p (get_or shares a 0) c)
-work_gate p g (Multiply a b) shares = shares
-work_gate p g Random shares = shares
-work_gate p g (Spend a b) shares = shares
+work_gate p g _ shares = shares
 
 -- from gate g up to the next gate that takes rounds, or all that are left
 unfoldable pub work_from : ℕ → ℕ → List Gate → List ℕ → List ℕ
@@ -80,15 +75,9 @@ learn_from plan step triples shares mail =
 
 -- a triple is zeroed by the call that learns its wire
 unfoldable pub spend_from : Plan → Step → List ℕ → List ℕ
-spend_from plan DealInputs triples = triples
-spend_from plan (DealProduct g a b) triples = triples
-spend_from plan (DealZero g) triples = triples
-spend_from plan (DealMasked g a b) triples = triples
-spend_from plan (SendTruncated g) triples = triples
-spend_from plan (DealDraws g) triples = triples
 spend_from plan (OpenSpent g a b) triples =
     set_all triples (tab (λ j. triple_at plan g + j) 3) (0 ∷ 0 ∷ 0 ∷ [])
-spend_from plan SendOuts triples = triples
+spend_from plan _ triples = triples
 
 -- the shares and the triples after call number k has learnt from its mail and worked
 unfoldable pub learn : Plan → ℕ → List ℕ → List ℕ → List ℕ → List ℕ

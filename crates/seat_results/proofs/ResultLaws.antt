@@ -1,13 +1,14 @@
 -- Laws of the results: the openings of a party's own outs.
---     copying      the loop that copies the shares of an out
---     opening_one  the opening of an out
---     opening_all  the loop over the outs
+--     copying       the loop that copies the shares of an out
+--     dot_from_one  of mail in which each party sent one number: those that are missing weigh nothing
+--     opening_one   the opening of an out
+--     opening_all   the loop over the outs
 -- Assumes nothing.
 use mathlib.Core.Path.{◌≡◌, refl, sym, ap, ap₂, ◌∙◌}
 use mathlib.Core.Bool.{true}
-use mathlib.Core.List.{List, ◌++◌}
-use Prim.Native.Nat.{ℕ, ◌+◌, ◌*◌, ◌/◌, ◌^◌, ◌<◌, ◌≤◌}
-use native.Mathlib.Nat.{mul-le-mul}
+use mathlib.Core.List.{List, [], ◌∷◌, ◌++◌}
+use Prim.Native.Nat.{ℕ, zero, suc, ◌+◌, ◌*◌, ◌/◌, ◌^◌, ◌<◌, ◌≤◌}
+use native.Mathlib.Nat.{mod-eq_of_lt, mul-le-mul}
 use native.Mathlib.Numerals.{add-one}
 use native.Mathlib.Omega.{arith}
 use borrow.Author.Rules.{rules}
@@ -15,9 +16,10 @@ use lib.ListN.{length, get_or, take, drop, set, length-set, length-append}
 use lib.Seq.{take-suc-set, take_at, length-take-le}
 use Rattle.numbers.specs.Tables.{tab}
 use Rattle.numbers.specs.Bytes.{width, numbers, all_below, stored}
-use Rattle.numbers.proofs.Tables.{tab-next, length-tab, get_or-tab}
+use Rattle.numbers.proofs.Tables.{tab-next, length-tab, get_or-tab, tab-ext}
 use Rattle.numbers.proofs.Below.{at-all_below, all_below-take}
 use Rattle.numbers.proofs.Fills.{Numbered, number-none, number-next, numbered-all}
+use Rattle.field.specs.Mod.{add, mul}
 use Rattle.field.specs.Field.{Is, Ready}
 use Rattle.sharing_laws.specs.Interp.{weights, dot, interpolate}
 use Rattle.sharing_laws.specs.Sharing.{opened}
@@ -80,6 +82,30 @@ shares_below p n own j mail r h =
 pub shares_long : (n own j : ℕ) (mail : List ℕ) → length (from_each n own j mail) ≡ n
 unfolding from_each
 shares_long n own j mail = length-tab (λ i. get_or mail (own * i + j) 0) n
+
+-- ---- of mail in which each party sent one number
+from_one : (n : ℕ) (vs : List ℕ) → from_each n 1 0 vs ≡ tab (λ j. get_or vs j 0) n
+unfolding from_each
+from_one n vs = tab-ext (λ i. get_or vs (1 * i + 0) 0) (λ j. get_or vs j 0) n (λ i l. let e : 1 * i + 0 ≡ i = omega arith in ap (λ (k : ℕ). get_or vs k 0) e)
+
+dot-nil : (p : ℕ) (ws : List ℕ) → dot p ws [] ≡ 0
+unfolding dot
+dot-nil p [] = refl
+dot-nil p (w ∷ ws) = refl
+
+add_zeros : (p w : ℕ) → 0 < p → add p (mul p w 0) 0 ≡ 0
+unfolding add mul
+add_zeros p w l = let z : w * 0 ≡ 0 = omega arith in rw (z, mod-eq_of_lt {n = 0} {m = p} l, mod-eq_of_lt {n = 0 + 0} {m = p} l)
+
+dot_read : (p : ℕ) → 0 < p → (ws vs : List ℕ) (m : ℕ) → length ws ≤ m → dot p ws (tab (λ j. get_or vs j 0) m) ≡ dot p ws vs
+unfolding dot tab
+dot_read p l [] vs m h = refl
+dot_read p l (w ∷ ws) vs zero h = absurd (omega arith)
+dot_read p l (w ∷ ws) [] (suc m) h = rw (dot_read p l ws [] m (omega arith), dot-nil p ws) (add_zeros p w l)
+dot_read p l (w ∷ ws) (v ∷ vs) (suc m) h = rw (dot_read p l ws vs m (omega arith))
+
+pub dot_from_one : (p : ℕ) → 0 < p → (ws vs : List ℕ) (m : ℕ) → length ws ≤ m → dot p ws (from_each m 1 0 vs) ≡ dot p ws vs
+dot_from_one p l ws vs m h = ap (dot p ws) (from_one m vs) ∙ dot_read p l ws vs m h
 
 module _ (h : Header) (ws mail : List ℕ) (o : Openings h ws mail) (own j : ℕ) (d : List ℕ) (e : take h.n d ≡ from_each h.n own j (numbers mail)) where
   pub front_long : length (take h.n d) ≡ h.n

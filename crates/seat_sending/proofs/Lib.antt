@@ -1,6 +1,7 @@
 pub mod SendLaws
 pub mod DealLaws
 pub mod InputLaws
+pub mod GateLaws
+pub mod CutLaws
 pub mod OutLaws
-pub mod ProductLaws
 pub mod WrittenLaws

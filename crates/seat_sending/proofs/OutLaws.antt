@@ -5,7 +5,7 @@
 -- Assumes nothing.
 use mathlib.Core.Path.{◌≡◌, refl, sym, ap, ap₂, ◌∙◌}
 use mathlib.Core.Bool.{Bool, true, false, cond}
-use mathlib.Core.List.{List, [], ◌∷◌, ◌++◌, map-append, flat_map}
+use mathlib.Core.List.{List, [], ◌∷◌, ◌++◌, map-append}
 use Prim.Native.Nat.{ℕ, zero, suc, ◌+◌, ◌*◌, ◌<◌, ◌≤◌}
 use native.Mathlib.Numerals.{add-one}
 use native.Mathlib.Omega.{arith}
@@ -20,7 +20,7 @@ use Rattle.numbers.proofs.Tables.{tab-map, tab-ext}
 use Rattle.numbers.proofs.Truth.{both_true}
 use Rattle.plan.specs.declared.Output.{Output}
 use Rattle.plan.specs.declared.Header.{Header}
-use Rattle.plan.specs.Plans.{party_count, parties, out_wires_of, out_wires}
+use Rattle.plan.specs.Plans.{party_count, parties, out_wires_of, out_wires, sent_by}
 use Rattle.plan.specs.File.{between, out_at, out_ok, plan_of}
 use Rattle.plan.specs.Planned.{Planned}
 use Rattle.plan.proofs.Wires.{out_wires_few}
@@ -28,7 +28,7 @@ use Rattle.plan.proofs.Planned.{plan_n, plan_outs, plan_out, between-true}
 use Rattle.plan.proofs.Valid.{valid}
 use Rattle.plan.specs.declared.Step.TheVariants.{SendOuts}
 use Rattle.seat_messages.specs.Messages.{send_at}
-use Rattle.seat_sending.specs.Sending.{Sent, out_shares}
+use Rattle.seat_sending.specs.Sending.{Sent, out_shares, outgoing}
 use Rattle.seat_sending.proofs.SendLaws.{sent-none, sent_more, sent_unless, sent_where, flat, flat-none, flat_next, Rows, rows_none, rows_next, rows_all, cond-cons, one_long}
 
 -- ---- an out
@@ -168,18 +168,19 @@ module _ (bs : List ℕ) (h : Header) (w : Planned bs h) (shares : List ℕ) whe
       ∙ total_all h.n (length (plan_of bs).gates) (plan_of bs).outs (rw (← plan_n w) (valid bs w.passes).outs)
       ∙ plan_outs w
 
-  by_receiver : send_at (plan_of bs) 0 SendOuts [] [] [] shares [] ≡ tab (λ j. out_shares shares (out_wires (plan_of bs) (j + 1))) h.n
+  by_receiver : (i : ℕ) (inputs coins mail : List ℕ) → send_at (plan_of bs) i SendOuts inputs coins [] shares mail ≡ tab (λ j. out_shares shares (out_wires (plan_of bs) (j + 1))) h.n
   unfolding send_at parties out_shares
-  by_receiver =
+  by_receiver i inputs coins mail =
       let row : ℕ → List ℕ = λ i. out_shares shares (out_wires (plan_of bs) i) in
       tab-map row suc (party_count (plan_of bs))
       ∙ ap (tab (λ j. row (suc j))) (plan_n w)
       ∙ tab-ext (λ j. row (suc j)) (λ j. row (j + 1)) h.n (λ j l. ap row (sym (add-one j)))
 
-  pub outs_sent : (d₀ d : List ℕ) (at j : ℕ) → Rows (λ j. out_shares shares (out_wires (plan_of bs) (j + 1))) 64 h.n d₀ d at j → h.n ≤ j → length d₀ ≡ width * h.outs
-      → numbers d ≡ flat_map (λ l. l) (send_at (plan_of bs) 0 SendOuts [] [] [] shares [])
-  outs_sent d₀ d at j r l e =
-      rows_all (λ j. out_shares shares (out_wires (plan_of bs) (j + 1))) 64 h.n d₀ d at j r l (e ∙ rw outs-total) ∙ sym (ap flat by_receiver)
+  pub outs_sent : (d₀ d : List ℕ) (at j : ℕ) → Rows (λ j. out_shares shares (out_wires (plan_of bs) (j + 1))) 64 h.n d₀ d at j → h.n ≤ j → (i : ℕ) → length d₀ ≡ width * sent_by (plan_of bs) i SendOuts
+      → (inputs coins mail : List ℕ) → numbers d ≡ outgoing (plan_of bs) i SendOuts inputs coins shares mail
+  unfolding sent_by
+  outs_sent d₀ d at j r l i e inputs coins mail =
+      rows_all (λ j. out_shares shares (out_wires (plan_of bs) (j + 1))) 64 h.n d₀ d at j r l (e ∙ rw (plan_outs w, outs-total)) ∙ sym (ap flat (by_receiver i inputs coins mail))
 
 -- As it is: answers name this set, since the check leaves their goals open by `using` alone.
 pub ruleset gathering = (rules, outs_few, rows_none, rows_next, outs_sent)

@@ -4,7 +4,7 @@
 -- Assumes nothing.
 use mathlib.Core.Path.{◌≡◌, refl, sym, ap, ap₂, ◌∙◌}
 use mathlib.Core.Bool.{Bool, true, false, cond}
-use mathlib.Core.List.{List, [], ◌∷◌, ◌++◌, append-nil, append_assoc, flat_map}
+use mathlib.Core.List.{List, [], ◌∷◌, ◌++◌, map, append-nil, append_assoc, flat_map}
 use Prim.Native.Nat.{ℕ, zero, suc, ◌+◌, ◌*◌, ◌<◌, ◌≤◌}
 use native.Mathlib.Numerals.{add-one}
 use native.Mathlib.Nat.{mul-suc, suc-mul}
@@ -69,6 +69,12 @@ flat_append (xs ∷ xss) yss = ap (λ (l : List ℕ). xs ++ l) (flat_append xss 
 flat-one : (xs : List ℕ) → flat (xs ∷ []) ≡ xs
 unfolding flat_map
 flat-one xs = append-nil xs
+
+-- of lists of one number
+pub flat_ones : (f : ℕ → ℕ) (xs : List ℕ) → flat (map (λ x. f x ∷ []) xs) ≡ map f xs
+unfolding flat_map
+flat_ones f [] = refl
+flat_ones f (x ∷ xs) = ap (λ (l : List ℕ). f x ∷ l) (flat_ones f xs)
 
 pub flat_next : (f : ℕ → List ℕ) (j : ℕ) → flat (tab f (j + 1)) ≡ flat (tab f j) ++ f j
 flat_next f j = ap flat (tab-next f j) ∙ flat_append (tab f j) (f j ∷ []) ∙ ap (λ (l : List ℕ). flat (tab f j) ++ l) (flat-one (f j))

@@ -2,8 +2,8 @@
 --     stepping     what closes the needs of `send_step`
 --     calling      what closes the needs of `send`
 -- Assumes nothing.
-use mathlib.Core.Path.{◌≡◌, refl, sym, ap, ◌∙◌}
-use mathlib.Core.List.{List, [], flat_map}
+use mathlib.Core.Path.{◌≡◌, refl, sym, ap, subst, ◌∙◌}
+use mathlib.Core.List.{List, []}
 use Prim.Native.Nat.{ℕ, ◌*◌, ◌/◌, ◌<◌, ◌≤◌}
 use native.Mathlib.Omega.{arith}
 use borrow.Author.Rules.{rules}
@@ -19,62 +19,43 @@ use Rattle.plan.specs.Planned.{Planned}
 use Rattle.plan.proofs.Wires.{out_wires_few}
 use Rattle.plan.proofs.Planned.{plan_outs}
 use Rattle.plan_counts.specs.Counts.{Stepped}
-use Rattle.plan_counts.proofs.Steps.{stepped-product}
-use Rattle.seat_messages.specs.Messages.{send_at, call_with}
+use Rattle.seat_messages.specs.Messages.{call_with}
 use Rattle.seat_messages.specs.Calls.{written}
 use Rattle.seat_results.specs.Opened.{opened_outs}
-use Rattle.seat_sending.specs.Sending.{Coined, Sendable, Lent}
+use Rattle.seat_sending.specs.Sending.{Lent, outgoing}
+use Rattle.seat_sending.proofs.CutLaws.{cut_room, cut_sent}
 
 -- ---- a step
-no-other : (plan : Plan) (step : Step) → Stepped plan step → (step ≡ DealInputs → ⊥) → ((g a b : ℕ) → step ≡ DealProduct g a b → ⊥) → (step ≡ SendOuts → ⊥) → ⊥
+no-other : (plan : Plan) (step : Step) → Stepped plan step → (step ≡ DealInputs → ⊥) → ((g a b : ℕ) → step ≡ DealProduct g a b → ⊥) → ((g : ℕ) → step ≡ DealZero g → ⊥) → ((g a b : ℕ) → step ≡ DealMasked g a b → ⊥)
+    → ((g : ℕ) → step ≡ SendTruncated g → ⊥) → ((g : ℕ) → step ≡ DealDraws g → ⊥) → (step ≡ SendOuts → ⊥) → ⊥
 unfolding Stepped
-no-other plan DealInputs is inputs product outs = inputs refl
-no-other plan (DealProduct g a b) is inputs product outs = product g a b refl
-no-other plan (DealZero g) is inputs product outs = is
-no-other plan (DealMasked g a b) is inputs product outs = is
-no-other plan (SendTruncated g) is inputs product outs = is
-no-other plan (DealDraws g) is inputs product outs = is
-no-other plan (OpenSpent g a b) is inputs product outs = is
-no-other plan SendOuts is inputs product outs = outs refl
+no-other plan DealInputs is inputs product zero masked truncated draws outs = inputs refl
+no-other plan (DealProduct g a b) is inputs product zero masked truncated draws outs = product g a b refl
+no-other plan (DealZero g) is inputs product zero masked truncated draws outs = zero g refl
+no-other plan (DealMasked g a b) is inputs product zero masked truncated draws outs = masked g a b refl
+no-other plan (SendTruncated g) is inputs product zero masked truncated draws outs = truncated g refl
+no-other plan (DealDraws g) is inputs product zero masked truncated draws outs = draws g refl
+no-other plan (OpenSpent g a b) is inputs product zero masked truncated draws outs = is
+no-other plan SendOuts is inputs product zero masked truncated draws outs = outs refl
 
-module _ (plan : Plan) (i : ℕ) (step : Step) (inputs coins shares mail xs : List ℕ) where
-  pub sent-inputs : step ≡ DealInputs → xs ≡ flat_map (λ l. l) (send_at plan i DealInputs inputs coins [] [] []) → xs ≡ flat_map (λ l. l) (send_at plan i step inputs coins [] shares mail)
-  unfolding send_at
-  sent-inputs e q = rw e q
+-- a plan has no other steps
+pub sent-other : (plan : Plan) (i : ℕ) (step : Step) (inputs coins shares mail xs : List ℕ) → Stepped plan step → (step ≡ DealInputs → ⊥) → ((g a b : ℕ) → step ≡ DealProduct g a b → ⊥) → ((g : ℕ) → step ≡ DealZero g → ⊥)
+    → ((g a b : ℕ) → step ≡ DealMasked g a b → ⊥) → ((g : ℕ) → step ≡ SendTruncated g → ⊥) → ((g : ℕ) → step ≡ DealDraws g → ⊥) → (step ≡ SendOuts → ⊥) → xs ≡ outgoing plan i step inputs coins shares mail
+sent-other plan i step inputs coins shares mail xs is inputs' product zero masked truncated draws outs = absurd (no-other plan step is inputs' product zero masked truncated draws outs)
 
-  pub sent-product : (g a b : ℕ) → step ≡ DealProduct g a b → xs ≡ flat_map (λ l. l) (send_at plan i (DealProduct g a b) [] coins [] shares [])
-      → xs ≡ flat_map (λ l. l) (send_at plan i step inputs coins [] shares mail)
-  unfolding send_at
-  sent-product g a b e q = rw e q
+-- what each step's own function is handed, and leaves
+module _ (plan : Plan) (i : ℕ) (step same : Step) (e : step ≡ same) where
+  pub step-stepped : Stepped plan step → Stepped plan same
+  step-stepped s = subst (Stepped plan) e s
 
-  pub sent-outs : step ≡ SendOuts → xs ≡ flat_map (λ l. l) (send_at plan 0 SendOuts [] [] [] shares []) → xs ≡ flat_map (λ l. l) (send_at plan i step inputs coins [] shares mail)
-  unfolding send_at
-  sent-outs e q = rw e q
+  pub step_room : (out : List ℕ) → length out ≡ width * sent_by plan i step → length out ≡ width * sent_by plan i same
+  step_room out q = q ∙ ap (λ (r : Step). width * sent_by plan i r) e
 
-  -- a plan file has no other steps
-  pub sent-other : Stepped plan step → (step ≡ DealInputs → ⊥) → ((g a b : ℕ) → step ≡ DealProduct g a b → ⊥) → (step ≡ SendOuts → ⊥)
-      → xs ≡ flat_map (λ l. l) (send_at plan i step inputs coins [] shares mail)
-  sent-other is inputs product outs = absurd (no-other plan step is inputs product outs)
-
--- what the parts take
-module _ (plan : Plan) (i : ℕ) (step : Step) (inputs coins shares out : List ℕ) (s : Sendable plan i step inputs coins shares out) where
-  pub step-coins : Coined plan i coins
-  step-coins = s.own.coined
-
-  pub room-inputs : step ≡ DealInputs → length out ≡ width * sent_by plan i DealInputs
-  room-inputs e = s.room ∙ ap (λ (r : Step). width * sent_by plan i r) e
-
-  pub room-product : (g a b : ℕ) → step ≡ DealProduct g a b → length out ≡ width * sent_by plan i (DealProduct g a b)
-  room-product g a b e = s.room ∙ ap (λ (r : Step). width * sent_by plan i r) e
-
-pub room_outs : (bs : List ℕ) (h : Header) (i : ℕ) (step : Step) (inputs coins shares out : List ℕ) → Planned bs h → Sendable (plan_of bs) i step inputs coins shares out
-    → step ≡ SendOuts → length out ≡ width * h.outs
-unfolding sent_by
-room_outs bs h i step inputs coins shares out w s e = s.room ∙ ap (λ (r : Step). width * sent_by (plan_of bs) i r) e ∙ rw (plan_outs w)
+  pub step_sent : (inputs coins shares mail xs : List ℕ) → xs ≡ outgoing plan i same inputs coins shares mail → xs ≡ outgoing plan i step inputs coins shares mail
+  step_sent inputs coins shares mail xs q = rw e q
 
 -- As it is: answers name this set, since the check leaves their goals open by `using` alone.
-pub ruleset stepping =
-    (rules, stepped-product, step-coins, room-inputs, room-product, room_outs, sent-inputs, sent-product, sent-outs, sent-other)
+pub ruleset stepping = (rules, step-stepped, step_room, step_sent, cut_room, cut_sent, sent-other)
 
 -- ---- a call
 module _ (bs : List ℕ) (h : Header) (w : Planned bs h) (i k : ℕ) (inputs coins shares mail out : List ℕ) (l : Lent (plan_of bs) i k inputs coins shares mail out) (last : ℕ) (is : last ≡ last_call (plan_of bs)) where
@@ -82,16 +63,11 @@ module _ (bs : List ℕ) (h : Header) (w : Planned bs h) (i k : ℕ) (inputs coi
     early : k < last_call (plan_of bs)
     early = omega (arith, l.call)
 
-    pub call-sendable : (step : Step) → step ≡ step_at (plan_of bs) k → Sendable (plan_of bs) i step inputs coins shares out
+    pub call_room : (step : Step) → step ≡ step_at (plan_of bs) k → length out ≡ width * sent_by (plan_of bs) i step
     unfolding written_count
-    call-sendable step e = record {
-      party = l.party;
-      own = l.own;
-      shares_below = l.shares_below;
-      room = l.room ∙ rw (lt-ltb k (last_call (plan_of bs)) early, ← e);
-    }
+    call_room step e = l.room ∙ rw (lt-ltb k (last_call (plan_of bs)) early, ← e)
 
-    pub call-sent : (step : Step) (xs : List ℕ) → step ≡ step_at (plan_of bs) k → xs ≡ flat_map (λ l. l) (send_at (plan_of bs) i step (numbers inputs) (numbers coins) [] (numbers shares) (numbers mail))
+    pub call-sent : (step : Step) (xs : List ℕ) → step ≡ step_at (plan_of bs) k → xs ≡ outgoing (plan_of bs) i step (numbers inputs) (numbers coins) (numbers shares) (numbers mail)
         → xs ≡ written (plan_of bs) k (call_with (plan_of bs) i k (numbers inputs) (numbers coins) [] (numbers shares) (numbers mail))
     unfolding written call_with
     call-sent step xs e q = rw (ne_eqb k (last_call (plan_of bs)) (λ z. omega (arith, early)), lt-ltb k (last_call (plan_of bs)) early, ← e) q
@@ -101,9 +77,9 @@ module _ (bs : List ℕ) (h : Header) (w : Planned bs h) (i k : ℕ) (inputs coi
     unfolding written_count
     own-many = l.room ∙ rw (le-ltb k (last_call (plan_of bs)) (omega arith))
 
-    pub call-room : length out ≤ width * 65536
+    pub results-room : length out ≤ width * 65536
     unfolding own_out_count out_wires
-    call-room = omega (arith, own-many, out_wires_few i (plan_of bs).outs, plan_outs w, w.outs-high)
+    results-room = omega (arith, own-many, out_wires_few i (plan_of bs).outs, plan_outs w, w.outs-high)
 
     pub call-opened : (xs : List ℕ) → xs ≡ opened_outs (plan_of bs) (length out / width) (numbers mail)
         → xs ≡ written (plan_of bs) k (call_with (plan_of bs) i k (numbers inputs) (numbers coins) [] (numbers shares) (numbers mail))
@@ -113,4 +89,4 @@ module _ (bs : List ℕ) (h : Header) (w : Planned bs h) (i k : ℕ) (inputs coi
         q ∙ ap (λ (n : ℕ). opened_outs (plan_of bs) n (numbers mail)) many ∙ sym (rw (eq-eqb k (last_call (plan_of bs)) (omega arith)))
 
 -- As it is: answers name this set, since the check leaves their goals open by `using` alone.
-pub ruleset calling = (rules, call-sendable, call-sent, call-room, call-opened)
+pub ruleset calling = (rules, call_room, call-sent, results-room, call-opened)

@@ -1,47 +1,60 @@
 // What a call writes: the outgoing mail of its step, or in the last call the results.
 #![tactic(auto)]
 
-ghost use Rattle.std.specs.Prelude.{◌≡◌, true, cond, ◌+◌, ◌*◌, ◌<◌, ◌≤◌, eqb, length, get_or, take};
-ghost use mathlib.Core.List.{[], ◌∷◌, flat_map};
+ghost use Rattle.std.specs.Prelude.{◌≡◌, true, cond, ◌+◌, ◌*◌, ◌<◌, ◌≤◌, length, take, drop, get_or};
+ghost use mathlib.Core.List.{[], ◌∷◌, map};
 ghost use Rattle.numbers.specs.Bytes.{width, numbers, all_below};
-ghost use Rattle.field.specs.Mod.{mul};
 ghost use Rattle.field.specs.Field.{Is};
 ghost use Rattle.sharing_laws.specs.Poly.{eval};
 ghost use Rattle.sharing_laws.specs.Sharing.{deal};
-ghost use Rattle.plan.specs.declared.Gate.TheVariants.{Multiply};
-ghost use Rattle.plan.specs.declared.Step.TheVariants.{DealInputs, DealProduct, SendOuts};
-ghost use Rattle.plan.specs.Plans.{is_input_of, input_wires, out_wires, sent_by};
+ghost use Rattle.sharing_matrix.specs.Matrix.{applied};
+ghost use Rattle.plan.specs.declared.Step.TheVariants.{DealInputs, DealProduct, DealZero, DealMasked, DealDraws, SendOuts};
+ghost use Rattle.plan.specs.Plans.{party_count, is_input_of, input_wires, out_wires, coins_at, sent_by};
 ghost use Rattle.plan.specs.File.{plan_of};
+ghost use Rattle.plan_counts.specs.Counts.{Stepped};
 ghost use Rattle.seat_messages.specs.Calls.{written};
-ghost use Rattle.plan_counts.specs.Counts.{IsGate, Stepped};
-ghost use Rattle.seat_messages.specs.Messages.{call_with, send_at};
-ghost use Rattle.seat_sending.specs.Sending.{Sent, Dealing, Coined, Own, Lent, Sendable, coins_from, input_shares, out_shares};
+ghost use Rattle.seat_messages.specs.Messages.{product_at, call_with};
+ghost use Rattle.seat_sending.specs.Sending.{Sent, Dealing, Past, Elements, Lent, coins_from, input_shares, out_shares, outgoing};
 
 use field::Field;
-use plan::{Gate, PlanFile, Step};
+use plan::{Gate, Step};
 use plan_counts::Seat;
 use seat_messages::Lists;
 
-// A dealing: the dealt value, and t coins of a lent list from a place on.
+// Writes the values of a polynomial at the points.
+#[tactic(auto, using(crate::proofs::DealLaws::valuing))]
+fn send_values(f: Field, polynomial: &[u64], points: &[u64], out: &mut [u8])
+    requires polynomial_value { all_below f.p polynomial.now ≡ true }
+    requires points_value { all_below f.p points.now ≡ true }
+    requires out_len { length out.old ≡ width * length points.now }
+    ensures { numbers out.new ≡ map (eval f.p polynomial.now) points.now }
+{
+    for (j, x) in points.iter().enumerate() {
+        let piece = sharing::value(f, polynomial, *x);
+        numbers::write(out, j, piece);
+    }
+}
+
+// A dealing: the dealt value, and k coins of a lent list from a place on.
 #[derive(Clone, Copy)]
 struct Dealt<'a> {
     field: Field,
-    t: usize,
+    k: usize,
     secret: u64,
     coins: &'a [u8],
     at: usize,
-    ghost dealing: { Dealing field.p t secret (numbers coins.now) at },
+    ghost dealing: { Dealing field.p k secret (numbers coins.now) at },
 }
 
 impl Dealt<'_> {
-    // The coefficients: the dealt value, then t coins.
+    // The coefficients: the dealt value, then k coins.
     #[tactic(auto, using(crate::proofs::DealLaws::beginning))]
     fn polynomial(&self) -> [u64; 16]
-        ensures { take (self.now.t + 1) result ≡ self.now.secret ∷ coins_from self.now.t self.now.at (numbers self.now.coins.now) }
+        ensures { take (self.now.k + 1) result ≡ self.now.secret ∷ coins_from self.now.k self.now.at (numbers self.now.coins.now) }
     {
         let mut polynomial = [0u64; 16];
         polynomial[0] = self.secret;
-        for j in 0..self.t {
+        for j in 0..self.k {
             polynomial[j + 1] = numbers::read(self.coins, self.at + j);
         }
         polynomial
@@ -51,172 +64,299 @@ impl Dealt<'_> {
     #[tactic(auto, using(crate::proofs::DealLaws::dealing))]
     fn share(&self, x: u64) -> u64
         requires { x < self.now.field.p }
-        ensures { Is self.now.field.p (eval self.now.field.p (self.now.secret ∷ coins_from self.now.t self.now.at (numbers self.now.coins.now)) x) result }
+        ensures { Is self.now.field.p (eval self.now.field.p (self.now.secret ∷ take self.now.k (drop self.now.at (numbers self.now.coins.now))) x) result }
     {
         let coefficients = self.polynomial();
-        sharing::value(self.field, &coefficients[..self.t + 1], x)
+        sharing::value(self.field, &coefficients[..self.k + 1], x)
     }
 
     // Writes a share for each point.
-    #[tactic(auto, using(crate::proofs::ProductLaws::dealing_out))]
+    #[tactic(auto, using(crate::proofs::DealLaws::dealing_out))]
     fn send(&self, points: &[u64], out: &mut [u8])
         requires points_value { all_below self.now.field.p points.now ≡ true }
         requires out_len { length out.old ≡ width * length points.now }
-        ensures { numbers out.new ≡ deal self.now.field.p self.now.secret (coins_from self.now.t self.now.at (numbers self.now.coins.now)) points.now }
+        ensures { numbers out.new ≡ deal self.now.field.p self.now.secret (take self.now.k (drop self.now.at (numbers self.now.coins.now))) points.now }
     {
         let coefficients = self.polynomial();
-        let polynomial = &coefficients[..self.t + 1];
-        for (j, x) in points.iter().enumerate() {
-            let piece = sharing::value(self.field, polynomial, *x);
-            numbers::write(out, j, piece);
+        send_values(self.field, &coefficients[..self.k + 1], points, out);
+    }
+}
+
+// A party's inputs and coins at the gates below one.
+#[derive(Clone, Copy)]
+struct Passed {
+    inputs: usize,
+    coins: usize,
+}
+
+impl Passed {
+    // With those at this gate.
+    fn past(self, seat: &Seat, gate: Gate) -> Passed
+        requires inputs_bound { self.inputs ≤ 1024 }
+        requires coins_bound { self.coins ≤ 43008 }
+        ensures { Past (plan_of seat.now.plan.now.bytes.now) seat.now.party gate self result }
+    {
+        Passed {
+            inputs: self.inputs + plan_counts::own_inputs_at(seat.plan, seat.party, gate),
+            coins: self.coins + plan_counts::own_coins_at(seat.plan, seat.party, gate),
         }
     }
 }
 
-// ---- the party's own inputs
+// What a party's call sends from: its seat, its own inputs and coins, its mail, and its shares.
+#[derive(Clone, Copy)]
+struct Sender<'a> {
+    seat: &'a Seat<'a>,
+    lists: &'a Lists<'a>,
+    shares: &'a [u8],
+    ghost elements: { Elements (plan_of seat.now.plan.now.bytes.now) lists.now.inputs.now lists.now.coins.now shares.now lists.now.mail.now },
+}
 
-// Writes the shares at x of the party's inputs from a place on; answers the next place.
-// As it is: the place is handed in and answered; of a struct that holds it with the list each clause would have to say too that the list is the same one.
-#[tactic(auto, using(crate::proofs::InputLaws::inputting))]
-fn send_inputs_to(seat: &Seat, lists: &Lists, x: u64, at: usize, out: &mut [u8]) -> usize
-    requires own { Own (plan_of seat.now.plan.now.bytes.now) seat.now.party lists.now.inputs.now lists.now.coins.now }
-    requires x_lt_p { x < seat.now.plan.now.header.field.p }
-    requires at_bound { at ≤ 15360 }
-    ensures { Sent (input_shares (plan_of seat.now.plan.now.bytes.now) seat.now.party (input_wires (plan_of seat.now.plan.now.bytes.now) seat.now.party) (numbers lists.now.inputs.now) (numbers lists.now.coins.now) x) at out.old out.new result }
-{
-    let plan = seat.plan;
-    let mut place = at;
-    let mut k: usize = 0;
-    for g in 0..plan.header.gates {
-        let gate = plan.gate(g);
-        let first = k;
-        k += plan_counts::own_coins_at(plan, seat.party, gate);
-        if !plan_counts::is_input_of(seat.party, gate) {
-            continue;
+impl Sender<'_> {
+    // ---- the party's own inputs
+
+    // Writes the share at x of the dealing of a gate's input, if it is the party's, to a place; answers the next place.
+    #[tactic(auto, using(crate::proofs::InputLaws::sharing_one))]
+    fn send_input_to(
+        &self,
+        gate: Gate,
+        before: Passed,
+        x: u64,
+        place: usize,
+        out: &mut [u8],
+    ) -> usize
+        requires coins_bound { before.coins ≤ 43008 }
+        requires x_lt_p { x < self.now.seat.now.plan.now.header.field.p }
+        requires place_bound { place ≤ 16384 }
+        ensures { Sent (cond (is_input_of self.now.seat.now.party gate) (eval self.now.seat.now.plan.now.header.field.p (get_or (numbers self.now.lists.now.inputs.now) before.inputs 0 ∷ take self.now.seat.now.plan.now.header.t (drop before.coins (numbers self.now.lists.now.coins.now))) x ∷ []) []) place out.old out.new result }
+    {
+        if !plan_counts::is_input_of(self.seat.party, gate) {
+            return place;
         }
+        let h = self.seat.plan.header;
         let dealt = Dealt {
-            field: plan.header.field,
-            t: plan.header.t,
-            secret: numbers::read(lists.inputs, place - at),
-            coins: lists.coins,
-            at: first,
+            field: h.field,
+            k: h.t,
+            secret: numbers::read(self.lists.inputs, before.inputs),
+            coins: self.lists.coins,
+            at: before.coins,
         };
         numbers::write(out, place, dealt.share(x));
-        place += 1;
+        place + 1
     }
-    place
-}
 
-// Writes the dealings of the party's inputs, by receiving party.
-#[tactic(auto, using(crate::proofs::InputLaws::receiving))]
-fn send_inputs(seat: &Seat, lists: &Lists, out: &mut [u8])
-    requires own { Own (plan_of seat.now.plan.now.bytes.now) seat.now.party lists.now.inputs.now lists.now.coins.now }
-    requires out_len { length out.old ≡ width * sent_by (plan_of seat.now.plan.now.bytes.now) seat.now.party DealInputs }
-    ensures { numbers out.new ≡ flat_map (λ l. l) (send_at (plan_of seat.now.plan.now.bytes.now) seat.now.party DealInputs (numbers lists.now.inputs.now) (numbers lists.now.coins.now) [] [] []) }
-{
-    let points = seat_messages::points_of(seat.plan);
-    let mut at: usize = 0;
-    for x in &points[..seat.plan.header.n] {
-        at = send_inputs_to(seat, lists, *x, at, out);
-    }
-}
-
-// ---- the product of a multiply gate's shares
-
-// The product of two wires' shares.
-#[tactic(auto, using(crate::proofs::ProductLaws::multiplying))]
-fn product(f: Field, a: usize, b: usize, shares: &[u8]) -> u64
-    requires shares_value { all_below f.p (numbers shares.now) ≡ true }
-    ensures { Is f.p (mul f.p (get_or (numbers shares.now) a 0) (get_or (numbers shares.now) b 0)) result }
-{
-    f.mul(numbers::read(shares, a), numbers::read(shares, b))
-}
-
-// Writes the dealing of the product of wires a and b, at gate g, if the party is one of the 2t + 1 dealers.
-#[tactic(auto, using(crate::proofs::ProductLaws::product_sending))]
-fn send_product(
-    seat: &Seat,
-    g: usize,
-    a: usize,
-    b: usize,
-    coins: &[u8],
-    shares: &[u8],
-    out: &mut [u8],
-)
-    requires le_i { 1 ≤ seat.now.party }
-    requires gate { IsGate (plan_of seat.now.plan.now.bytes.now) g (Multiply a b) }
-    requires coined { Coined (plan_of seat.now.plan.now.bytes.now) seat.now.party coins.now }
-    requires shares_value { all_below (plan_of seat.now.plan.now.bytes.now).p (numbers shares.now) ≡ true }
-    requires out_len { length out.old ≡ width * sent_by (plan_of seat.now.plan.now.bytes.now) seat.now.party (DealProduct g a b) }
-    ensures { numbers out.new ≡ flat_map (λ l. l) (send_at (plan_of seat.now.plan.now.bytes.now) seat.now.party (DealProduct g a b) [] (numbers coins.now) [] (numbers shares.now) []) }
-{
-    let plan = seat.plan;
-    let t = plan.header.t;
-    if t + t + 1 < seat.party {
-        return;
-    }
-    let dealt = Dealt {
-        field: plan.header.field,
-        t,
-        secret: product(plan.header.field, a, b, shares),
-        coins,
-        at: plan_counts::coins_below(plan, seat.party, g),
-    };
-    let points = seat_messages::points_of(plan);
-    dealt.send(&points[..plan.header.n], out);
-}
-
-// ---- the shares of the outs
-
-// Writes the shares of a party's outs from a place on; answers the next place.
-// As it is: the place is handed in and answered, for the same reason as in `send_inputs_to`.
-#[tactic(auto, using(crate::proofs::OutLaws::outing))]
-fn send_outs_to(plan: &PlanFile, party: usize, shares: &[u8], at: usize, out: &mut [u8]) -> usize
-    requires at_bound { at ≤ 15360 }
-    ensures { Sent (out_shares (numbers shares.now) (out_wires (plan_of plan.now.bytes.now) party)) at out.old out.new result }
-{
-    let mut place = at;
-    for o in 0..plan.header.outs {
-        let output = plan::out_at(plan.bytes, o);
-        if party != output.party {
-            continue;
+    // Writes the shares at x of the party's inputs from a place on; answers the next place.
+    // As it is: the place is handed in and answered; of a struct that holds it with the list each clause would have to say too that the list is the same one.
+    #[tactic(auto, using(crate::proofs::InputLaws::inputting))]
+    fn send_inputs_to(&self, x: u64, at: usize, out: &mut [u8]) -> usize
+        requires x_lt_p { x < self.now.seat.now.plan.now.header.field.p }
+        requires at_bound { at ≤ 15360 }
+        ensures { Sent (input_shares (plan_of self.now.seat.now.plan.now.bytes.now) self.now.seat.now.party (input_wires (plan_of self.now.seat.now.plan.now.bytes.now) self.now.seat.now.party) (numbers self.now.lists.now.inputs.now) (numbers self.now.lists.now.coins.now) x) at out.old out.new result }
+    {
+        let plan = self.seat.plan;
+        let mut place = at;
+        let mut passed = Passed {
+            inputs: 0,
+            coins: 0,
+        };
+        let gates = plan.gates();
+        for g in 0..plan.header.gates {
+            let gate = gates.gate(g);
+            place = self.send_input_to(gate, passed, x, place, out);
+            passed = passed.past(self.seat, gate);
         }
-        numbers::write(out, place, numbers::read(shares, output.wire));
-        place += 1;
+        place
     }
-    place
-}
 
-// Writes the share of each out to that out's party, by receiving party.
-#[tactic(auto, using(crate::proofs::OutLaws::gathering))]
-fn send_outs(plan: &PlanFile, shares: &[u8], out: &mut [u8])
-    requires out_len { length out.old ≡ width * plan.now.header.outs }
-    ensures { numbers out.new ≡ flat_map (λ l. l) (send_at (plan_of plan.now.bytes.now) 0 SendOuts [] [] [] (numbers shares.now) []) }
-{
-    let mut at: usize = 0;
-    for j in 0..plan.header.n {
-        at = send_outs_to(plan, j + 1, shares, at, out);
+    // Writes the dealings of the party's inputs, by receiving party.
+    #[tactic(auto, using(crate::proofs::InputLaws::receiving))]
+    fn send_inputs(&self, out: &mut [u8])
+        requires out_len { length out.old ≡ width * sent_by (plan_of self.now.seat.now.plan.now.bytes.now) self.now.seat.now.party DealInputs }
+        ensures { numbers out.new ≡ outgoing (plan_of self.now.seat.now.plan.now.bytes.now) self.now.seat.now.party DealInputs (numbers self.now.lists.now.inputs.now) (numbers self.now.lists.now.coins.now) (numbers self.now.shares.now) (numbers self.now.lists.now.mail.now) }
+    {
+        let plan = self.seat.plan;
+        let points = seat_messages::points_of(plan);
+        let mut at: usize = 0;
+        for x in &points[..plan.header.n] {
+            at = self.send_inputs_to(*x, at, out);
+        }
+    }
+
+    // ---- a dealing at a gate
+
+    // Writes the dealing of a value at gate g, with k of the party's coins there after `skip` that another dealing takes.
+    #[tactic(auto, using(crate::proofs::GateLaws::dealing_there))]
+    fn deal_at(&self, g: usize, secret: u64, skip: usize, k: usize, out: &mut [u8])
+        requires g_le_gates { g ≤ self.now.seat.now.plan.now.header.gates }
+        requires secret_lt_p { secret < self.now.seat.now.plan.now.header.field.p }
+        requires skip_bound { skip ≤ 14 }
+        requires k_bound { k ≤ 14 }
+        requires out_len { length out.old ≡ width * party_count (plan_of self.now.seat.now.plan.now.bytes.now) }
+        ensures { numbers out.new ≡ deal (plan_of self.now.seat.now.plan.now.bytes.now).p secret (coins_at (plan_of self.now.seat.now.plan.now.bytes.now) self.now.seat.now.party g skip k (numbers self.now.lists.now.coins.now)) (plan_of self.now.seat.now.plan.now.bytes.now).points }
+    {
+        let plan = self.seat.plan;
+        let dealt = Dealt {
+            field: plan.header.field,
+            k,
+            secret,
+            coins: self.lists.coins,
+            at: plan_counts::coins_below(plan, self.seat.party, g) + skip,
+        };
+        let points = seat_messages::points_of(plan);
+        dealt.send(&points[..plan.header.n], out);
+    }
+
+    // The product of two wires' shares.
+    #[tactic(auto, using(crate::proofs::GateLaws::multiplying_shares))]
+    fn product(&self, a: usize, b: usize) -> u64
+        ensures { Is self.now.seat.now.plan.now.header.field.p (product_at (plan_of self.now.seat.now.plan.now.bytes.now) a b (numbers self.now.shares.now)) result }
+    {
+        let f = self.seat.plan.header.field;
+        f.mul(numbers::read(self.shares, a), numbers::read(self.shares, b))
+    }
+
+    // Writes the dealing of the product of wires a and b, at gate g, if the party is one of the 2t + 1 dealers.
+    #[tactic(auto, using(crate::proofs::GateLaws::product_sending))]
+    fn send_product(&self, g: usize, a: usize, b: usize, out: &mut [u8])
+        requires stepped { Stepped (plan_of self.now.seat.now.plan.now.bytes.now) (DealProduct g a b) }
+        requires out_len { length out.old ≡ width * sent_by (plan_of self.now.seat.now.plan.now.bytes.now) self.now.seat.now.party (DealProduct g a b) }
+        ensures { numbers out.new ≡ outgoing (plan_of self.now.seat.now.plan.now.bytes.now) self.now.seat.now.party (DealProduct g a b) (numbers self.now.lists.now.inputs.now) (numbers self.now.lists.now.coins.now) (numbers self.now.shares.now) (numbers self.now.lists.now.mail.now) }
+    {
+        let t = self.seat.plan.header.t;
+        if t + t + 1 < self.seat.party {
+            return;
+        }
+        self.deal_at(g, self.product(a, b), 0, t, out);
+    }
+
+    // Writes the dealing of 0 with 2t coins, at gate g.
+    #[tactic(auto, using(crate::proofs::GateLaws::zero_sending))]
+    fn send_zero(&self, g: usize, out: &mut [u8])
+        requires stepped { Stepped (plan_of self.now.seat.now.plan.now.bytes.now) (DealZero g) }
+        requires out_len { length out.old ≡ width * sent_by (plan_of self.now.seat.now.plan.now.bytes.now) self.now.seat.now.party (DealZero g) }
+        ensures { numbers out.new ≡ outgoing (plan_of self.now.seat.now.plan.now.bytes.now) self.now.seat.now.party (DealZero g) (numbers self.now.lists.now.inputs.now) (numbers self.now.lists.now.coins.now) (numbers self.now.shares.now) (numbers self.now.lists.now.mail.now) }
+    {
+        let t = self.seat.plan.header.t;
+        self.deal_at(g, 0, 0, t + t, out);
+    }
+
+    // Writes the dealing of the product of wires a and b with the sum of the zeros' pieces, at gate g.
+    #[tactic(auto, using(crate::proofs::GateLaws::masked_sending))]
+    fn send_masked(&self, g: usize, a: usize, b: usize, out: &mut [u8])
+        requires stepped { Stepped (plan_of self.now.seat.now.plan.now.bytes.now) (DealMasked g a b) }
+        requires out_len { length out.old ≡ width * sent_by (plan_of self.now.seat.now.plan.now.bytes.now) self.now.seat.now.party (DealMasked g a b) }
+        ensures { numbers out.new ≡ outgoing (plan_of self.now.seat.now.plan.now.bytes.now) self.now.seat.now.party (DealMasked g a b) (numbers self.now.lists.now.inputs.now) (numbers self.now.lists.now.coins.now) (numbers self.now.shares.now) (numbers self.now.lists.now.mail.now) }
+    {
+        let h = self.seat.plan.header;
+        let mask = seat_messages::sum_all(h.field, self.lists.mail);
+        let masked = h.field.add(self.product(a, b), mask);
+        self.deal_at(g, masked, h.t + h.t, h.t, out);
+    }
+
+    // Writes the dealing of the party's draw, at gate g.
+    #[tactic(auto, using(crate::proofs::GateLaws::draw_sending))]
+    fn send_draw(&self, g: usize, out: &mut [u8])
+        requires stepped { Stepped (plan_of self.now.seat.now.plan.now.bytes.now) (DealDraws g) }
+        requires out_len { length out.old ≡ width * sent_by (plan_of self.now.seat.now.plan.now.bytes.now) self.now.seat.now.party (DealDraws g) }
+        ensures { numbers out.new ≡ outgoing (plan_of self.now.seat.now.plan.now.bytes.now) self.now.seat.now.party (DealDraws g) (numbers self.now.lists.now.inputs.now) (numbers self.now.lists.now.coins.now) (numbers self.now.shares.now) (numbers self.now.lists.now.mail.now) }
+    {
+        let plan = self.seat.plan;
+        let place = plan_counts::inputs_below(plan, self.seat.party, g);
+        let draw = numbers::read(self.lists.inputs, place);
+        self.deal_at(g, draw, 0, plan.header.t, out);
+    }
+
+    // What the matrix makes of the mail: at each party's point its piece of the party's truncated share.
+    // As it is: an array, since there is no heap, and without a count, since it has n.
+    #[tactic(auto, using(crate::proofs::CutLaws::truncating))]
+    fn truncated(&self) -> [u64; 15]
+        ensures { take self.now.seat.now.plan.now.header.n result ≡ applied (plan_of self.now.seat.now.plan.now.bytes.now).p (plan_of self.now.seat.now.plan.now.bytes.now).t (plan_of self.now.seat.now.plan.now.bytes.now).points (numbers self.now.lists.now.mail.now) }
+    {
+        let h = self.seat.plan.header;
+        let points = seat_messages::points_of(self.seat.plan);
+        let values = seat_results::from_each(h.n, 1, 0, self.lists.mail);
+        let mut pieces = [0u64; 15];
+        sharing_matrix::apply(
+            h.field,
+            h.t,
+            &points[..h.n],
+            &values[..h.n],
+            &mut pieces[..h.n],
+        );
+        pieces
+    }
+
+    // Writes the pieces of the party's truncated share.
+    #[tactic(auto, using(crate::proofs::CutLaws::piecing))]
+    fn send_truncated(&self, out: &mut [u8])
+        requires out_len { length out.old ≡ width * party_count (plan_of self.now.seat.now.plan.now.bytes.now) }
+        ensures { numbers out.new ≡ applied (plan_of self.now.seat.now.plan.now.bytes.now).p (plan_of self.now.seat.now.plan.now.bytes.now).t (plan_of self.now.seat.now.plan.now.bytes.now).points (numbers self.now.lists.now.mail.now) }
+    {
+        let pieces = self.truncated();
+        for j in 0..self.seat.plan.header.n {
+            numbers::write(out, j, pieces[j]);
+        }
+    }
+
+    // ---- the shares of the outs
+
+    // Writes the shares of a party's outs from a place on; answers the next place.
+    // As it is: the place is handed in and answered, for the same reason as in `send_inputs_to`.
+    #[tactic(auto, using(crate::proofs::OutLaws::outing))]
+    fn send_outs_to(&self, party: usize, at: usize, out: &mut [u8]) -> usize
+        requires at_bound { at ≤ 15360 }
+        ensures { Sent (out_shares (numbers self.now.shares.now) (out_wires (plan_of self.now.seat.now.plan.now.bytes.now) party)) at out.old out.new result }
+    {
+        let plan = self.seat.plan;
+        let mut place = at;
+        for o in 0..plan.header.outs {
+            let output = plan::out_at(plan.bytes, o);
+            if party != output.party {
+                continue;
+            }
+            numbers::write(out, place, numbers::read(self.shares, output.wire));
+            place += 1;
+        }
+        place
+    }
+
+    // Writes the share of each out to that out's party, by receiving party.
+    #[tactic(auto, using(crate::proofs::OutLaws::gathering))]
+    fn send_outs(&self, out: &mut [u8])
+        requires out_len { length out.old ≡ width * sent_by (plan_of self.now.seat.now.plan.now.bytes.now) self.now.seat.now.party SendOuts }
+        ensures { numbers out.new ≡ outgoing (plan_of self.now.seat.now.plan.now.bytes.now) self.now.seat.now.party SendOuts (numbers self.now.lists.now.inputs.now) (numbers self.now.lists.now.coins.now) (numbers self.now.shares.now) (numbers self.now.lists.now.mail.now) }
+    {
+        let mut at: usize = 0;
+        for j in 0..self.seat.plan.header.n {
+            at = self.send_outs_to(j + 1, at, out);
+        }
+    }
+
+    // ---- a step
+
+    // Writes what the party sends in a step.
+    // As it is: the plan's file names the step, so one `match` has to choose. A closure for a step would be made in that `match`, and its contract
+    // would be the step's case of `send_at` once more.
+    #[tactic(auto, using(crate::proofs::WrittenLaws::stepping))]
+    fn send(&self, step: Step, out: &mut [u8])
+        requires stepped { Stepped (plan_of self.now.seat.now.plan.now.bytes.now) step }
+        requires out_len { length out.old ≡ width * sent_by (plan_of self.now.seat.now.plan.now.bytes.now) self.now.seat.now.party step }
+        ensures { numbers out.new ≡ outgoing (plan_of self.now.seat.now.plan.now.bytes.now) self.now.seat.now.party step (numbers self.now.lists.now.inputs.now) (numbers self.now.lists.now.coins.now) (numbers self.now.shares.now) (numbers self.now.lists.now.mail.now) }
+    {
+        match step {
+            Step::DealInputs => self.send_inputs(out),
+            Step::DealProduct(g, a, b) => self.send_product(g, a, b, out),
+            Step::DealZero(g) => self.send_zero(g, out),
+            Step::DealMasked(g, a, b) => self.send_masked(g, a, b, out),
+            Step::SendTruncated(_) => self.send_truncated(out),
+            Step::DealDraws(g) => self.send_draw(g, out),
+            Step::SendOuts => self.send_outs(out),
+            _ => {}
+        }
     }
 }
 
 // ---- the call
-
-// Writes what the party sends in a step. A plan file has no other steps than these three.
-// As it is: the plan's file names the step, so one `match` has to choose. A closure for a step would be made in that `match`, and its contract
-// would be the step's case of `send_at` once more. Seat, lists and shares go together from `send` to here; none of the three steps takes all three.
-#[tactic(auto, using(crate::proofs::WrittenLaws::stepping))]
-fn send_step(seat: &Seat, step: Step, lists: &Lists, shares: &[u8], out: &mut [u8])
-    requires stepped { Stepped (plan_of seat.now.plan.now.bytes.now) step }
-    requires sendable { Sendable (plan_of seat.now.plan.now.bytes.now) seat.now.party step lists.now.inputs.now lists.now.coins.now shares.now out.old }
-    ensures { numbers out.new ≡ flat_map (λ l. l) (send_at (plan_of seat.now.plan.now.bytes.now) seat.now.party step (numbers lists.now.inputs.now) (numbers lists.now.coins.now) [] (numbers shares.now) (numbers lists.now.mail.now)) }
-{
-    match step {
-        Step::DealInputs => send_inputs(seat, lists, out),
-        Step::DealProduct(g, a, b) => send_product(seat, g, a, b, lists.coins, shares, out),
-        Step::SendOuts => send_outs(seat.plan, shares, out),
-        _ => {}
-    }
-}
 
 // Writes what the party's call number k sends, or in the last call its results.
 #[tactic(auto, using(crate::proofs::WrittenLaws::calling))]
@@ -228,6 +368,10 @@ pub fn send(seat: &Seat, k: usize, lists: &Lists, shares: &[u8], out: &mut [u8])
         seat_results::results(seat.plan, lists.mail, out);
         return;
     }
-    let step = plan_counts::step_at(seat.plan, k);
-    send_step(seat, step, lists, shares, out);
+    let sender = Sender {
+        seat,
+        lists,
+        shares,
+    };
+    sender.send(plan_counts::step_at(seat.plan, k), out);
 }

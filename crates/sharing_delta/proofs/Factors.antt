@@ -1,6 +1,7 @@
 -- The code of the vanishing polynomial, factor by factor, in place.
 --     clearing                the polynomial 1
---     Carried, carrying       one factor 1 + b·X
+--     Carried, carrying       one factor a + b·X
+--     carried-cut             what it does to a polynomial that is cut
 --     Grown, growing          the factors, from the last
 -- Assumes nothing.
 use mathlib.Core.Path.{◌≡◌, refl, sym, ap, ap₂, ◌∙◌}
@@ -13,16 +14,16 @@ use native.Mathlib.Numerals.{add-one}
 use native.Mathlib.Omega.{arith}
 use borrow.Author.Rules.{rules}
 use lib.ListN.{length, take, drop, set, get_or, replicate, length-drop, length-set, drop_of_length-le}
-use lib.Seq.{drop-cons, drop-drop, get_or-drop, drop-length, drop-set-lt, take-suc-set, take_all}
+use lib.Seq.{drop-cons, drop-drop, get_or-drop, drop-length, drop-set-lt, take-suc-set, take_all, take-nil}
 use Rattle.numbers.specs.Bytes.{all_below}
-use Rattle.field.specs.Mod.{mul, sub}
+use Rattle.field.specs.Mod.{add, mul, sub}
 use Rattle.field.specs.Prime.{inv}
-use Rattle.field.specs.Field.{Is, Ready}
-use Rattle.field.proofs.Solve.{#, quote, solve}
+use Rattle.field.specs.Field.{Below2, Is, Ready}
+use Rattle.field.proofs.Solve.{#, quote, solve, turn, ◌⨾◌, plus, mul_same, add_same, mod_same, mod_canon, add_canon, canon_same}
 use Rattle.field.proofs.Products.{word}
 use Rattle.sharing_laws.specs.Poly.{sum_of, scale, linear, carried, padded}
 use Rattle.sharing_laws.specs.Interp.{delta}
-use Rattle.sharing.proofs.Coding.{entry_below, step_value}
+use Rattle.sharing.proofs.Coding.{entry_below}
 use Rattle.sharing_laws.proofs.Deltas.{length-delta}
 use Rattle.sharing_laws.proofs.Polys.{length-linear}
 use Rattle.sharing_laws.proofs.Elements.{delta-below, padded-below}
@@ -39,19 +40,23 @@ one_set d n e l = rw e (first_one n l)
 pub ruleset clearing = (rules, one_set)
 
 -- ---- one factor
+-- one remainder for a step
+step_both : (p a x b c : ℕ) → (a * x + b * c) % p ≡ add p (mul p a x) (mul p b c)
+step_both p a x b c = canon_same (mod_canon (a * x + b * c)) (add_canon (mul p a x) (mul p b c)) (mod_same p (a * x + b * c) ⨾ plus (turn (mul_same p a x)) (turn (mul_same p b c)) ⨾ turn (add_same p (mul p a x) (mul p b c)))
+
 -- the invariant: what is written, and what is left to write from i on, is the product
-pub record Carried (p b : ℕ) (d₀ d : List ℕ) (before i : ℕ) : Type 0 where
+pub record Carried (p a b : ℕ) (d₀ d : List ℕ) (before i : ℕ) : Type 0 where
   pub within : i ≤ length d₀
   pub long : length d ≡ length d₀
   pub small : before < p
   pub left : drop i d ≡ drop i d₀
-  pub whole : take i d ++ carried p b before (drop i d) ≡ carried p b 0 d₀
+  pub whole : take i d ++ carried p a b before (drop i d) ≡ carried p a b 0 d₀
 
-module _ (p b : ℕ) (d₀ : List ℕ) (r : Ready p) where
-  pub carry-none : Carried p b d₀ d₀ 0 0
+module _ (p a b : ℕ) (d₀ : List ℕ) (r : Ready p) where
+  pub carry-none : Carried p a b d₀ d₀ 0 0
   carry-none = record { within = omega arith; long = refl; small = omega (arith, r.prime.above); left = refl; whole = refl }
 
-  module _ (d : List ℕ) (before i : ℕ) (h : Carried p b d₀ d before i) where
+  module _ (d : List ℕ) (before i : ℕ) (h : Carried p a b d₀ d before i) where
     -- what is read at i is what stood there
     left_at : get_or d i 0 ≡ get_or d₀ i 0
     left_at =
@@ -61,51 +66,76 @@ module _ (p b : ℕ) (d₀ : List ℕ) (r : Ready p) where
     left-next : drop (i + 1) d ≡ drop (i + 1) d₀
     left-next = sym (drop-drop 1 i d) ∙ ap (drop 1) h.left ∙ drop-drop 1 i d₀
 
-    pub carry-more : all_below p d₀ ≡ true → i < length d → Carried p b d₀ (set d i ((get_or d i 0 + b * before) % p)) (get_or d i 0) (i + 1)
+    read_below : all_below p d₀ ≡ true → get_or d i 0 < p
+    read_below below = rw left_at (entry_below p d₀ i r below)
+
+    pub carry-more : all_below p d₀ ≡ true → i < length d → Carried p a b d₀ (set d i ((a * get_or d i 0 + b * before) % p)) (get_or d i 0) (i + 1)
     unfolding carried
     carry-more below l =
-        let v : ℕ = (get_or d i 0 + b * before) % p in
+        let v : ℕ = (a * get_or d i 0 + b * before) % p in
         record {
           within = omega (arith, h.long);
           long = length-set d i v ∙ h.long;
-          small = rw left_at (entry_below p d₀ i r below);
+          small = read_below below;
           left = drop-set-lt (i + 1) d i v (omega arith) ∙ left-next;
           whole =
-              rw (drop-set-lt (i + 1) d i v (omega arith), add-one, take-suc-set d i v l, append_assoc, step_value p (get_or d i 0) b before)
+              rw (drop-set-lt (i + 1) d i v (omega arith), add-one, take-suc-set d i v l, append_assoc, step_both p a (get_or d i 0) b before)
               (rw (drop-cons d i 0 l) at h.whole);
         }
 
-    pub carry-whole : length d ≤ i → d ≡ carried p b 0 d₀
+    pub carry-whole : length d ≤ i → d ≡ carried p a b 0 d₀
     unfolding carried
     carry-whole l = sym (take_all i d l) ∙ sym (append-nil (take i d)) ∙ rw (drop_of_length-le d {i = i} l) at h.whole
 
-    pub carry-fits : all_below p d₀ ≡ true → b < p → get_or d i 0 + b * before < 2 ^ 64
-    carry-fits below l = rw left_at (omega (arith, r.small, h.small, entry_below p d₀ i r below, word b before (omega (arith, r.small)) (omega (arith, r.small, h.small))))
+    -- both products fit, and their sum
+    part_fits : (u v : ℕ) → u < p → v < p → u * v ≤ 2147483647 * 2147483647
+    part_fits u v l m = word u v (omega (arith, r.small)) (omega (arith, r.small))
 
-    pub product_fits : b < p → b * before < 2 ^ 64
-    product_fits l = omega (arith, word b before (omega (arith, r.small)) (omega (arith, r.small, h.small)))
+    pub carry-fits : all_below p d₀ ≡ true → Below2 p a b → a * get_or d i 0 + b * before < 2 ^ 64
+    carry-fits below two = omega (arith, part_fits a (get_or d i 0) two.left (read_below below), part_fits b before two.right h.small)
+
+    pub read-fits : all_below p d₀ ≡ true → Below2 p a b → a * get_or d i 0 < 2 ^ 64
+    read-fits below two = omega (arith, part_fits a (get_or d i 0) two.left (read_below below))
+
+    pub product_fits : Below2 p a b → b * before < 2 ^ 64
+    product_fits two = omega (arith, part_fits b before two.right h.small)
 
 -- As it is: answers name this set, since the check leaves their goals open by `using` alone.
-pub ruleset carrying = (rules, carry-none, carry-more, carry-whole, carry-fits, product_fits)
+pub ruleset carrying = (rules, carry-none, carry-more, carry-whole, carry-fits, read-fits, product_fits)
 
--- ---- what one factor does to a polynomial with room above it
-module _ (p b : ℕ) where
-  carried_zeros : (m : ℕ) → carried p b 0 (replicate m 0) ≡ replicate m 0
+-- ---- what one factor does to a polynomial that is cut, or has room above it
+pub padded-nil : (n : ℕ) → padded n [] ≡ replicate n 0
+unfolding padded
+padded-nil n = let e : n - 0 ≡ n = omega arith in rw e
+
+pub padded-cons : (n x : ℕ) (f : List ℕ) → padded (suc n) (x ∷ f) ≡ x ∷ padded n f
+unfolding padded
+padded-cons n x f = let e : suc n - suc (length f) ≡ n - length f = omega arith in rw e
+
+module _ (p a b : ℕ) where
+  carried_zeros : (m : ℕ) → carried p a b 0 (replicate m 0) ≡ replicate m 0
   unfolding carried
   carried_zeros zero = refl
-  carried_zeros (suc m) = ap₂ ◌∷◌ (solve p (search (quote, # b)) (omega arith)) (carried_zeros m)
+  carried_zeros (suc m) = ap₂ ◌∷◌ (solve p (search (quote, # a, # b)) (omega arith)) (carried_zeros m)
 
-  carried_sum : (c : ℕ) (f : List ℕ) (m : ℕ) → carried p b c (f ++ replicate (suc m) 0) ≡ sum_of p (scale p 1 f) (mul p b c ∷ scale p b f) ++ replicate m 0
+  carried_sum : (k c : ℕ) (f : List ℕ) → carried p a b c (padded k (take k f)) ≡ padded k (take k (sum_of p (scale p a f) (mul p b c ∷ scale p b f)))
   unfolding carried sum_of scale
-  carried_sum c [] m = ap₂ ◌∷◌ (solve p (search (quote, # b, # c)) (omega arith)) (carried_zeros m)
-  carried_sum c (a ∷ f) m = ap₂ ◌∷◌ (solve p (search (quote, # a, # b, # c)) (omega arith)) (carried_sum a f m)
+  carried_sum zero c f = rw (padded-nil 0)
+  carried_sum (suc k) c [] = rw (padded-nil (suc k), take-nil k, padded-cons k (mul p b c) [], padded-nil k) (ap₂ ◌∷◌ (solve p (search (quote, # a, # b, # c)) (omega arith)) (carried_zeros k))
+  carried_sum (suc k) c (x ∷ f) =
+      rw (padded-cons k x (take k f), padded-cons k (add p (mul p a x) (mul p b c)) (take k (sum_of p (scale p a f) (mul p b x ∷ scale p b f))))
+      (ap (λ (l : List ℕ). add p (mul p a x) (mul p b c) ∷ l) (carried_sum k x f))
 
-  pub carried-linear : (f : List ℕ) (n : ℕ) → length f < n → carried p b 0 (padded n f) ≡ padded n (linear p 1 b f)
-  unfolding padded linear
-  carried-linear f n l =
-      let here : n - length f ≡ suc (n - suc (length f)) = omega arith in
+  pub carried-cut : (f : List ℕ) (k : ℕ) → carried p a b 0 (padded k (take k f)) ≡ padded k (take k (linear p a b f))
+  unfolding linear
+  carried-cut f k =
       let none : mul p b 0 ≡ 0 = solve p (search (quote, # b)) (omega arith) in
-      rw (here, length-linear p 1 b f) (carried_sum 0 f (n - suc (length f)) ∙ rw none)
+      carried_sum k 0 f ∙ rw none
+
+  pub carried-linear : (f : List ℕ) (n : ℕ) → length f < n → carried p a b 0 (padded n f) ≡ padded n (linear p a b f)
+  carried-linear f n l =
+      ap (λ (g : List ℕ). carried p a b 0 (padded n g)) (sym (take_all n f (omega arith))) ∙ carried-cut f n
+      ∙ ap (padded n) (take_all n (linear p a b f) (omega (arith, length-linear p a b f)))
 
 -- ---- all factors: the members from i on have theirs
 pub record Grown (p : ℕ) (ms d₀ d : List ℕ) (i : ℕ) : Type 0 where
@@ -122,7 +152,7 @@ module _ (p : ℕ) (ms d₀ : List ℕ) where
       rw z (record { within = omega arith; room = omega arith; long = refl; is = rw (drop-length ms) (one ∙ ap (λ (n : ℕ). padded n (1 ∷ [])) (sym same)) })
 
   module _ (d : List ℕ) (k : ℕ) (h : Grown p ms d₀ d (length ms - k)) where
-    pub grow-more : (c v b j : ℕ) (e : List ℕ) → Next ms k c → Is p (inv p c) v → Is p (sub p 0 v) b → e ≡ carried p b 0 d → length e ≡ length d → j ≡ k + 1 → Grown p ms d₀ e (length ms - j)
+    pub grow-more : (c v b j : ℕ) (e : List ℕ) → Next ms k c → Is p (inv p c) v → Is p (sub p 0 v) b → e ≡ carried p 1 b 0 d → length e ≡ length d → j ≡ k + 1 → Grown p ms d₀ e (length ms - j)
     unfolding delta
     grow-more c v b j e n ev eb to same next =
         let at : length ms - k ≡ suc (length ms - 1 - k) = omega (arith, n.within) in
@@ -133,7 +163,7 @@ module _ (p : ℕ) (ms d₀ : List ℕ) where
           room = h.room;
           long = same ∙ h.long;
           is =
-              to ∙ ap (carried p b 0) h.is ∙ carried-linear p b (delta p (drop (length ms - k) ms)) (length d₀) fits
+              to ∙ ap (carried p 1 b 0) h.is ∙ carried-linear p 1 b (delta p (drop (length ms - k) ms)) (length d₀) fits
               ∙ rw (drop-cons ms (length ms - 1 - k) 0 (omega (arith, n.within)), ← n.is, ← ev.eq, ← eb.eq) (ap (λ (m : ℕ). padded (length d₀) (linear p 1 b (delta p (drop m ms)))) at);
         })
 

@@ -3,6 +3,7 @@
 
 ghost use Rattle.std.specs.Prelude.{◌≡◌, true, [], ◌∷◌, ◌+◌, ◌*◌, ◌<◌, ◌≤◌, length};
 ghost use Rattle.numbers.specs.Bytes.{all_below};
+ghost use Rattle.field.specs.Field.{Below2};
 ghost use Rattle.sharing_laws.specs.Poly.{carried, padded};
 ghost use Rattle.sharing_laws.specs.Interp.{delta};
 
@@ -10,7 +11,7 @@ use field::Field;
 
 // The polynomial 1.
 #[tactic(auto, using(crate::proofs::Factors::clearing))]
-fn one(out: &mut [u64])
+pub fn one(out: &mut [u64])
     requires { 0 < length out.old }
     ensures { out.new ≡ padded (length out.old) (1 ∷ []) }
 {
@@ -18,18 +19,18 @@ fn one(out: &mut [u64])
     out[0] = 1;
 }
 
-// Multiplies a polynomial by 1 + b·X, in place: the coefficients that there is room for.
+// Multiplies a polynomial by a + b·X, in place: the coefficients that there is room for.
 #[tactic(auto, using(crate::proofs::Factors::carrying))]
-fn times(f: Field, b: u64, out: &mut [u64])
-    requires b_lt_p { b < f.p }
+pub fn times(f: Field, a: u64, b: u64, out: &mut [u64])
+    requires below2 { Below2 f.p a b }
     requires out_value { all_below f.p out.old ≡ true }
-    ensures { out.new ≡ carried f.p b 0 out.old }
+    ensures { out.new ≡ carried f.p a b 0 out.old }
 {
     let mut before: u64 = 0;
     for coefficient in out.iter_mut() {
-        let a = *coefficient;
-        *coefficient = (a + b * before) % f.p;
-        before = a;
+        let x = *coefficient;
+        *coefficient = (a * x + b * before) % f.p;
+        before = x;
     }
 }
 
@@ -42,6 +43,6 @@ pub fn vanishing(f: Field, members: &[u64], out: &mut [u64])
 {
     one(out);
     for member in members.iter().rev() {
-        times(f, f.neg(f.inverse(*member)), out);
+        times(f, 1, f.neg(f.inverse(*member)), out);
     }
 }

@@ -1,24 +1,27 @@
 -- The matrix takes the values of a polynomial to those of its coefficients 0 to t.
 --     eval-basis, length-basis     the basis polynomial of a point
 --     eval-fitted, fitted-values   the polynomial with given values
+--     fitted-long, fitted-whole    it has as many coefficients as there are points
 --     truncation                   the matrix
 -- Assumes nothing.
 use mathlib.Core.Path.{◌≡◌, refl, sym, ap, ap₂, ◌∙◌, fun_ext}
 use mathlib.Core.Bool.{Bool, true, false, cond}
-use mathlib.Core.List.{List, [], ◌∷◌, map, map-map, Memᴰ}
-use Prim.Native.Nat.{ℕ, zero, suc, ◌≤◌, ◌<◌}
+use mathlib.Core.Logic.{◌≢◌}
+use mathlib.Core.List.{List, [], ◌∷◌, append-nil, map, map-map, Memᴰ}
+use Prim.Native.Nat.{ℕ, zero, suc, ◌-◌, ◌%◌, ◌≤◌, ◌<◌}
 use native.Mathlib.Omega.{arith}
-use borrow.Author.Tests.{eq-eqb}
+use borrow.Author.Tests.{eq-eqb, ne_eqb}
 use lib.Dec.{eqb}
 use lib.ListN.{length, take}
+use lib.Seq.{take_all}
 use Rattle.field.specs.Mod.{add, mul, sub}
 use Rattle.field.specs.Prime.{Prime, inv}
 use Rattle.field.proofs.Solve.{#, quote, solve}
 use Rattle.field.proofs.Inverse.{pos, one-canon}
-use Rattle.sharing_laws.specs.Poly.{eval, sum_of, scale, linear}
-use Rattle.sharing_laws.specs.Interp.{Distinct, factor, weight, weights, dot, interpolate}
+use Rattle.sharing_laws.specs.Poly.{eval, sum_of, scale, linear, padded}
+use Rattle.sharing_laws.specs.Interp.{All, Distinct, factor, weight, weights, dot, interpolate}
 use Rattle.sharing_laws.specs.Sharing.{mixture}
-use Rattle.sharing_laws.proofs.Polys.{eval_canon, eval-linear, length-linear}
+use Rattle.sharing_laws.proofs.Polys.{eval_canon, eval-linear, length-linear, length_sum, length-scale}
 use Rattle.sharing_laws.proofs.Shares.{eval-mixture, Every, length-mixture}
 use Rattle.sharing_laws.proofs.Interpolation.{interpolation}
 use Rattle.sharing_laws.specs.Basis.{basis, fitted, entry, row}
@@ -82,6 +85,48 @@ module _ {p : ℕ} (prime : Prime p) where
   pub length-fitted : (xs vs : List ℕ) → length (fitted p xs vs) ≤ length xs
   unfolding fitted
   length-fitted xs vs = length-mixture p (length xs) vs (map (basis p xs) xs) (bases-short xs xs (λ x m. m))
+
+  -- at distinct points it has as many coefficients as there are points
+  length-out : (ys : List ℕ) (x : ℕ) → All (λ y. y % p ≢ x % p) ys → length (basis p ys x) ≡ suc (length ys)
+  unfolding basis
+  length-out [] x a = refl
+  length-out (y ∷ ys) x a =
+      let b : ℕ = inv p (sub p x y) in
+      rw (ne_eqb x y (λ e. a.0 (ap (λ (z : ℕ). z % p) (sym e))))
+      (length-linear p (mul p (sub p 0 y) b) b (basis p ys x) ∙ ap suc (length-out ys x a.1))
+
+  length-in : (ys : List ℕ) (x : ℕ) → Distinct p ys → Memᴰ x ys → length (basis p ys x) ≡ length ys
+  unfolding basis
+  length-in [] x d m = elim m [ ]
+  length-in (y ∷ ys) x d (Memᴰ.head e) = rw (eq-eqb x y e) (length-out ys x (rw e d.0))
+  length-in (y ∷ ys) x d (Memᴰ.tail m) =
+      let b : ℕ = inv p (sub p x y) in
+      rw (ne_eqb x y (λ e. apart_in ys d.0 m (ap (λ (z : ℕ). z % p) e)))
+      (length-linear p (mul p (sub p 0 y) b) b (basis p ys x) ∙ ap suc (length-in ys x d.1 m))
+    where
+      apart_in : (zs : List ℕ) → All (λ z. z % p ≢ y % p) zs → Memᴰ x zs → x % p ≢ y % p
+      apart_in [] a n = elim n [ ]
+      apart_in (z ∷ zs) a (Memᴰ.head e) = rw e a.0
+      apart_in (z ∷ zs) a (Memᴰ.tail n) = apart_in zs a.1 n
+
+  pub fitted-long : (xs vs : List ℕ) → Distinct p xs → length vs ≡ length xs → length (fitted p xs vs) ≡ length xs
+  unfolding fitted mixture
+  fitted-long [] [] d e = refl
+  fitted-long [] (v ∷ vs) d e = absurd (omega arith)
+  fitted-long (x ∷ xs) [] d e = absurd (omega arith)
+  fitted-long (x ∷ xs) (v ∷ vs) d e =
+      let f : List ℕ = basis p (x ∷ xs) x in
+      let rest : List ℕ = mixture p vs (map (basis p (x ∷ xs)) xs) in
+      let long : length f ≡ length (x ∷ xs) = length-in (x ∷ xs) x d (Memᴰ.head refl) in
+      omega (arith, long, length_sum p (scale p v f) rest, length-scale p v f, length-fitted (x ∷ xs) (v ∷ vs))
+
+  -- so they are all its first ones
+  pub fitted-whole : (xs vs : List ℕ) → Distinct p xs → length vs ≡ length xs → padded (length xs) (take (length xs) (fitted p xs vs)) ≡ fitted p xs vs
+  unfolding padded
+  fitted-whole xs vs d e =
+      let long : length (fitted p xs vs) ≡ length xs = fitted-long xs vs d e in
+      let none : length xs - length xs ≡ 0 = omega arith in
+      rw (take_all (length xs) (fitted p xs vs) (omega (arith, long)), long, none) (append-nil (fitted p xs vs))
 
   dot-turn : (ws vs : List ℕ) → dot p ws vs ≡ dot p vs ws
   unfolding dot

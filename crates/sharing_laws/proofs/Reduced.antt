@@ -2,7 +2,8 @@
 --     dealing_shared       a dealing with at most t coins
 --     masked-shared        the masked shares, at degree 2t
 --     sent-shared          what a party is sent
---     reduced-cut          the new share is the value of the cut polynomial
+--     reduced-weighed      the new share is the masked shares, weighed by the matrix
+--     reduced-cut          and the value of the cut polynomial
 --     reduced-shared       the new wire
 -- Assumes nothing.
 use mathlib.Core.Path.{◌≡◌, refl, sym, ap, ap₂, ◌∙◌, fun_ext}
@@ -96,14 +97,20 @@ module _ {p : ℕ} (prime : Prime p) (t : ℕ) (xs is : List ℕ) (at : ℕ → 
             (map-map (λ f. eval p f 0) (λ i. (sp i).poly) is ∙ ap (λ (h : ℕ → ℕ). map h is) (fun_ext (λ i. (sp i).secret)));
       }
 
+  -- each party deals its own s: the new share is these, weighed
+  pub reduced-weighed :
+      t + 1 ≤ length xs → (piece : ℕ → ℕ → ℕ) (s : ℕ → ℕ) → ((i : ℕ) → Shared p t (piece i) (s i))
+      → (x : ℕ) → reduced_at p t xs is piece x ≡ dot p (row p t xs x) (map s is)
+  unfolding reduced_at
+  reduced-weighed less piece s sp x =
+      shared-opened prime t xs distinct less (sent_at p t xs is piece x) (dot p (row p t xs x) (map s is)) (sent-shared piece s sp x)
+
   -- each party deals its share of a wire of degree k below n: the new wire's shares are those of the polynomial cut to degree t
   module _ (k : ℕ) (few : k < length xs) (less : t + 1 ≤ length xs) (q : ℕ → ℕ) (v : ℕ) (sq : Shared p k q v) (piece : ℕ → ℕ → ℕ)
       (sp : (i : ℕ) → Shared p t (piece i) (q (at i))) where
     pub reduced-cut : (x : ℕ) → reduced_at p t xs is piece x ≡ eval p (take (suc t) sq.poly) x
-    unfolding reduced_at
     reduced-cut x =
-        shared-opened prime t xs distinct less (sent_at p t xs is piece x) (dot p (row p t xs x) (map (λ i. q (at i)) is))
-        (sent-shared piece (λ i. q (at i)) sp x)
+        reduced-weighed less piece (λ i. q (at i)) sp x
         ∙ ap (dot p (row p t xs x))
         (sym (map-map q at is) ∙ ap (map q) (sym are) ∙ ap (λ (h : ℕ → ℕ). map h xs) (fun_ext sq.value))
         ∙ truncation prime t xs sq.poly distinct (omega (arith, sq.small)) x

@@ -1,33 +1,36 @@
 -- The whole step of the reduction of 1988, from its coins: right, private, and its matching undone by itself with the runs exchanged.
 --     step_right      the new wire stands for the product
+--     step_parts      its share is the parties' products weighed by the matrix, and the dealings of 0 cut to t coins: no masked share's coin is in it
 --     step-private    the members' pieces and what is sent to them stay, and the new wire changes by the change of its value times delta
 --     kept-zero, kept-mask                                       a member's coins stay
 --     zeros-length, zeros-canon, masks-length, masks-canon       the new coins are as many, and elements
 --     zeros-undone, masks-undone, step_undone                    with the runs exchanged, the matching gives the first coins
 -- Assumes nothing.
-use mathlib.Core.Path.{◌≡◌, refl, ap, ◌∙◌, fun_ext}
+use mathlib.Core.Path.{◌≡◌, refl, sym, ap, ◌∙◌, fun_ext}
 use mathlib.Core.Logic.{◌≢◌}
 use mathlib.Core.Bool.{Bool, true, false, cond}
-use mathlib.Core.List.{List, ◌∷◌, map, Memᴰ}
-use Prim.Native.Nat.{ℕ, ◌+◌, ◌≤◌, ◌<◌}
+use mathlib.Core.List.{List, ◌∷◌, map, map-map, Memᴰ}
+use Prim.Native.Nat.{ℕ, suc, ◌+◌, ◌≤◌, ◌<◌}
 use native.Mathlib.Omega.{arith}
 use borrow.Author.Tests.{eqb-true, eq-eqb}
 use lib.Dec.{eqb}
-use lib.ListN.{length}
+use lib.ListN.{length, take}
 use Rattle.field.specs.Mod.{add, mul, sub}
 use Rattle.field.specs.Prime.{Prime}
 use Rattle.field.proofs.Solve.{Canon, zero_canon, add_canon, #, quote, solve}
 use Rattle.field.proofs.Inverse.{pos}
 use Rattle.sharing_laws.specs.Poly.{eval}
-use Rattle.sharing_laws.specs.Interp.{All, Distinct, delta}
+use Rattle.sharing_laws.specs.Interp.{All, Distinct, dot, delta}
 use Rattle.sharing_laws.specs.Sharing.{matched}
 use Rattle.sharing_laws.proofs.Polys.{eval_canon}
 use Rattle.sharing_laws.proofs.Shares.{matched-all, length-matched, matched-canon, matched-back}
-use Rattle.sharing_laws.specs.Basis.{matched_zero}
+use Rattle.sharing_laws.specs.Basis.{row, matched_zero}
+use Rattle.sharing_laws.proofs.Bases.{truncation}
 use Rattle.sharing_laws.proofs.Zeros.{length-zero, zero-canon-all, zero-back, matched-none}
 use Rattle.sharing_laws.proofs.Openings.{Shared}
-use Rattle.sharing_laws.proofs.Steps.{masked_at, sent_at, masked_by, piece_by, reduced_by, change_of, new_zeros, new_masks, Differ}
-use Rattle.sharing_laws.proofs.Reduced.{dealing_shared, reduced-shared}
+use Rattle.sharing_laws.proofs.Sums.{dot_both, total, eval-total, take_total, length-total}
+use Rattle.sharing_laws.proofs.Steps.{sum_over, masked_at, sent_at, masked_by, piece_by, reduced_by, change_of, new_zeros, new_masks, Differ}
+use Rattle.sharing_laws.proofs.Reduced.{dealing_shared, reduced-weighed, reduced-shared}
 use Rattle.sharing_laws.proofs.ReducedPrivate.{change-turned, length-change, zero-moves, zero_same, masked-differ, sent_same, reduced-differ}
 
 -- the coins of one party
@@ -56,6 +59,33 @@ module _ {p : ℕ} (prime : Prime p) (t : ℕ) (xs is : List ℕ) (at : ℕ → 
       reduced-shared prime t xs is at are distinct a b u v sa sb majority (λ i. eval p (0 ∷ zs i))
       (λ i. dealing_shared p (t + t) 0 (zs i) zero_canon (lz i)) (piece_by p is at a b zs ks)
       (λ i. dealing_shared p t (masked_by p is a b zs (at i)) (ks i) (masked_canon a b zs (at i)) (lk i))
+
+  -- the dealings of 0, as one polynomial, and cut
+  zeros : (ℕ → List ℕ) → List ℕ
+  zeros zs = total p is (λ i. 0 ∷ zs i)
+
+  zeros_cut : (zs : ℕ → List ℕ) (x : ℕ) → eval p (take (suc t) (zeros zs)) x ≡ sum_over p is (λ i. eval p (0 ∷ take t (zs i)) x)
+  unfolding zeros
+  zeros_cut zs x = ap (λ (f : List ℕ). eval p f x) (take_total p (suc t) is (λ i. 0 ∷ zs i)) ∙ eval-total p is (λ i. 0 ∷ take t (zs i)) x
+
+  zeros_short : (zs : ℕ → List ℕ) → ((i : ℕ) → length (zs i) ≤ t + t) → length (zeros zs) ≤ length xs
+  unfolding zeros
+  zeros_short zs lz = omega (arith, length-total p (suc (t + t)) is (λ i. 0 ∷ zs i) (λ i. omega (arith, lz i)))
+
+  pub step_parts :
+      (a b : ℕ → ℕ) (zs ks : ℕ → List ℕ) → ((i : ℕ) → length (zs i) ≤ t + t) → ((i : ℕ) → length (ks i) ≤ t) → (x : ℕ)
+      → reduced_by p t xs is at a b zs ks x
+      ≡ add p (dot p (row p t xs x) (map (λ y. mul p (a y) (b y)) xs)) (sum_over p is (λ i. eval p (0 ∷ take t (zs i)) x))
+  unfolding reduced_by piece_by masked_by masked_at zeros
+  step_parts a b zs ks lz lk x =
+      let masked : ℕ → ℕ = masked_by p is a b zs in
+      let product : ℕ → ℕ = λ y. mul p (a y) (b y) in
+      reduced-weighed prime t xs is at are distinct (omega arith) (piece_by p is at a b zs ks) (λ i. masked (at i))
+      (λ i. dealing_shared p t (masked (at i)) (ks i) (masked_canon a b zs (at i)) (lk i)) x
+      ∙ ap (dot p (row p t xs x)) (sym (map-map masked at is) ∙ ap (map masked) (sym are))
+      ∙ ap (λ (h : ℕ → ℕ). dot p (row p t xs x) (map h xs)) (fun_ext (λ y. ap (add p (product y)) (sym (eval-total p is (λ i. 0 ∷ zs i) y))))
+      ∙ dot_both p product (eval p (zeros zs)) (row p t xs x) xs
+      ∙ ap (add p (dot p (row p t xs x) (map product xs))) (truncation prime t xs (zeros zs) distinct (zeros_short zs lz) x ∙ zeros_cut zs x)
 
   -- ---- two runs
   module _ (cs : List ℕ) (few : length cs ≤ t) (l : ℕ) (party : Memᴰ l is) (a b a' b' : ℕ → ℕ) (u v u' v' : ℕ)

@@ -23,18 +23,18 @@ use Rattle.sharing_laws.proofs.Shares.{matched-all, length-matched, matched-cano
 use Rattle.sharing_laws.specs.Basis.{basis, fitted, matched_zero}
 
 -- ---- sums of polynomials, by their coefficients
-sum-none : (p : ℕ) (f : List ℕ) → sum_of p f [] ≡ f
+pub sum-none : (p : ℕ) (f : List ℕ) → sum_of p f [] ≡ f
 unfolding sum_of
 sum-none p [] = refl
 sum-none p (a ∷ f) = refl
 
-sum_turn : (p : ℕ) (f g : List ℕ) → sum_of p f g ≡ sum_of p g f
+pub sum_turn : (p : ℕ) (f g : List ℕ) → sum_of p f g ≡ sum_of p g f
 unfolding sum_of
 sum_turn p [] g = sym (sum-none p g)
 sum_turn p (a ∷ f) [] = refl
 sum_turn p (a ∷ f) (b ∷ g) = ap₂ ◌∷◌ (solve p (search (quote, # a, # b)) (omega arith)) (sum_turn p f g)
 
-sum_swap : (p : ℕ) (f g h : List ℕ) → sum_of p (sum_of p f g) h ≡ sum_of p (sum_of p f h) g
+pub sum_swap : (p : ℕ) (f g h : List ℕ) → sum_of p (sum_of p f g) h ≡ sum_of p (sum_of p f h) g
 unfolding sum_of
 sum_swap p [] g h = sum_turn p g h
 sum_swap p (a ∷ f) [] h = sym (sum-none p (sum_of p (a ∷ f) h))
@@ -52,7 +52,7 @@ unfolding scale
 scale_canons p c [] = tt
 scale_canons p c (a ∷ f) = (mul_canon c a, scale_canons p c f)
 
-mixture_canons : (p : ℕ) (ws : List ℕ) (fs : List (List ℕ)) → All (Canon p) (mixture p ws fs)
+pub mixture_canons : (p : ℕ) (ws : List ℕ) (fs : List (List ℕ)) → All (Canon p) (mixture p ws fs)
 unfolding mixture
 mixture_canons p [] fs = tt
 mixture_canons p (w ∷ ws) [] = tt

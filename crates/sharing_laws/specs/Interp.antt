@@ -18,9 +18,8 @@ weights p z xs = map (weight p z xs) xs
 
 -- the sum of the products
 unfoldable pub dot : ℕ → List ℕ → List ℕ → ℕ
-dot p [] vs = 0
-dot p (w ∷ ws) [] = 0
 dot p (w ∷ ws) (v ∷ vs) = add p (mul p w v) (dot p ws vs)
+dot p _ _ = 0
 
 -- the value at z of the polynomial that has the values vs at the points xs
 unfoldable pub interpolate : ℕ → ℕ → List ℕ → List ℕ → ℕ

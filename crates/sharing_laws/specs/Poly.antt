@@ -24,10 +24,10 @@ unfoldable pub linear : ℕ → ℕ → ℕ → List ℕ → List ℕ
 linear p a b f = sum_of p (scale p a f) (0 ∷ scale p b f)
 
 -- ---- for the code alone: no other definition and no demand cites these
--- the first coefficients of c·b + (1 + b·X)·f, as many as f has: each takes b times the one before it, and the first takes b·c
-unfoldable pub carried : ℕ → ℕ → ℕ → List ℕ → List ℕ
-carried p b c [] = []
-carried p b c (a ∷ f) = add p a (mul p b c) ∷ carried p b a f
+-- the first coefficients of b·c + (a + b·X)·f, as many as f has: a times each, and b times the one before it, where c is before the first
+unfoldable pub carried : ℕ → ℕ → ℕ → ℕ → List ℕ → List ℕ
+carried p a b c [] = []
+carried p a b c (x ∷ f) = add p (mul p a x) (mul p b c) ∷ carried p a b x f
 
 -- f with zeros above it, n coefficients in all
 unfoldable pub padded : ℕ → List ℕ → List ℕ

@@ -20,9 +20,8 @@ first_off p t points shares =
 
 -- the weighted sum of polynomials
 unfoldable pub mixture : ℕ → List ℕ → List (List ℕ) → List ℕ
-mixture p [] fs = []
-mixture p (w ∷ ws) [] = []
 mixture p (w ∷ ws) (f ∷ fs) = sum_of p (scale p w f) (mixture p ws fs)
+mixture p _ _ = []
 
 -- the coins of the matched dealing, whose dealt value is d more: d times delta's coefficient of X^j, added to coin j
 unfoldable pub matched : ℕ → List ℕ → ℕ → List ℕ → List ℕ

@@ -1,6 +1,6 @@
 // Runs the code of sharing over primes, counts of parties and thresholds, and compares with sums made another way: polynomials are
 // evaluated by powers, an opening is to give the first coefficient, a damaged share is to be found, a vanishing polynomial is to be 1
-// at 0, 0 at its members and nowhere else of the points. Prints how many comparisons of each kind agreed, and how many were made.
+// at 0, 0 at its members and nowhere else of the points, and the matrix is to cut a polynomial. Prints how many comparisons of each kind agreed, and how many were made.
 #![tactic(auto, using(crate::proofs::Laws::testing))]
 
 ghost use Rattle.std.specs.Prelude.{◌≡◌, ◌<◌, ◌≤◌, true};
@@ -8,6 +8,7 @@ ghost use Rattle.sharing_openings.specs.Openable.{Openable};
 ghost use Rattle.numbers.specs.Bytes.{all_below};
 
 use field::Field;
+use sharing_matrix::Matrix;
 
 const PRIMES: [u32; 10] = [17, 19, 31, 101, 257, 4099, 32749, 65521, 65537, 2147483647];
 
@@ -40,6 +41,7 @@ struct Counts {
     checks: Count,
     interpolations: Count,
     vanishings: Count,
+    truncations: Count,
 }
 
 // Whether every number is below p.
@@ -207,6 +209,35 @@ fn vanishings(f: Field, m: usize, points: &[u64], room: &mut [u64], count: &mut 
     }
 }
 
+// What the matrix makes of the shares, with its rows and without them, compared with the values of the first t + 1 coefficients by powers.
+fn truncations(
+    f: Field,
+    t: usize,
+    polynomial: &[u64],
+    points: &[u64],
+    shares: &[u64],
+    room: &mut [u64],
+    count: &mut Count,
+) {
+    let n = points.len();
+    if t < polynomial.len()
+        && n <= 15
+        && t <= 14
+        && all_below(f.p, points)
+        && all_below(f.p, shares)
+        && shares.len() == n
+        && room.len() == n
+    {
+        let mut rows = [0u64; 225];
+        sharing_matrix::apply(f, t, points, shares, room);
+        values(f, &polynomial[..t + 1], points, room, count);
+        Matrix::new(f, t, points, &mut rows[..n * n]).shares(shares, room);
+        values(f, &polynomial[..t + 1], points, room, count);
+    } else {
+        count.note(false);
+    }
+}
+
 // All comparisons of one dealing, at points and with coefficients that are written here.
 fn scenario(
     f: Field,
@@ -236,6 +267,29 @@ fn scenario(
     vanishings(f, t, points, wide, &mut counts.vanishings);
 }
 
+// The comparisons of a dealing by a polynomial with as many coefficients as there are points.
+fn full(
+    f: Field,
+    t: usize,
+    points: &[u64],
+    polynomial: &mut [u64],
+    shares: &mut [u64],
+    room: &mut [u64],
+    counts: &mut Counts,
+) {
+    chance(f.p, 3, polynomial);
+    dealings(f, polynomial, points, shares, &mut counts.values);
+    truncations(
+        f,
+        t,
+        polynomial,
+        points,
+        shares,
+        room,
+        &mut counts.truncations,
+    );
+}
+
 // n parties with threshold t.
 fn parties(f: Field, n: usize, t: usize, counts: &mut Counts)
     requires t_lt_n { (t < n) × (n ≤ 15) }
@@ -253,6 +307,15 @@ fn parties(f: Field, n: usize, t: usize, counts: &mut Counts)
         &mut shares[..n],
         &mut room[..n],
         &mut wide,
+        counts,
+    );
+    full(
+        f,
+        t,
+        &points[..n],
+        &mut wide[..n],
+        &mut shares[..n],
+        &mut room[..n],
         counts,
     );
 }
@@ -273,4 +336,5 @@ fn main() {
     counts.checks.tell(b"checks ");
     counts.interpolations.tell(b"interpolations ");
     counts.vanishings.tell(b"vanishings ");
+    counts.truncations.tell(b"truncations ");
 }

@@ -13,8 +13,9 @@ fn places(plan: &Plan, members: &[u16]) -> (Vec<usize>, Vec<usize>) {
     (0..seats.len()).partition(|&place| members.contains(&seats[place]))
 }
 
-/// How many settings so many coins of the others have: 30 unless they are few.
+/// How many settings so many coins of the others have: 30 unless they are few and no wire is random.
 fn settings(plan: &Plan, coins: usize) -> Result<usize, Refusal> {
+    require(plan.draws() == 0, 30, 0)?;
     let mut settings = 1;
     for _ in 0..coins {
         settings *= u64::from(plan.field.p());
@@ -36,7 +37,7 @@ pub fn count(file: &[u8], set: u16, figures: &[u8], coins: &[u8], rows: &mut [u8
     let p = plan.field.p();
     let members = plan.members(set)?;
     let (own, others) = places(&plan, &members);
-    let figures = List::new(figures, plan.inputs.len(), 10)?.below(p, 11)?.to_vec();
+    let figures = List::new(figures, plan.figures.len(), 10)?.below(p, 11)?.to_vec();
     let coins = List::new(coins, own.len(), 12)?.below(p, 13)?;
     let settings = settings(&plan, others.len())?;
     require(rows.len() == count_size(file, set)?, 19, 0)?;

@@ -64,7 +64,7 @@ fn run_size(plan: &[u8], set: u16, what: u16) -> Result<usize, Refusal> {
     let plan = Plan::read(plan)?;
     let Ok(view) = plan.view(set) else { return refuse(9) };
     Ok(4 * match what {
-        0 => plan.inputs.len(),
+        0 => plan.figures.len(),
         1 => plan.coins(),
         2 => view,
         _ => 0,

@@ -1,7 +1,7 @@
 //! The matching: coins under which a second list of figures gives a set the same view.
 
 use crate::plan::{require, write, Gate, List, Plan, Refusal};
-use crate::run::{ideal, work, Seats, Tables};
+use crate::run::{ideal, total, work, Seats, Tables};
 
 /// Writes all coins of the matched run.
 pub fn matching(
@@ -15,8 +15,8 @@ pub fn matching(
     let plan = Plan::read(file)?;
     let p = plan.field.p();
     let members = plan.members(set)?;
-    let first = List::new(first, plan.inputs.len(), 10)?;
-    let second = List::new(second, plan.inputs.len(), 10)?;
+    let first = List::new(first, plan.figures.len(), 10)?;
+    let second = List::new(second, plan.figures.len(), 10)?;
     let first = first.below(p, 11)?.to_vec();
     let second = second.below(p, 11)?.to_vec();
     let coins = List::new(coins, plan.coins(), 12)?.below(p, 13)?.to_vec();
@@ -50,12 +50,20 @@ fn matched_coins(plan: &Plan, members: &[u16], figures: [&[u32]; 2], mut coins: 
         }
         [before, tables.deal(plan, values[1], own)]
     };
-    let mut input = 0;
+    let mut next = 0;
+    let mut figure = || {
+        next += 1;
+        figures.map(|list| list[next - 1])
+    };
     for &gate in &plan.gates {
         let made = match gate {
-            Gate::Input(seat) => {
-                input += 1;
-                deal_both(seat, figures.map(|list| list[input - 1]))
+            Gate::Input(seat) => deal_both(seat, figure()),
+            Gate::Random => {
+                let mut grids = [[[0; 15]; 15]; 2];
+                for seat in 0..usize::from(plan.n) {
+                    [grids[0][seat], grids[1][seat]] = deal_both(seat as u16 + 1, figure());
+                }
+                grids.map(|grid| total(plan, &grid[..usize::from(plan.n)]))
             }
             Gate::Multiply(a, b) => {
                 let mut grids = [[[0; 15]; 15]; 2];

@@ -31,6 +31,25 @@ pub enum Gate {
     Scale(usize, u32),
     Offset(usize, u32),
     Multiply(usize, usize),
+    /// A sum of draws, one of each seat.
+    Random,
+}
+
+/// What a round between the inputs' and the outs' carries, with the gate that it is for.
+#[derive(Clone, Copy, Debug, PartialEq, Eq)]
+pub enum Round {
+    /// The pieces of a product, of each dealer.
+    Product(usize),
+    /// The pieces of a draw, of each seat.
+    Draw(usize),
+}
+
+impl Round {
+    pub fn gate(self) -> usize {
+        match self {
+            Round::Product(g) | Round::Draw(g) => g,
+        }
+    }
 }
 
 /// A wire whose value a seat is given.
@@ -53,8 +72,12 @@ pub struct Plan {
     pub outs: Vec<Out>,
     /// The input gates in gate order: wire and seat.
     pub inputs: Vec<(usize, u16)>,
-    /// The multiply gates in gate order: wire and its two factors.
-    pub multiplies: Vec<(usize, usize, usize)>,
+    /// The figures in list order, inputs and draws: wire and seat.
+    pub figures: Vec<(usize, u16)>,
+    /// The rounds 1 and on, up to the outs' round.
+    pub rounds: Vec<Round>,
+    /// How many gates multiply.
+    pub multiplies: usize,
 }
 
 /// The two-byte number at `i`, low byte first.
@@ -136,6 +159,7 @@ fn gate<const W: usize>(bytes: &[u8], g: usize, n: u16, p: u32) -> Option<Gate> 
         (3, 0) if wire_a < g && b < p => Some(Gate::Scale(wire_a, b)),
         (4, 0) if wire_a < g && b < p => Some(Gate::Offset(wire_a, b)),
         (5, 0) if wire_a < g && wire_b < g => Some(Gate::Multiply(wire_a, wire_b)),
+        (6, 0) if a == 0 && b == 0 => Some(Gate::Random),
         _ => None,
     }
 }
@@ -215,15 +239,23 @@ impl Plan {
             Ok(gate) => gates.push(gate),
             Err(out) => outs.push(out),
         })?;
-        let (mut inputs, mut multiplies) = (Vec::new(), Vec::new());
+        let (mut inputs, mut figures, mut rounds) = (Vec::new(), Vec::new(), Vec::new());
         for (wire, gate) in gates.iter().enumerate() {
             match *gate {
-                Gate::Input(seat) => inputs.push((wire, seat)),
-                Gate::Multiply(a, b) => multiplies.push((wire, a, b)),
+                Gate::Input(seat) => {
+                    inputs.push((wire, seat));
+                    figures.push((wire, seat));
+                }
+                Gate::Multiply(..) => rounds.push(Round::Product(wire)),
+                Gate::Random => {
+                    rounds.push(Round::Draw(wire));
+                    figures.extend((1..=n).map(|seat| (wire, seat)));
+                }
                 _ => {}
             }
         }
-        Ok(Plan { version: bytes[4], n, t, field, points, gates, outs, inputs, multiplies })
+        let multiplies = gates.iter().filter(|gate| matches!(gate, Gate::Multiply(..))).count();
+        Ok(Plan { version: bytes[4], n, t, field, points, gates, outs, inputs, figures, rounds, multiplies })
     }
 
     /// The plan's file with these outs instead of its own.
@@ -248,36 +280,64 @@ impl Plan {
 
     /// The number of seats that deal products: 2t+1, or none where nothing is multiplied.
     pub fn dealers(&self) -> u16 {
-        if self.multiplies.is_empty() {
+        if self.multiplies == 0 {
             0
         } else {
             2 * self.t as u16 + 1
         }
     }
 
-    /// M+2, the number of a seat's last call.
+    /// The number of a seat's last call: two more than there are rounds for gates.
     pub fn last_call(&self) -> usize {
-        self.multiplies.len() + 2
+        self.rounds.len() + 2
     }
 
-    /// Whether the seat deals products.
-    pub fn deals(&self, seat: u16) -> bool {
-        seat <= self.dealers()
+    /// Whether the seat sends in a gate's round.
+    pub fn sends(&self, seat: u16, round: Round) -> bool {
+        match round {
+            Round::Product(_) => seat <= self.dealers(),
+            Round::Draw(_) => true,
+        }
+    }
+
+    /// How many random wires there are.
+    pub fn draws(&self) -> usize {
+        self.gates.iter().filter(|&&gate| gate == Gate::Random).count()
+    }
+
+    /// How many coins the seat takes at a gate.
+    pub fn coins_at(&self, gate: usize, seat: u16) -> usize {
+        let deals = match self.gates[gate] {
+            Gate::Input(owner) => owner == seat,
+            Gate::Multiply(..) => seat <= self.dealers(),
+            Gate::Random => true,
+            _ => false,
+        };
+        if deals {
+            self.t
+        } else {
+            0
+        }
+    }
+
+    /// The count of the seat's own inputs.
+    pub fn inputs_of(&self, seat: u16) -> usize {
+        self.inputs.iter().filter(|input| input.1 == seat).count()
     }
 
     /// The count of the seat's own figures.
     pub fn figures_of(&self, seat: u16) -> usize {
-        self.inputs.iter().filter(|input| input.1 == seat).count()
+        self.figure_seats().filter(|&owner| owner == seat).count()
     }
 
     /// The count of the seat's own coins.
     pub fn coins_of(&self, seat: u16) -> usize {
-        self.t * (self.figures_of(seat) + if self.deals(seat) { self.multiplies.len() } else { 0 })
+        (0..self.gates.len()).map(|gate| self.coins_at(gate, seat)).sum()
     }
 
     /// The count of the whole setting of coins.
     pub fn coins(&self) -> usize {
-        self.t * (self.inputs.len() + self.multiplies.len() * usize::from(self.dealers()))
+        self.t * (self.figures.len() + self.multiplies * usize::from(self.dealers()))
     }
 
     /// The seat's own outs, in plan order.
@@ -287,11 +347,14 @@ impl Plan {
 
     /// How many elements the sender's call numbered `round` sends to the receiver.
     pub fn parcel(&self, sender: u16, receiver: u16, round: usize) -> usize {
-        match round {
-            0 => self.figures_of(sender),
-            k if k <= self.multiplies.len() => usize::from(self.deals(sender)),
-            k if k + 1 == self.last_call() => self.outs_of(receiver).count(),
-            _ => 0,
+        if round == 0 {
+            self.inputs_of(sender)
+        } else if let Some(&round) = self.rounds.get(round - 1) {
+            usize::from(self.sends(sender, round))
+        } else if round + 1 == self.last_call() {
+            self.outs_of(receiver).count()
+        } else {
+            0
         }
     }
 
@@ -312,10 +375,11 @@ impl Plan {
         }
     }
 
-    /// n·(inputs + M·(2t+1) + O).
+    /// n·(inputs + M·(2t+1) + R·n + O), with R the random wires.
     pub fn sent(&self) -> usize {
-        let products = self.multiplies.len() * usize::from(self.dealers());
-        usize::from(self.n) * (self.inputs.len() + products + self.outs.len())
+        let n = usize::from(self.n);
+        let products = self.multiplies * usize::from(self.dealers());
+        n * (self.inputs.len() + products + self.draws() * n + self.outs.len())
     }
 
     /// The seat, unless it isn't 1 to n.
@@ -332,10 +396,10 @@ impl Plan {
 
     /// The length of what the seat alone holds and receives.
     pub fn view_of(&self, seat: u16) -> usize {
-        let products = self.multiplies.len() * usize::from(self.dealers());
+        let n = usize::from(self.n);
+        let products = self.multiplies * usize::from(self.dealers());
         let held = self.figures_of(seat) + self.coins_of(seat);
-        let received = self.inputs.len() + products + (usize::from(self.n) + 1) * self.outs_of(seat).count();
-        held + received
+        held + self.inputs.len() + products + self.draws() * n + (n + 1) * self.outs_of(seat).count()
     }
 
     /// The length of the set's view.
@@ -345,20 +409,14 @@ impl Plan {
 
     /// The seat whose figure each entry is, in list order.
     pub fn figure_seats(&self) -> impl Iterator<Item = u16> + '_ {
-        self.inputs.iter().map(|input| input.1)
+        self.figures.iter().map(|figure| figure.1)
     }
 
     /// The seat whose coin each entry is, in list order.
     pub fn coin_seats(&self) -> Vec<u16> {
         let mut seats = Vec::with_capacity(self.coins());
-        for gate in &self.gates {
-            match *gate {
-                Gate::Input(seat) => seats.extend(std::iter::repeat_n(seat, self.t)),
-                Gate::Multiply(..) => {
-                    seats.extend((1..=self.dealers()).flat_map(|dealer| std::iter::repeat_n(dealer, self.t)));
-                }
-                _ => {}
-            }
+        for gate in 0..self.gates.len() {
+            seats.extend((1..=self.n).flat_map(|seat| std::iter::repeat_n(seat, self.coins_at(gate, seat))));
         }
         seats
     }
@@ -438,6 +496,7 @@ pub fn file(version: u8, (n, t, p): (u8, u8, u32), gates: &[Gate], outs: &[Out],
             Gate::Scale(a, c) => (3, a as u32, c),
             Gate::Offset(a, c) => (4, a as u32, c),
             Gate::Multiply(a, b) => (5, a as u32, b as u32),
+            Gate::Random => (6, 0, 0),
         };
         file.extend([kind, 0]);
         put(&mut file, &[a, b]);

@@ -27,7 +27,7 @@ fn lines(input: &[u8]) -> Result<String, Refusal> {
         return refuse(1);
     }
     let (file, set, rest) = (&input[2..end], number(input, end), &input[end + 2..]);
-    let width = if file.get(4) == Some(&3) { Layout::of(3).width } else { 2 };
+    let width = if matches!(file.get(4), Some(3 | 4)) { Layout::of(3).width } else { 2 };
     if rest.len() % width != 0 {
         return refuse(1);
     }
@@ -35,8 +35,8 @@ fn lines(input: &[u8]) -> Result<String, Refusal> {
     let plan = Plan::read(file)?;
     let p = plan.field.p();
     let members = plan.members(set)?;
-    let (figures, coins) = numbers.split_at(numbers.len().min(4 * plan.inputs.len()));
-    let figures = List::new(figures, plan.inputs.len(), 10)?.below(p, 11)?.to_vec();
+    let (figures, coins) = numbers.split_at(numbers.len().min(4 * plan.figures.len()));
+    let figures = List::new(figures, plan.figures.len(), 10)?.below(p, 11)?.to_vec();
     let coins = List::new(coins, plan.coins(), 12)?.below(p, 13)?.to_vec();
     let run = run_by_calls(file, &figures, &coins, |_| ())?;
 

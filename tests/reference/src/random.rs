@@ -282,3 +282,41 @@ pub fn set(random: &mut Random, n: u16, t: usize) -> u16 {
     }
     set
 }
+
+/// Random gates of which one at least is a random wire: those alone, or mixed with inputs and worked gates, often with multiplies.
+pub fn drawn_gates(random: &mut Random, n: u16, p: u32, gates: usize, multiplies: usize) -> Vec<Gate> {
+    let (alone, products) = (random.once_in(10), multiplies > 0 && random.once_in(2));
+    let mut list = self::gates(random, n, p, gates, multiplies);
+    let often = random.range(3, 8);
+    for gate in &mut list {
+        let input = matches!(gate, Gate::Input(_));
+        match *gate {
+            _ if alone || input && random.once_in(2) || random.once_in(often) => *gate = Gate::Random,
+            Gate::Add(a, b) if products => *gate = Gate::Multiply(a, b),
+            _ => {}
+        }
+    }
+    if !list.contains(&Gate::Random) {
+        list[0] = Gate::Random;
+    }
+    list
+}
+
+/// n, t, p and points of a plan of a version; t is often too large for multiply gates.
+fn any_size(random: &mut Random, version: u8) -> (u16, usize, u32, Vec<u32>) {
+    let (n, t, small) = if random.once_in(3) { wide_size(random) } else { size(random) };
+    let p = if version > 2 && !random.once_in(4) { large_prime(random) } else { small };
+    (n, t, p, points(random, n, p))
+}
+
+/// A random plan file of version 1, 2 or 3, of at most `most` gates, that passes and has a random wire.
+pub fn drawn_plan(random: &mut Random, most: usize) -> Vec<u8> {
+    let version = random.range(1, 3) as u8;
+    let (n, t, p, points) = any_size(random, version);
+    let count = random.range(1, most);
+    let multiplies = if 2 * t < usize::from(n) { count } else { 0 };
+    let gates = drawn_gates(random, n, p, count, multiplies);
+    let count = if random.once_in(12) { 64 } else { random.range(1, 6) };
+    let outs = outs(random, n, gates.len(), count);
+    file(version, (n as u8, t as u8, p), &gates, &outs, &points)
+}

@@ -20,7 +20,7 @@ pub fn record_size(file: &[u8]) -> Result<usize, Refusal> {
 /// Stores a run: the contents, then each seat's figures, coins, mail and results.
 pub fn record(file: &[u8], figures: &[u8], coins: &[u8], record: &mut [u8]) -> Result<(), Refusal> {
     let plan = Plan::read(file)?;
-    let figures = List::new(figures, plan.inputs.len(), 10)?.below(plan.field.p(), 11)?.to_vec();
+    let figures = List::new(figures, plan.figures.len(), 10)?.below(plan.field.p(), 11)?.to_vec();
     let coins = List::new(coins, plan.coins(), 12)?.below(plan.field.p(), 13)?.to_vec();
     require(record.len() == record_size(file)?, 19, 0)?;
     let seats: Vec<u16> = (1..=plan.n).collect();

@@ -6,10 +6,11 @@ use crate::seat::seat_call;
 /// The wires' values: the plan's own arithmetic, without shares.
 pub fn ideal(plan: &Plan, figures: &[u32]) -> Vec<u32> {
     let mut values: Vec<u32> = Vec::with_capacity(plan.gates.len());
-    let mut figures = figures.iter();
+    let (mut figures, n) = (figures.iter(), usize::from(plan.n));
     for gate in &plan.gates {
         values.push(match *gate {
             Gate::Input(_) => *figures.next().expect("one figure per input gate"),
+            Gate::Random => figures.by_ref().take(n).fold(0, |sum, &draw| plan.field.add(sum, draw)),
             Gate::Add(a, b) => plan.field.add(values[a], values[b]),
             Gate::Scale(a, c) => plan.field.mul(values[a], c),
             Gate::Offset(a, c) => plan.field.add(values[a], c),
@@ -159,11 +160,16 @@ pub fn work(plan: &Plan, gate: Gate, shares: &[Seats]) -> Seats {
         Gate::Add(a, b) => std::array::from_fn(|i| field.add(shares[a][i], shares[b][i])),
         Gate::Scale(a, c) => shares[a].map(|share| field.mul(share, c)),
         Gate::Offset(a, c) => shares[a].map(|share| field.add(share, c)),
-        Gate::Input(_) | Gate::Multiply(..) => unreachable!("dealt, not worked"),
+        Gate::Input(_) | Gate::Multiply(..) | Gate::Random => unreachable!("dealt, not worked"),
     }
 }
 
-/// The direct run: every wire's shares, and each multiply's grid handed to `seen`.
+/// The sum of what each seat received.
+pub fn total(plan: &Plan, grid: &[Seats]) -> Seats {
+    std::array::from_fn(|i| grid.iter().fold(0, |sum, row| plan.field.add(sum, row[i])))
+}
+
+/// The direct run: every wire's shares, and each round's grid, a row for each sender, handed to `seen`.
 pub fn shares(plan: &Plan, figures: &[u32], coins: &[u32], mut seen: impl FnMut(&[Seats])) -> Vec<Seats> {
     let tables = Tables::new(plan);
     let mut shares: Vec<Seats> = Vec::with_capacity(plan.gates.len());
@@ -174,16 +180,24 @@ pub fn shares(plan: &Plan, figures: &[u32], coins: &[u32], mut seen: impl FnMut(
         taken
     };
     let mut grid = [[0; 15]; 15];
-    let grid = &mut grid[..usize::from(plan.dealers())];
     for &gate in &plan.gates {
         shares.push(match gate {
             Gate::Input(_) => tables.deal(plan, *figures.next().expect("one figure per input gate"), take()),
             Gate::Multiply(a, b) => {
+                let grid = &mut grid[..usize::from(plan.dealers())];
                 for (dealer, row) in grid.iter_mut().enumerate() {
                     *row = tables.deal(plan, plan.field.mul(shares[a][dealer], shares[b][dealer]), take());
                 }
                 seen(grid);
                 tables.reduce(plan, grid)
+            }
+            Gate::Random => {
+                let grid = &mut grid[..usize::from(plan.n)];
+                for row in grid.iter_mut() {
+                    *row = tables.deal(plan, *figures.next().expect("a draw of each seat"), take());
+                }
+                seen(grid);
+                total(plan, grid)
             }
             _ => work(plan, gate, &shares),
         });
@@ -222,7 +236,7 @@ pub fn seen(plan: &Plan, seats: &[u16], figures: &[u32], coins: &[u32]) -> Vec<u
 pub fn bench(file: &[u8], set: u16, figures: &[u8], coins: &[u8], view: &mut [u8]) -> Result<usize, Refusal> {
     let plan = Plan::read(file)?;
     let members = plan.members(set)?;
-    let figures = List::new(figures, plan.inputs.len(), 10)?.below(plan.field.p(), 11)?.to_vec();
+    let figures = List::new(figures, plan.figures.len(), 10)?.below(plan.field.p(), 11)?.to_vec();
     let coins = List::new(coins, plan.coins(), 12)?.below(plan.field.p(), 13)?.to_vec();
     require(view.len() == 4 * plan.view(set)?, 19, 0)?;
     write(&seen(&plan, &members, &figures, &coins), view);

@@ -1,6 +1,6 @@
 //! One seat's call.
 
-use crate::plan::{long, refuse, require, write, Gate, List, Plan, Refusal};
+use crate::plan::{long, refuse, require, write, Gate, List, Plan, Refusal, Round};
 
 /// Makes the seat's next call: takes its figures, coins, state and mail, rewrites its state, and writes its outgoing
 /// elements or, in the last call, its results. A refused call writes nowhere.
@@ -30,14 +30,14 @@ pub fn seat_call(
 
     let mut shares = shares.to_vec();
     let written = if call == 0 {
-        deal_inputs(&plan, seat, &figures.to_vec(), &coins.to_vec())
+        deal_inputs(&plan, seat, figures, coins)
     } else if call == plan.last_call() {
         results(&plan, seat, &mail)?
     } else {
         learn(&plan, call, &mail, &mut shares);
         work(&plan, call, &mut shares);
-        match plan.multiplies.get(call - 1) {
-            Some(&(g, a, b)) => deal_product(&plan, seat, g, plan.field.mul(shares[a], shares[b]), coins),
+        match plan.rounds.get(call - 1) {
+            Some(&round) => send(&plan, seat, round, &shares, figures, coins),
             None => (1..=plan.n).flat_map(|receiver| plan.outs_of(receiver)).map(|out| shares[out.wire]).collect(),
         }
     };
@@ -53,51 +53,65 @@ fn piece(plan: &Plan, value: u32, coins: &[u32], receiver: u16) -> u32 {
     plan.field.add(value, coins.iter().rfold(0, |sum, &c| plan.field.mul(plan.field.add(sum, c), x)))
 }
 
-/// The gates at which the seat deals, in order: the i-th takes the i-th t of its coins.
-fn dealings(plan: &Plan, seat: u16) -> impl Iterator<Item = usize> + '_ {
-    plan.gates.iter().enumerate().filter_map(move |(g, gate)| match *gate {
-        Gate::Input(owner) if owner == seat => Some(g),
-        Gate::Multiply(..) if plan.deals(seat) => Some(g),
-        _ => None,
-    })
+/// The seat's own coins at a gate.
+fn own_coins(plan: &Plan, seat: u16, gate: usize, coins: List) -> Vec<u32> {
+    let before = (0..gate).map(|earlier| plan.coins_at(earlier, seat)).sum();
+    coins.iter().skip(before).take(plan.coins_at(gate, seat)).collect()
+}
+
+/// The seat's own figure at a gate.
+fn own_figure(plan: &Plan, seat: u16, gate: usize, figures: List) -> u32 {
+    let before = plan.figures.iter().filter(|figure| figure.1 == seat && figure.0 < gate).count();
+    figures.iter().nth(before).expect("a figure of the seat's own")
 }
 
 /// Call 0: the pieces of the seat's own inputs, by receiver, then by gate.
-fn deal_inputs(plan: &Plan, seat: u16, figures: &[u32], coins: &[u32]) -> Vec<u32> {
-    let inputs = dealings(plan, seat).enumerate().filter(|&(_, g)| matches!(plan.gates[g], Gate::Input(_)));
-    let dealt: Vec<_> = inputs.zip(figures).map(|((i, _), &figure)| (figure, &coins[i * plan.t..][..plan.t])).collect();
+fn deal_inputs(plan: &Plan, seat: u16, figures: List, coins: List) -> Vec<u32> {
+    let own = plan.inputs.iter().filter(|input| input.1 == seat);
+    let dealt: Vec<_> =
+        own.map(|&(gate, _)| (own_figure(plan, seat, gate, figures), own_coins(plan, seat, gate, coins))).collect();
     (1..=plan.n).flat_map(|receiver| dealt.iter().map(move |(s, coins)| piece(plan, *s, coins, receiver))).collect()
 }
 
-/// Calls 1 to M: the pieces of the product at gate `g`, if the seat deals.
-fn deal_product(plan: &Plan, seat: u16, g: usize, product: u32, coins: List) -> Vec<u32> {
-    let Some(i) = dealings(plan, seat).position(|dealt| dealt == g) else { return Vec::new() };
-    let coins: Vec<u32> = coins.iter().skip(i * plan.t).take(plan.t).collect();
-    (1..=plan.n).map(|receiver| piece(plan, product, &coins, receiver)).collect()
+/// A gate's round: the pieces of what the seat deals in it, if it deals.
+fn send(plan: &Plan, seat: u16, round: Round, shares: &[u32], figures: List, coins: List) -> Vec<u32> {
+    if !plan.sends(seat, round) {
+        return Vec::new();
+    }
+    let gate = round.gate();
+    let dealt = match plan.gates[gate] {
+        Gate::Multiply(a, b) => plan.field.mul(shares[a], shares[b]),
+        _ => own_figure(plan, seat, gate, figures),
+    };
+    let coins = own_coins(plan, seat, gate, coins);
+    (1..=plan.n).map(|receiver| piece(plan, dealt, &coins, receiver)).collect()
 }
 
-/// Call 1 learns the input wires, calls 2 to M+1 the last multiply's wire.
+/// Call 1 learns the input wires, each later one the wire of the round before it.
 fn learn(plan: &Plan, call: usize, mail: &[u32], shares: &mut [u32]) {
     if call == 1 {
         let by_sender = (1..=plan.n).flat_map(|sender| plan.inputs.iter().filter(move |input| input.1 == sender));
         for (&(wire, _), &piece) in by_sender.zip(mail) {
             shares[wire] = piece;
         }
-    } else {
-        shares[plan.multiplies[call - 2].0] = plan.field.dot(0, &plan.product_weights(), mail);
+        return;
+    }
+    match plan.rounds[call - 2] {
+        Round::Product(g) => shares[g] = plan.field.dot(0, &plan.product_weights(), mail),
+        Round::Draw(g) => shares[g] = mail.iter().fold(0, |sum, &piece| plan.field.add(sum, piece)),
     }
 }
 
-/// Works each add, scale and offset from the multiply just learnt to the next.
+/// Works each add, scale and offset from the gate just learnt to the next that has a round.
 fn work(plan: &Plan, call: usize, shares: &mut [u32]) {
-    let start = if call == 1 { 0 } else { plan.multiplies[call - 2].0 + 1 };
-    let end = plan.multiplies.get(call - 1).map_or(plan.gates.len(), |multiply| multiply.0);
+    let start = if call == 1 { 0 } else { plan.rounds[call - 2].gate() + 1 };
+    let end = plan.rounds.get(call - 1).map_or(plan.gates.len(), |round| round.gate());
     for wire in start..end {
         match plan.gates[wire] {
             Gate::Add(a, b) => shares[wire] = plan.field.add(shares[a], shares[b]),
             Gate::Scale(a, c) => shares[wire] = plan.field.mul(shares[a], c),
             Gate::Offset(a, c) => shares[wire] = plan.field.add(shares[a], c),
-            Gate::Input(_) | Gate::Multiply(..) => {}
+            Gate::Input(_) | Gate::Multiply(..) | Gate::Random => {}
         }
     }
 }

@@ -108,7 +108,7 @@ fn tiny(random: &mut Random) -> (Vec<u8>, u16, Vec<u32>, Vec<u32>) {
     let (file, set) = random::tiny_plan(random, 700);
     let plan = Plan::read(&file).unwrap();
     let (p, coins) = (plan.field.p(), members(&plan, set).iter().map(|&seat| plan.coins_of(seat)).sum());
-    (file, set, random.elements(plan.inputs.len(), p), random.elements(coins, p))
+    (file, set, random.elements(plan.figures.len(), p), random.elements(coins, p))
 }
 
 fn members(plan: &Plan, set: u16) -> Vec<u16> {

@@ -172,7 +172,7 @@ fn conversions_keep_everything() {
         assert_eq!(lent, converted);
         assert_eq!(convert(&stored, &mut lent[1..]), refused(19));
         assert_eq!(convert_file(&converted), refused(2));
-        let figures = random.elements(before.inputs.len(), before.field.p());
+        let figures = random.elements(before.figures.len(), before.field.p());
         let coins = random.elements(before.coins(), before.field.p());
         let run = |file: &[u8]| {
             let mut steps = Vec::new();
@@ -229,7 +229,7 @@ fn random_runs_of_version_3() {
     for _ in 0..150 {
         let file = random::large_plan(&mut random, 25);
         let plan = Plan::read(&file).unwrap();
-        let figures = random.elements(plan.inputs.len(), plan.field.p());
+        let figures = random.elements(plan.figures.len(), plan.field.p());
         let coins = random.elements(plan.coins(), plan.field.p());
         let run = run_by_calls(&file, &figures, &coins, |_| ()).unwrap();
         assert_eq!(run.results, granted(&plan, &figures));

@@ -119,7 +119,7 @@ fn points_1_to_n_are_version_1() {
         let points: Vec<u32> = (1..=u32::from(plan.n)).collect();
         let second = with_points(2, &first, &points);
         assert_eq!((first[4], second[4]), (1, 2));
-        let figures = random.elements(plan.inputs.len(), plan.field.p());
+        let figures = random.elements(plan.figures.len(), plan.field.p());
         let coins = random.elements(plan.coins(), plan.field.p());
         let set = random::set(&mut random, plan.n, plan.t);
         let run = |file: &[u8]| {
@@ -156,7 +156,7 @@ fn matched_runs_with_points_give_the_same_view() {
         let p = plan.field.p();
         let set = random::set(&mut random, plan.n, plan.t);
         let members = plan.members(set).unwrap();
-        let figures = random.elements(plan.inputs.len(), p);
+        let figures = random.elements(plan.figures.len(), p);
         let second: Vec<u32> = (plan.figure_seats().zip(&figures))
             .map(|(seat, &x)| if members.contains(&seat) { x } else { random.element(p) })
             .collect();

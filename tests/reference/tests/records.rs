@@ -116,7 +116,7 @@ fn readers_show_the_run() {
         let file = plan(&mut random, 25);
         let plan = Plan::read(&file).unwrap();
         let p = plan.field.p();
-        let (figures, coins) = (random.elements(plan.inputs.len(), p), random.elements(plan.coins(), p));
+        let (figures, coins) = (random.elements(plan.figures.len(), p), random.elements(plan.coins(), p));
         let mut record = stored(&file, &figures, &coins);
         let run = run_by_calls(&file, &figures, &coins, |_| ()).unwrap();
         let mut all = Vec::new();
@@ -157,7 +157,7 @@ fn matched_runs_show_the_same() {
         }
         let p = plan.field.p();
         let seat = random.range(1, usize::from(plan.n)) as u16;
-        let (first, coins) = (random.elements(plan.inputs.len(), p), random.elements(plan.coins(), p));
+        let (first, coins) = (random.elements(plan.figures.len(), p), random.elements(plan.coins(), p));
         let second: Vec<u32> = (plan.figure_seats().zip(&first))
             .map(|(owner, &x)| if owner == seat { x } else { random.element(p) })
             .collect();

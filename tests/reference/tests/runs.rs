@@ -16,7 +16,7 @@ fn calls_equal_the_direct_bench_and_the_plans_arithmetic() {
         let file = plan(&mut random, 40);
         let plan = Plan::read(&file).unwrap();
         let p = plan.field.p();
-        let figures = random.elements(plan.inputs.len(), p);
+        let figures = random.elements(plan.figures.len(), p);
         let coins = random.elements(plan.coins(), p);
         let run = run_by_calls(&file, &figures, &coins, |_| ()).unwrap();
         assert_eq!(run.results, granted(&plan, &figures));
@@ -38,7 +38,7 @@ fn matched_runs_give_the_same_view() {
         let p = plan.field.p();
         let set = random::set(&mut random, plan.n, plan.t);
         let members = plan.members(set).unwrap();
-        let first = random.elements(plan.inputs.len(), p);
+        let first = random.elements(plan.figures.len(), p);
         let second: Vec<u32> = (plan.figure_seats().zip(&first))
             .map(|(seat, &x)| if members.contains(&seat) { x } else { random.element(p) })
             .collect();
@@ -77,8 +77,8 @@ fn matching_is_a_bijection((n, t): (u8, u8), gates: &[Gate], outs: &[Out], set: 
             && plan.outs.iter().all(|out| !members.contains(&out.seat) || granted[out.wire] == asked[out.wire])
     };
     let mut pairs = 0;
-    for first in settings(plan.inputs.len(), 5).step_by(7) {
-        for second in settings(plan.inputs.len(), 5).filter(|second| agree(&first, second) && *second != first).take(3)
+    for first in settings(plan.figures.len(), 5).step_by(7) {
+        for second in settings(plan.figures.len(), 5).filter(|second| agree(&first, second) && *second != first).take(3)
         {
             let mut given = HashSet::new();
             for coins in settings(plan.coins(), 5) {

@@ -15,14 +15,20 @@ put_dealers-requires-clause-m_bound c = search gating
 pub put_dealers-requires-clause-m_in_bounds : goal.put_dealers-requires-clause-m_in_bounds
 put_dealers-requires-clause-m_in_bounds c = search gating
 
+pub put_dealers-requires-in-Truncation-clause-m_in_bounds : goal.put_dealers-requires-in-Truncation-clause-m_in_bounds
+put_dealers-requires-in-Truncation-clause-m_in_bounds c = search gating
+
 pub put_dealers-requires-in-Random-clause-m_in_bounds : goal.put_dealers-requires-in-Random-clause-m_in_bounds
 put_dealers-requires-in-Random-clause-m_in_bounds c = search gating
 
 pub returns-in-Input : goal.returns-in-Input
 returns-in-Input c = search gating
 
-pub returns-in-Multiply : goal.returns-in-Multiply
-returns-in-Multiply c = search gating
+pub returns-in-Reduction : goal.returns-in-Reduction
+returns-in-Reduction c = search gating
+
+pub returns-in-Truncation : goal.returns-in-Truncation
+returns-in-Truncation c = search gating
 
 pub returns-in-Random : goal.returns-in-Random
 returns-in-Random c = search gating

@@ -1,4 +1,4 @@
-use Rattle.plan_counts.proofs.Sizes.{bringing}
+use Rattle.plan_sizes.proofs.Sizes.{bringing}
 use Rattle.plan_sizes.proofs.received.Goals as goal
 
 pub returns-in-DealInputs : goal.returns-in-DealInputs

@@ -1,4 +1,4 @@
-use Rattle.plan_counts.proofs.Sizes.{sending}
+use Rattle.plan_sizes.proofs.Sizes.{sending}
 use Rattle.plan_sizes.proofs.sent_by.Goals as goal
 
 pub returns-in-DealZero : goal.returns-in-DealZero

@@ -1,5 +1,5 @@
 use Rattle.run_views.proofs.JoinLaws.{viewing}
 use Rattle.run_views.proofs.write_views.Goals as goal
 
-pub invariant_of-run : goal.invariant_of-run
-invariant_of-run c = search viewing
+pub invariant_of-seen : goal.invariant_of-seen
+invariant_of-seen c = search viewing

@@ -7,8 +7,8 @@ results-requires-clause-out_len_bound c = search calling
 pub returns-then-k-last_call : goal.returns-then-k-last_call
 returns-then-k-last_call c = search calling
 
-pub send_step-requires-clause-sendable : goal.send_step-requires-clause-sendable
-send_step-requires-clause-sendable c = search calling
+pub send-requires-clause-out_len : goal.send-requires-clause-out_len
+send-requires-clause-out_len c = search calling
 
 pub returns : goal.returns
 returns c = search calling

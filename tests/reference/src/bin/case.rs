@@ -1,8 +1,10 @@
-//! Writes a random case for the host program: `case SEED FOLDER` fills FOLDER with `plan`, `figures-I` and `coins-I` for each seat I,
-//! `results-I` with what the plan's own arithmetic grants it, and `bench-I` with the bench program's input for the set of seat I alone.
+//! Writes a random case for the host program: `case SEED FOLDER` fills FOLDER with `plan`, `figures-I` and `coins-I` for each seat I, and `draws-I` where
+//! the plan has random wires, `results-I` with what the plan's own arithmetic grants it, and `bench-I` with the bench program's input for the set of
+//! seat I alone.
 //! `case K FOLDER` writes plan K with its figures and coins, `case long FOLDER` a plan of 15 seats, all of them dealers, with 120
 //! multiplies in turn, `case wide FOLDER` one in which a seat's mail has many shares from one sender, `case late FOLDER` one with a seat that
-//! deals nothing, and `case large FOLDER` one of version 3 over the largest prime.
+//! deals nothing, `case large FOLDER` one of version 3 over the largest prime, and `case drawn FOLDER` one with random wires: seat 1 gets the first
+//! of them, and seat 2 that and its own figure added.
 
 use reference::field::MOST;
 use reference::plan::{bytes_of, file, plan_file, Gate, Layout, Out, Plan};
@@ -55,6 +57,24 @@ fn large() -> Vec<u8> {
     file(3, (5, 2, MOST), &gates, &outs, &[MOST - 1, 70_000, 3, 1, 65_536])
 }
 
+/// 5 seats, random wires before, between and after products and figures.
+fn drawn() -> Vec<u8> {
+    let gates = [
+        Gate::Random,
+        Gate::Input(2),
+        Gate::Add(0, 1),
+        Gate::Random,
+        Gate::Multiply(2, 3),
+        Gate::Input(1),
+        Gate::Random,
+        Gate::Scale(6, 7),
+        Gate::Add(4, 7),
+        Gate::Add(8, 5),
+    ];
+    let outs = [(1, 0), (2, 2), (3, 9), (4, 6), (5, 4)].map(|(seat, wire)| Out { seat, wire });
+    plan_file(5, 2, 65521, &gates, &outs)
+}
+
 fn main() {
     let args: Vec<String> = std::env::args().collect();
     let (seed, folder) = (&args[1], &args[2]);
@@ -69,22 +89,31 @@ fn main() {
         "wide" => wide(),
         "late" => late(),
         "large" => large(),
+        "drawn" => drawn(),
         _ => plan(&mut random, 24),
     };
     let plan = Plan::read(&file).expect("a plan that passes");
     let p = plan.field.p();
-    let figures = if known { vec![4, 5] } else { random.elements(plan.inputs.len(), p) };
+    let figures = if known { vec![4, 5] } else { random.elements(plan.figures.len(), p) };
     let coins = if known { vec![2, 3, 1, 5, 7] } else { random.elements(plan.coins(), p) };
     let results = granted(&plan, &figures);
     std::fs::create_dir_all(folder).expect("a folder");
     let two = |x: u32| bytes_of(&[x], 2);
     let width = Layout::of(plan.version).width;
     let numbers = [bytes_of(&figures, width), bytes_of(&coins, width)].concat();
+    let drawn = |k: usize| plan.gates[plan.figures[k].0] == Gate::Random;
     let put = |name: &str, contents: &[u8]| write(format!("{folder}/{name}"), contents).expect("a file");
     put("plan", &file);
     for seat in 1..=plan.n {
         let input = [&two(file.len() as u32)[..], &file, &two(1 << (seat - 1)), &numbers].concat();
-        put(&format!("figures-{seat}"), lines(&own(&figures, plan.figure_seats(), seat)).as_bytes());
+        let own_figures = |draws: bool| -> Vec<u32> {
+            let mine = |&k: &usize| plan.figures[k].1 == seat && drawn(k) == draws;
+            (0..figures.len()).filter(mine).map(|k| figures[k]).collect()
+        };
+        put(&format!("figures-{seat}"), lines(&own_figures(false)).as_bytes());
+        if plan.draws() > 0 {
+            put(&format!("draws-{seat}"), lines(&own_figures(true)).as_bytes());
+        }
         put(&format!("coins-{seat}"), lines(&own(&coins, plan.coin_seats(), seat)).as_bytes());
         put(&format!("results-{seat}"), lines(&results[usize::from(seat) - 1]).as_bytes());
         put(&format!("bench-{seat}"), &input);

@@ -361,6 +361,8 @@ struct Tally {
     /// Plans lent, and plans refused 6, by version.
     versions: [usize; 4],
     layouts: [usize; 4],
+    /// Random plans that have a random wire.
+    drawn: usize,
     /// Runs of a sheet's plan whose result was compared with the formula's value.
     values: usize,
     /// Inputs of the bench program.
@@ -373,8 +375,8 @@ impl Tally {
     /// Every counter, in a fixed order.
     fn counters(&mut self) -> Vec<&mut usize> {
         let lists = [&mut self.parts[..], self.met.as_flattened_mut(), &mut self.versions, &mut self.layouts];
-        let single = [&mut self.moved, &mut self.values, &mut self.inputs, &mut self.passed, &mut self.differences];
-        lists.into_iter().flatten().chain(single).collect()
+        let single = [&mut self.moved, &mut self.drawn, &mut self.values, &mut self.inputs];
+        lists.into_iter().flatten().chain(single).chain([&mut self.passed, &mut self.differences]).collect()
     }
 
     /// The counters as text, a line each.
@@ -463,7 +465,7 @@ impl World {
     fn new(random: &mut Random, file: Vec<u8>, order: &'static [u8]) -> World {
         let plan = Plan::read(&file).expect("the generator makes plans that pass");
         let p = plan.field.p();
-        let figures = random.elements(plan.inputs.len(), p);
+        let figures = random.elements(plan.figures.len(), p);
         let coins = random.elements(plan.coins(), p);
         World { file, plan, figures, coins, order }
     }
@@ -650,7 +652,16 @@ fn damage_plan(random: &mut Random, file: &mut Vec<u8>, plan: &Plan, refusal: u8
             let mut put = |i, x| put_of(gate, i, x, layout.width);
             match (random.below(4), plan.gates[g]) {
                 (0, _) => gate[1] = random.range(1, 255) as u8,
-                (1, _) => gate[0] = random.pick(&[0, 6, 7, 129, 255]),
+                (1, kind) => {
+                    let other = random.pick(&[0, 6, 7, 129, 255]);
+                    if other == 6 && matches!(kind, Gate::Random | Gate::Add(0, 0) | Gate::Multiply(0, 0))
+                        || other == 6 && matches!(kind, Gate::Scale(0, 0) | Gate::Offset(0, 0))
+                    {
+                        put(b, 1); // a random wire has neither a nor b
+                    }
+                    gate[0] = other;
+                }
+                (of, Gate::Random) => put(if of == 2 { a } else { b }, random.pick(&[1, n, 256, most])),
                 (2, Gate::Input(_)) => put(b, random.pick(&[1, 256, most])),
                 (3, Gate::Scale(..) | Gate::Offset(..)) => put(b, constant),
                 (3, Gate::Add(..) | Gate::Multiply(..)) => put(b, wire),
@@ -764,7 +775,7 @@ fn wrong_point(random: &mut Random, file: &mut [u8], plan: &Plan) -> bool {
 /// where there is neither gate, or one seat only.
 fn too_few_seats(random: &mut Random, file: &mut [u8], plan: &Plan) -> bool {
     let seats = usize::from(plan.n);
-    if plan.multiplies.is_empty() {
+    if plan.multiplies == 0 {
         let adds: Vec<usize> = (0..plan.gates.len()).filter(|&g| matches!(plan.gates[g], Gate::Add(..))).collect();
         if adds.is_empty() {
             return false;
@@ -1776,8 +1787,9 @@ fn conversions(random: &mut Random, tally: &mut Tally, world: &World) {
         let converted = conversion(&world.file);
         tally.compare(&Case::Check { plan: converted.clone() }, Some(0));
         // the converted plan: the same figures, coins, shares and results
-        let world = World { plan: Plan::read(&converted).expect("a plan"), file: converted, ..world.clone() };
-        runs(random, tally, &world, 1);
+        if let Ok(plan) = Plan::read(&converted) {
+            runs(random, tally, &World { plan, file: converted, ..world.clone() }, 1);
+        }
     }
 }
 
@@ -2025,12 +2037,12 @@ fn counts(random: &mut Random, tally: &mut Tally, file: Vec<u8>, set: u16, often
     let plan = Plan::read(&file).expect("a plan that passes");
     let (p, t) = (plan.field.p(), plan.t);
     let settings = random::settings(plan.n, t, p, set, &plan.gates);
-    let few = settings <= 65_536;
+    let few = settings <= 65_536 && !plan.gates.contains(&Gate::Random);
     let (order, expected): (&[u8], u8) = if few { (&COUNT_ORDER, 0) } else { (&SETTINGS_ORDER, 30) };
     let own = plan.coin_seats().iter().filter(|&&seat| set >> (seat - 1) & 1 == 1).count();
     let room =
         if few { 4 * settings as usize * (plan.view(set).expect("a set that passes") + 1) } else { random.below(99) };
-    let (figures, coins) = (random.elements(plan.inputs.len(), p), random.elements(own, p));
+    let (figures, coins) = (random.elements(plan.figures.len(), p), random.elements(own, p));
     let rows = filler(random, room);
     let size = Case::CountSize { plan: file.clone(), set };
     let whole = Case::Count { plan: file, set, figures: bytes(&figures), coins: bytes(&coins), rows };
@@ -2094,6 +2106,105 @@ fn all_counts(tally: &mut Tally) {
     }
 }
 
+/// A plan from every side: its check, points, calls, runs, charge, conversion, record and counted views.
+fn whole_world(random: &mut Random, tally: &mut Tally, file: Vec<u8>, often: usize) {
+    let world = World::new(random, file, &POINTED_ORDER);
+    plans(random, tally, &world);
+    if Layout::of(world.plan.version).has_points() {
+        points(random, tally, &world);
+    }
+    calls(random, tally, &world, often);
+    runs(random, tally, &world, 2);
+    charges(random, tally, &world);
+    conversions(random, tally, &world);
+    records(random, tally, &World { order: &RECORD_ORDER, ..world.clone() }, 1);
+    let set = random::set(random, world.plan.n, world.plan.t);
+    counts(random, tally, world.file, set, 2);
+}
+
+/// A plan in few cases: its check, a bench, a matching, two calls, sizes, a record, a charge, each as it is, and one of them damaged.
+fn glance(random: &mut Random, tally: &mut Tally, file: Vec<u8>) {
+    let world = World::new(random, file, &POINTED_ORDER);
+    let (plan, file) = (&world.plan, &world.file);
+    let mut steps = Vec::new();
+    let all = usize::from(plan.n) * (plan.last_call() + 1);
+    let (mut number, taken) = (0, [0; 2].map(|_| random.below(all)));
+    run_by_calls(file, &world.figures, &world.coins, |step| {
+        if taken.contains(&number) {
+            steps.push(step.clone());
+        }
+        number += 1;
+    })
+    .expect("a whole run");
+    let mut cases: Vec<Case> = steps.iter().map(|step| world.call(random, step)).collect();
+    let (seat, call) = (random.range(1, usize::from(plan.n)) as u16, random.below(plan.last_call() + 2) as u16);
+    let (what, set) = (random.below(5) as u16, random::set(random, plan.n, plan.t));
+    let price = random.below(1_000_001) as u32;
+    let room = (REFERENCE.record_size)(file) >> 8;
+    cases.extend([
+        Case::Check { plan: file.clone() },
+        world.bench(random),
+        world.matching(random, true),
+        Case::SeatSize { plan: file.clone(), seat, call, what },
+        Case::RunSize { plan: file.clone(), set, what: what % 3 },
+        Case::RecordSize { plan: file.clone() },
+        Case::Record {
+            plan: file.clone(),
+            figures: bytes(&world.figures),
+            coins: bytes(&world.coins),
+            record: filler(random, room as usize),
+        },
+        Case::Charge { plan: file.clone(), price, parts: filler(random, 4 * usize::from(plan.n)) },
+    ]);
+    cases.iter().for_each(|case| tally.compare(case, Some(0)));
+    let case = &cases[random.below(cases.len())];
+    if !matches!(case, Case::Match { .. }) {
+        damaged(random, tally, case, plan, world.order, 1);
+    }
+}
+
+/// Plans at the ends that have random wires: the most of them, nothing else, no majority, the largest primes.
+fn drawn_extremes(random: &mut Random) -> Vec<Vec<u8>> {
+    let mut files = vec![
+        plan_file(1, 0, 2, &[Gate::Random], &[Out { seat: 1, wire: 0 }]),
+        plan_file(2, 1, 3, &[Gate::Random], &[Out { seat: 2, wire: 0 }; 64]),
+        plan_file(15, 14, 17, &[Gate::Random, Gate::Random, Gate::Input(15)], &[Out { seat: 15, wire: 1 }]),
+        plan_file(15, 7, 65521, &[Gate::Random; 1024], &[Out { seat: 8, wire: 1023 }; 64]),
+    ];
+    for (version, n, t, p, gates, multiplies) in [
+        (1, 15, 7, 65521, 1024, 500),
+        (2, 14, 13, 32771, 300, 0),
+        (3, 15, 14, MOST, 1024, 0),
+        (3, 15, 7, MOST, 300, 300),
+        (3, 1, 0, MOST, 1024, 1023),
+    ] {
+        let gates = random::drawn_gates(random, n, p, gates, multiplies);
+        let outs = random::outs(random, n, gates.len(), 64);
+        let points = random::points(random, n, p);
+        files.push(file(version, (n as u8, t, p), &gates, &outs, &points));
+    }
+    files
+}
+
+/// Plans of versions 1 to 3 with random wires.
+fn drawn_plans(tally: &mut Tally) {
+    let mut random = Random(20_270_110);
+    for file in drawn_extremes(&mut random) {
+        whole_world(&mut random, tally, file, 8);
+    }
+    for most in [1, 2, 5, 8, 12, 20].repeat(40) {
+        let file = random::drawn_plan(&mut random, most);
+        tally.drawn += 1;
+        whole_world(&mut random, tally, file, 6);
+    }
+    for most in [2, 3, 5, 8, 12].repeat(2000) {
+        let file = random::drawn_plan(&mut random, most);
+        tally.drawn += 1;
+        glance(&mut random, tally, file);
+    }
+    programs(&mut random, tally, 150, random::drawn_plan);
+}
+
 /// The bench program on the other plans.
 fn other_programs(tally: &mut Tally) {
     programs(&mut Random(20_260_305), tally, 100, random::wide_plan);
@@ -2106,7 +2217,7 @@ fn other_programs(tally: &mut Tally) {
 type Part = &'static [fn(&mut Tally)];
 
 /// The streams in parts; each may be worked in a process of its own.
-const PARTS: [Part; 3] = [
+const PARTS: [Part; 4] = [
     &[
         first_plans,
         |tally| sheets(&mut Random(20_260_205), tally),
@@ -2123,6 +2234,7 @@ const PARTS: [Part; 3] = [
         other_programs,
     ],
     &[all_counts],
+    &[drawn_plans],
 ];
 
 /// Works a part, counted from 0.
@@ -2162,6 +2274,7 @@ fn report(tally: &Tally) -> bool {
     for version in 1..=3 {
         println!("{} plans of version {version}, {} refused 6", tally.versions[version], tally.layouts[version]);
     }
+    println!("{} random plans with random wires", tally.drawn);
     let [texts, sheets, bills] = [IMPORT, SHEET, CHARGE].map(|kind| tally.met[kind].iter().sum::<usize>());
     let records = [RECORD, READ_ALL, READ_SEAT].map(|kind| tally.met[kind].iter().sum::<usize>());
     println!("{texts} texts imported or refused");
@@ -2179,6 +2292,7 @@ fn report(tally: &Tally) -> bool {
         && tally.cases() >= 100_000
         && tally.versions[1..].iter().all(|&lent| lent >= 10_000)
         && tally.layouts[1..].iter().all(|&refused| refused >= 200)
+        && tally.drawn >= 10_000
         && texts.min(sheets) >= 20_000
         && bills >= 5_000
         && records.iter().sum::<usize>() >= 10_000

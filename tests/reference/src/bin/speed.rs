@@ -172,7 +172,7 @@ impl World {
         let mut random = Random(3);
         let p = plan.field.p() as usize;
         let mut list = |count| (0..count).map(|_| random.below(p) as u32).collect();
-        let (figures, coins) = (list(plan.inputs.len()), list(plan.coins()));
+        let (figures, coins) = (list(plan.figures.len()), list(plan.coins()));
         World { file, plan, figures, coins }
     }
 

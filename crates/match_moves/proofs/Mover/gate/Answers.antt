@@ -27,3 +27,9 @@ returns-in-Multiply c = search moving_gate
 
 pub returns-in_default : goal.returns-in_default
 returns-in_default c = search moving_gate
+
+pub random-requires : goal.random-requires
+random-requires c = search moving_gate
+
+pub returns-in-Random : goal.returns-in-Random
+returns-in-Random c = search moving_gate

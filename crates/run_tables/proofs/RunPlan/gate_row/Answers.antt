@@ -67,3 +67,24 @@ returns-in-Offset c =
     let h = c.args.self.now.plan.now.header in
     let made = (c.row_by-in-Offset.ensures (shifted_at h.field.p h.n c.in-Offset.a c.in-Offset.c c.args.table.now) (λ j r l q. search rules)).0 in
     search working
+
+pub random_row-requires-clause-inputs_value : goal.random_row-requires-clause-inputs_value
+random_row-requires-clause-inputs_value c = search working
+
+pub random_row-requires-clause-coined : goal.random_row-requires-clause-coined
+random_row-requires-clause-coined c = search working
+
+pub returns-in-Random : goal.returns-in-Random
+returns-in-Random c = search working
+
+pub truncated_row-requires-clause-coined : goal.truncated_row-requires-clause-coined
+truncated_row-requires-clause-coined c = search working
+
+pub truncated_row-requires-clause-rowed : goal.truncated_row-requires-clause-rowed
+truncated_row-requires-clause-rowed c = search working
+
+pub truncated_row-requires-clause-rowed_2 : goal.truncated_row-requires-clause-rowed_2
+truncated_row-requires-clause-rowed_2 c = search working
+
+pub returns-in-Some : goal.returns-in-Some
+returns-in-Some c = search working

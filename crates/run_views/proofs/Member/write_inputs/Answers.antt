@@ -1,16 +1,10 @@
-use Rattle.run_views.proofs.ViewLaws.{inputting}
-use Rattle.run_views.proofs.Member.write_inputs.Goals.{in-Input, then-party-self, else-party-self, in_default}
+use Rattle.numbers.specs.Bytes.{numbers}
+use Rattle.plan.specs.File.{plan_of}
+use Rattle.run_views.proofs.ViewLaws.{inputs_at, own_gates, inputs_put}
 use Rattle.run_views.proofs.Member.write_inputs.Goals as goal
 
-pub loop-g-init : goal.loop-g-init
-loop-g-init c = search inputting
-
-pub loop-g-preserved : goal.loop-g-preserved
-loop-g-preserved c =
-    elim c.match-gate.branch [
-      | in-Input w ↦ rw (w.out-is, w.k-is) (elim w.if-party-self.branch [ then-party-self v ↦ rw v.out-is (search inputting) | else-party-self v ↦ rw v.out-is (search inputting) ])
-      | in_default w ↦ rw (w.out-is, w.k-is) (search inputting)
-    ]
-
 pub returns : goal.returns
-returns c = search inputting
+returns c =
+    let w =
+    c.put_gates.ensures (inputs_at (plan_of c.args.self.now.run.now.plan.now.bytes.now) c.args.self.now.i (numbers c.args.self.now.run.now.inputs.now)) (λ g next from w v l p. search own_gates) in
+    record { same = w.same; wrote = inputs_put _ _ _ _ _ _ _ w.wrote }

@@ -1,12 +1,6 @@
 use Rattle.run_views.proofs.ViewLaws.{dealing}
 use Rattle.run_views.proofs.Pieces.piece.Goals as goal
 
-pub reduced-s-requires : goal.reduced-s-requires
-reduced-s-requires g c = search dealing
-
-pub add_product-sum-requires-clause-below2 : goal.add_product-sum-requires-clause-below2
-add_product-sum-requires-clause-below2 g c = search dealing
-
 pub loop-j-init : goal.loop-j-init
 loop-j-init g c = search dealing
 
@@ -15,3 +9,6 @@ add_product-sum-requires-in-loop-j-clause-below2 g c = search dealing
 
 pub loop-j-preserved : goal.loop-j-preserved
 loop-j-preserved g c = search dealing
+
+pub returns : goal.returns
+returns g c = search dealing

@@ -1,4 +1,6 @@
 use mathlib.Core.Path.{◌∙◌}
+use Prim.Native.Nat.{◌≤◌}
+use native.Mathlib.Omega.{arith}
 use Rattle.run_views.proofs.ViewLaws.{gathering}
 use Rattle.run_views.proofs.Run.put_gates.Goals as goal
 
@@ -13,9 +15,14 @@ overflow_add-from g c = search gathering
 
 pub loop-g-preserved : goal.loop-g-preserved
 loop-g-preserved g c =
+    let few : c.coins_taken-from.result ≤ 630 = omega (arith, c.coins_taken-from.ensures.most) in
     record {
       placed = search gathering;
-      put = λ f k. let w = c.loop-g.invariant.put f k in let v = k c.loop-g.g c.loop-g.from _ _ c.loop-g-test.true c.put.ensures in (v.same ∙ w.0, search (gathering, w.1, v.wrote));
+      put =
+          λ f k.
+          let w = c.loop-g.invariant.put f k in
+          let v = k c.loop-g.g c.loop-g.i c.loop-g.from _ _ c.loop-g-test.true c.put.ensures in
+          (v.same ∙ w.0, search (gathering, w.1, v.wrote));
     }
 
 pub returns : goal.returns

@@ -1,5 +1,0 @@
-use Rattle.plan_counts.proofs.Counts.{Tallying}
-use Rattle.plan_counts.proofs.PlanGates.tally.Given as goal
-
-abbrev pub invariant-loop-g : goal.invariant-loop-g
-invariant-loop-g l = Tallying l.self.plan.now.bytes.now l.self.plan.now.header.gates l.i l.tally l.g

@@ -1,5 +1,0 @@
-use Rattle.run_bench.proofs.RunCheckLaws.{sizing}
-use Rattle.run_bench.proofs.checking.view_count_of.Goals as goal
-
-pub returns : goal.returns
-returns c = search sizing

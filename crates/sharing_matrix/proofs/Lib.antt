@@ -1,0 +1,4 @@
+pub mod Factors
+pub mod Tables
+pub mod Fitting
+pub mod Ruling
