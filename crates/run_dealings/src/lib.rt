@@ -460,6 +460,7 @@ impl<'a> Dealings<'a> {
     }
 
     // A random wire's row: all parties deal their draws, with which the inputs begin, and each receiver's pieces are summed.
+    #[inline(never)]
     #[tactic(auto, using(crate::proofs::SumLaws::drawing))]
     pub fn random_row(&self, inputs: &[u8], coins: &[u8], at: usize) -> [u64; 15]
         requires inputs_value { all_below self.now.sums.field.p (numbers inputs.now) ≡ true }
@@ -511,6 +512,7 @@ impl<'a> Dealings<'a> {
     }
 
     // A multiply gate's row by truncation. No piece is seen in it, so there is no grid; nor is a coin in it of the masked shares' dealings.
+    #[inline(never)]
     #[tactic(auto, using(crate::proofs::TruncationLaws::truncating))]
     pub fn truncated_row(
         &self,
