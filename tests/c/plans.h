@@ -223,18 +223,6 @@ static inline void any_points(unsigned *points, unsigned n, unsigned p)
     }
 }
 
-/* Plan K with a random wire for party 2's input. */
-static inline size_t plan_drawn(uint8_t *plan)
-{
-    size_t len = contents(plan, 3, 1, 11, 4, 1);
-    gate(plan, 0, 1, 1, 0);
-    gate(plan, 1, 6, 0, 0);
-    gate(plan, 2, 5, 0, 1);
-    gate(plan, 3, 2, 2, 0);
-    out(plan, 4, 0, 3, 3);
-    return len;
-}
-
 /* Plan K: n=3, t=1, p=11; input 1, input 2, multiply 0 1, add 2 0; out to party 3 of wire 3. */
 static inline size_t plan_k(uint8_t *plan)
 {
@@ -244,6 +232,14 @@ static inline size_t plan_k(uint8_t *plan)
     gate(plan, 2, 5, 0, 1);
     gate(plan, 3, 2, 2, 0);
     out(plan, 4, 0, 3, 3);
+    return len;
+}
+
+/* The same with a random wire for party 2's input. */
+static inline size_t plan_drawn(uint8_t *plan)
+{
+    size_t len = plan_k(plan);
+    gate(plan, 1, 6, 0, 0);
     return len;
 }
 
