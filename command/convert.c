@@ -25,7 +25,7 @@ const struct command convert_command = {
     .usage = "PLAN OUT",
     .help = "Reads a plan of version 1 or 2 and writes the same plan as a file of version 3: seats,\n"
             "threshold, prime, gates, outs and points stay, in order, so that every result and share is\n"
-            "the same. Of a plan of version 1 the points are 1 to n. A plan of version 3 is refused. OUT is\n"
-            "the plan file that is written, and may be PLAN itself. Prints a line with the plan's counts.\n",
+            "the same. Of a plan of version 1 the points are 1 to n. Another version is refused. OUT is the\n"
+            "plan file that is written, and may be PLAN itself. Prints a line with the plan's counts.\n",
     .run = convert,
 };

@@ -299,6 +299,16 @@ static const struct group *mail_of(const struct counted *c, unsigned round)
 
 static void put_mail_words(FILE *to, const struct counted *c)
 {
+    static const char *const received[] = {
+        [INPUTS] = "its shares of all inputs, by the seat that dealt them, its own included",
+        [OUTS] = "all seats’ shares of its results, by the seat that sent them",
+        [PRODUCT] = "its pieces of the product, by the seat that dealt them",
+        [DRAWS] = "its pieces of the draws, by the seat that dealt them",
+        [ZEROS] = "its pieces of the dealings of 0 that mask the product, by the seat that dealt them",
+        [MASKED] = "its pieces of the masked product, by the seat that dealt them",
+        [PARTS] = "the parts of its share of the product, by the seat that sent them",
+    };
+    size_t wire;
     char words[WORDS];
     for (unsigned round = 0; round + 1 < c->plan->calls; round++) {
         const struct group *mail = mail_of(c, round);
@@ -306,13 +316,7 @@ static void put_mail_words(FILE *to, const struct counted *c)
             continue;
         group_words(c->plan, mail, words, sizeof words);
         fprintf(to, "<dt>%s</dt><dd>", words);
-        if (round == 0)
-            fputs("received: its shares of all inputs, by the seat that dealt them, its own included", to);
-        else if (round + 2 == c->plan->calls)
-            fputs("received: all seats’ shares of its results, by the seat that sent them", to);
-        else
-            fputs("received: its pieces of the product, by the seat that dealt them", to);
-        fputs("</dd>\n", to);
+        fprintf(to, "received: %s</dd>\n", received[carried_in(c->plan, round, &wire)]);
     }
 }
 

@@ -12,6 +12,7 @@ struct layout {
     size_t points_at;                             /* the same; 0: the points are 1 to n */
     size_t width;                                 /* the bytes of each of them, of a gate's a and b, and of a point */
     size_t out_wire;                              /* the bytes of an out's wire */
+    bool masks;                                   /* a product takes three rounds: zeros, the masked product, parts of its shares */
 };
 
 enum { VERSION_AT = 4, SEATS_AT = 5, THRESHOLD_AT = 6, GATE_HEAD = 2, OUT_HEAD = 1 };
@@ -20,6 +21,7 @@ static const struct layout layouts[] = {
     [1] = {.prime = 8, .gates_at = 10, .gates = 12, .outs_at = 14, .outs = 16, .width = 2, .out_wire = 2},
     [2] = {.prime = 8, .gates_at = 10, .gates = 12, .outs_at = 14, .outs = 16, .points_at = 18, .width = 2, .out_wire = 2},
     [3] = {.prime = 8, .gates_at = 12, .gates = 16, .outs_at = 20, .outs = 24, .points_at = 28, .width = 4, .out_wire = 2},
+    [4] = {.prime = 8, .gates_at = 12, .gates = 16, .outs_at = 20, .outs = 24, .points_at = 28, .width = 4, .out_wire = 2, .masks = true},
 };
 
 enum { LAYOUTS = sizeof layouts / sizeof *layouts };
@@ -46,7 +48,13 @@ static void add_figures(struct plan *plan, size_t g)
             plan->figures[plan->figure_count++] = (struct figure){seat, g};
 }
 
-/* Gates stand one after the other: the kind, a zero byte, a and b. The wire of a product, or of draws, waits for a round of its own; a gate that a
+/* How many rounds of its own a gate has. */
+static unsigned rounds_of(const struct plan *plan, struct gate gate)
+{
+    return gate.kind == RANDOM ? 1 : gate.kind != MULTIPLY ? 0 : layouts[plan->version].masks ? 3 : 1;
+}
+
+/* Gates stand one after the other: the kind, a zero byte, a and b. The wire of a product, or of draws, waits for rounds of its own; a gate that a
  * seat works alone, for the last such round before it. */
 static void read_gates(struct plan *plan, const struct layout *l)
 {
@@ -60,7 +68,7 @@ static void read_gates(struct plan *plan, const struct layout *l)
         gate->kind = plan->file.at[at];
         gate->a = field(plan, at + GATE_HEAD, l->width);
         gate->b = field(plan, at + GATE_HEAD + l->width, l->width);
-        rounds += gate->kind == MULTIPLY || gate->kind == RANDOM;
+        rounds += rounds_of(plan, *gate);
         gate->round = gate->kind == INPUT ? 0 : rounds;
         add_figures(plan, g);
     }
@@ -254,7 +262,10 @@ void print_gate(FILE *to, const struct plan *plan, size_t wire)
         fprintf(to, "wire %u plus the constant %u", g.a, g.b);
         break;
     case MULTIPLY:
-        fprintf(to, "wire %u times wire %u, in round %u", g.a, g.b, g.round);
+        fprintf(to, "wire %u times wire %u, in round", g.a, g.b);
+        if (rounds_of(plan, g) > 1)
+            fprintf(to, "s %u to", g.round + 1 - rounds_of(plan, g));
+        fprintf(to, " %u", g.round);
         break;
     case RANDOM:
         fprintf(to, "figure%s %zu", plural(plan->seats), figure_of(plan, wire));
@@ -267,12 +278,28 @@ void print_gate(FILE *to, const struct plan *plan, size_t wire)
     }
 }
 
+enum carried carried_in(const struct plan *plan, unsigned round, size_t *wire)
+{
+    static const enum carried of_masked[] = {PARTS, MASKED, ZEROS};
+    for (size_t g = 0; g < plan->gate_count && round > 0; g++) {
+        struct gate gate = plan->gates[g];
+        unsigned rounds = rounds_of(plan, gate);
+        if (!rounds || round > gate.round || round + rounds <= gate.round)
+            continue;
+        *wire = g;
+        return gate.kind == RANDOM ? DRAWS : rounds == 1 ? PRODUCT : of_masked[gate.round - round];
+    }
+    return round ? OUTS : INPUTS;
+}
+
 void round_words(const struct plan *plan, unsigned round, char *words, size_t room)
 {
-    snprintf(words, room, "%s", round == 0 ? "inputs" : "outs");
-    if (round == 0 || round + 2 == plan->calls)
-        return;
-    for (size_t g = 0; g < plan->gate_count; g++)
-        if ((plan->gates[g].kind == MULTIPLY || plan->gates[g].kind == RANDOM) && plan->gates[g].round == round)
-            snprintf(words, room, "wire %zu", g);
+    static const char *const names[] = {[INPUTS] = "inputs", [OUTS] = "outs", [PRODUCT] = "wire", [DRAWS] = "wire", [ZEROS] = "zeros",
+        [MASKED] = "masked", [PARTS] = "wire"};
+    size_t wire;
+    enum carried what = carried_in(plan, round, &wire);
+    if (what == INPUTS || what == OUTS)
+        snprintf(words, room, "%s", names[what]);
+    else
+        snprintf(words, room, "%s %zu", names[what], wire);
 }

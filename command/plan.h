@@ -14,7 +14,7 @@ enum gate_kind { INPUT = 1, ADD = 2, SCALE = 3, OFFSET = 4, MULTIPLY = 5, RANDOM
 struct gate {
     unsigned kind;
     uint32_t a, b;
-    unsigned round; /* the round whose mail its wire waits for */
+    unsigned round; /* the round whose mail its wire waits for; of a product's rounds the last */
 };
 
 struct out {
@@ -86,7 +86,13 @@ void write_plan(const char *path, struct bytes file);
 /* Wire `wire` in words, as `wire 0 times wire 1`. */
 void print_gate(FILE *to, const struct plan *plan, size_t wire);
 
-/* What a round carries, in words: at most room bytes. */
+/* What a round carries: the inputs, the outs, or what a wire waits for: pieces of a product, of draws, and in version 4, for a product, of the zeros
+ * that mask it, of the masked product, and the parts of its shares. */
+enum carried { INPUTS, OUTS, PRODUCT, DRAWS, ZEROS, MASKED, PARTS };
+
+enum carried carried_in(const struct plan *plan, unsigned round, size_t *wire);
+
+/* The same in words: at most room bytes. */
 void round_words(const struct plan *plan, unsigned round, char *words, size_t room);
 
 #endif

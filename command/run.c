@@ -65,7 +65,8 @@ const struct command run_command = {
             "  --coins FILE|LIST    all coins, in the plan's order; where there are none, fresh ones\n"
             "                       are drawn from the operating system's random source\n"
             "  --set SEATS          print what these seats, as 1,3, hold and receive: a table for each,\n"
-            "                       with a line for each round and a column for each sender\n"
+            "                       with a line for each round and a column for each sender; a product of\n"
+            "                       a plan of version 4 has three: zeros, masked, and its wire\n"
             "  -o, --output FILE    write there instead of standard output\n",
     .run = run,
 };

@@ -36,10 +36,14 @@
  * Plan files
  * ----------
  *
- * Versions 1, 2 and 3 are read. A number of the file takes two bytes in
- * versions 1 and 2 and four in version 3, an out's wire two in all of them; so a
- * prime above 65,535, up to 2,147,483,647, needs version 3. Version 1 has no
- * points: they are 1 to n. pool_convert makes version 3 of the other two.
+ * Versions 1 to 4 are read. A number of the file takes two bytes in
+ * versions 1 and 2 and four in versions 3 and 4, an out's wire two in all of them;
+ * so a prime above 65,535, up to 2,147,483,647, needs version 3 or 4. Version 1 has
+ * no points: they are 1 to n. pool_convert makes version 3 of versions 1 and 2.
+ *
+ * Version 4 is version 3 with another multiply rule, the original one: in three
+ * rounds each party deals 0, deals its masked product, and sends each party its
+ * part of that party's share. Results are those of version 3.
  *
  *
  * What changed for a C host
@@ -63,6 +67,13 @@
  * and the same in every call of a run; the wire is picked by nobody where each
  * party does so. Each random wire has a round of its own, as a multiply gate has,
  * so call numbers go on: ask pool_calls. Plans without random wires are as before.
+ *
+ * A plan may be of version 4. A multiply gate has three rounds there, so a party
+ * makes 3M + R + 3 calls; each party, those above 2t + 1 too, takes 3t coins for
+ * it, 2t to deal 0 and then t to deal its masked product, and sends 3n numbers. The
+ * calls in the middle of a multiply leave its wire's number in the state as it is,
+ * and the mail of the third round is not checked. A host that asks pool_calls,
+ * pool_seat_size and pool_run_size for its sizes needs no change.
  *
  *
  * Answers
@@ -138,8 +149,7 @@ static inline const char *pool_refusal_sentence(unsigned number)
 /*
  * Checks a plan.
  *
- * plan, plan_len: the bytes of a plan file of version 1, 2 or 3, any number of
- *                 them.
+ * plan, plan_len: the bytes of a plan file of version 1 to 4, any number of them.
  *
  * Answers 0 where the plan passes, else the first of refusals 1 to 8, 25 and
  * 26 with its place. Writes nothing.
@@ -256,7 +266,8 @@ uint64_t pool_convert(const uint8_t *plan, size_t plan_len, uint8_t *out,
 
 /*
  * How many calls each party makes: M + R + 3, numbered 0 to M + R + 2, with M
- * the multiply gates and R the random wires.
+ * the multiply gates and R the random wires; for a plan of version 4 3M stands for
+ * M.
  *
  * Answers the count as its value, or the first of refusals 1 to 8, 25 and 26.
  */
@@ -416,7 +427,8 @@ uint64_t pool_count_size(const uint8_t *plan, size_t plan_len, uint16_t set);
  * The counts add up to the number of settings. The view of the empty coalition
  * has no number: its one row is the count of all settings. Where t is 0 there
  * are no coins, and one setting. For a coalition of exactly t parties no view
- * has two settings, so every count is 1. Two lists of inputs that agree at the
+ * has two settings, so every count is 1; but in version 4 a view may have several,
+ * where a multiply gate is. Two lists of inputs that agree at the
  * members' inputs and give the members the same results give the same rows,
  * since pool_match takes the one list's settings to the other's, one to one,
  * and keeps the view.

@@ -5,7 +5,7 @@ POOL_REFUSAL_ROW(23, "The circuit's text breaks the format, has more input value
 POOL_REFUSAL_ROW(27, "The formula sheet breaks a rule of names, numbers, operators or brackets, has no name, or names a seat that is not 1 to n.")
 POOL_REFUSAL_ROW(24, "The circuit or sheet would make a plan of over 1,024 gates or over 64 outs.")
 POOL_REFUSAL_ROW(1, "The plan has under 18 bytes or does not begin with POOL.")
-POOL_REFUSAL_ROW(2, "The plan's version is not 1, 2 or 3; only plans of versions 1 and 2 are converted.")
+POOL_REFUSAL_ROW(2, "The plan's version is not 1 to 4; only plans of versions 1 and 2 are converted.")
 POOL_REFUSAL_ROW(3, "The plan's number of seats is not 1 to 15.")
 POOL_REFUSAL_ROW(4, "The plan's threshold t is not below its number of seats.")
 POOL_REFUSAL_ROW(5, "The plan's modulus is not a prime above its number of seats and at most 2,147,483,647.")

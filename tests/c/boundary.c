@@ -68,12 +68,13 @@ static void plan_calls(const uint8_t *k, size_t k_len)
 /* The calls that write or read a run record: K's, whole or not. */
 static void record_calls(const uint8_t *k, size_t k_len)
 {
-    uint8_t list[BYTES(5)] = {0}, stored[128];
-    pool_record(k, k_len, list, BYTES(2), list, BYTES(5), stored, sizeof stored);
-    struct slice plan = below(4) ? lend(k, k_len) : lend_text((const char *)k, k_len), record = lend_text((const char *)stored, sizeof stored);
-    struct slice figures = lend(list, below(3) ? BYTES(2) : below(12)), coins = lend(list, below(3) ? BYTES(5) : below(sizeof list));
-    struct slice to = lend(NULL, below(3) ? 128 : below(140)), all = lend(NULL, below(3) ? 104 : below(140));
-    struct slice body = lend(NULL, below(3) ? 32 + 8 * below(2) : below(50));
+    uint8_t list[BYTES(11)] = {0}, stored[256] = {0};
+    unsigned size = (unsigned)POOL_VALUE(pool_record_size(k, k_len)), own = (unsigned)POOL_VALUE(pool_run_size(k, k_len, 0, POOL_RUN_COINS));
+    expect("K's record", pool_record(k, k_len, list, BYTES(2), list, own, stored, size), 0, 0);
+    struct slice plan = below(4) ? lend(k, k_len) : lend_text((const char *)k, k_len), record = lend_text((const char *)stored, size);
+    struct slice figures = lend(list, below(3) ? BYTES(2) : below(12)), coins = lend(list, below(3) ? own : below(sizeof list));
+    struct slice to = lend(NULL, below(3) ? size : below(size + 12)), all = lend(NULL, below(3) ? size - 24 : below(size + 12));
+    struct slice body = lend(NULL, below(3) ? get(stored + BYTES(1 + 2 * below(3))) : below(80));
     uint16_t seat = (uint16_t)(below(4) ? below(5) : below(65536));
     check(pool_record_size(plan.at, plan.len));
     check(pool_record(plan.at, plan.len, figures.at, figures.len, coins.at, coins.len, to.at, to.len));

@@ -194,6 +194,30 @@ static void random_wires(void)
     }
 }
 
+/* In version 4 each party sends three numbers to each of the parties for a multiply, those above 2t + 1 too. */
+static void masked(void)
+{
+    static const unsigned points[15] = {1, 2, 3, 4, 5, 6, 7, 8, 9, 10, 11, 12, 13, 14, 15};
+    uint8_t first[64];
+    for (unsigned n = 3; n <= 15; n++)
+        for (unsigned t = 0; 2 * t < n; t++) {
+            uint64_t sent[SEATS];
+            plan_k(first);
+            first[5] = (uint8_t)n;
+            first[6] = (uint8_t)t;
+            put_field(first, PRIME, 17);
+            plan_len = in_version(MASKING, plan, first, points);
+            for (unsigned i = 0; i < n; i++)
+                sent[i] = (i < 2 ? n : 0) + 3 * n + 1;
+            sorted("three rounds a multiply", 1 + below(1000000), sent);
+            by_calls("three rounds a multiply, by calls", 999983);
+        }
+    plan_k(first);
+    plan_len = in_version(MASKING, plan, first, points);
+    expect_number("K's bill in version 4", charge(1000000, BYTES(3)), 36000 << 8);
+    expect_number("K's parts in version 4", part(1) * 100000000 + part(2) * 10000 + part(3), 13000 * 100000000ull + 13000 * 10000 + 10000);
+}
+
 static void largest(unsigned n, unsigned t, unsigned inputs)
 {
     plan_len = contents(plan, n, t, 65521, GATES, OUTS);
@@ -229,7 +253,7 @@ static void random_plans(void)
     for (unsigned round = 0; round < 300; round++) {
         unsigned n = 1 + below(SEATS), t = below((n + 1) / 2), gates = 1 + below(30), outs = 1 + below(6);
         unsigned version = 1 + below(VERSIONS);
-        plan_len = contents_in(version, plan, n, t, primes[below(version == 3 ? 5 : 3)], gates, outs);
+        plan_len = contents_in(version, plan, n, t, primes[below(version > 2 ? 5 : 3)], gates, outs);
         for (unsigned g = 0; g < gates; g++)
             if (g == 0 || below(2))
                 any_gate(plan, g, below(3) ? 1 : 6, n, 2);
@@ -247,6 +271,7 @@ int main(void)
     refusals();
     few_dealers();
     random_wires();
+    masked();
     large();
     random_plans();
     printf("%d passed, %d failed\n", passed, failed);

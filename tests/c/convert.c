@@ -122,6 +122,10 @@ static void versions_refused(void)
     size_t len = plan_k(plan), third_len = in_version(3, third, plan, (const unsigned[]){1, 2, 3});
     expect("a plan of version 3 passes", pool_plan_check(third, third_len), 0, 0);
     refused("a plan of version 3", third, third_len, 2, 0);
+    third[4] = 4;
+    expect("a plan of version 4 passes", pool_plan_check(third, third_len), 0, 0);
+    refused("a plan of version 4", third, third_len, 2, 0);
+    third[4] = 3;
     expect("a plan of version 3 into its own size", convert(third, third_len, third_len), 2, 0);
     refused("a plan of version 3 with a byte more", third, third_len + 1, 2, 0);
     for (size_t k = 0; k <= third_len; k++)

@@ -371,7 +371,7 @@ static void tiny_plans(unsigned times)
         expect_bytes("the rows are the bench's views, counted", rows, wanted, size);
         for (unsigned seat = 1; seat <= c.run.plan[5]; seat++)
             members += is_member(c.set, seat);
-        if (members == c.run.plan[6])
+        if (members == c.run.plan[6] && c.run.plan[4] < MASKING)
             hold("for exactly t members no view has two settings", reached == settings);
         full += members == c.run.plan[6] && settings > 1;
         several += reached < settings;

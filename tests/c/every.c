@@ -1,8 +1,8 @@
-/* The matching over every setting of the others' coins of tiny plans over 5, for each set of one of three seats, with points 1 to 3 and others: equal
+/* The matching over every setting of the others' coins of tiny plans over 5, for each set of one of three seats, with points 1 to 3 and others; also in version 4: equal
  * views, the members' coins kept, and no setting given twice. */
 #include "runs.h"
 
-enum { P = 5, SEATS = 3, MOST_SETTINGS = 390625, SHAPES = 4, PAIRS = 2 };
+enum { P = 5, SEATS = 3, MOST_SETTINGS = 390625, SHAPES = 4, MASKED = 7, PAIRS = 2 };
 
 /* Gates: kind, a, b; the last one's wire is the out of every seat. */
 static const unsigned shapes[SHAPES][4][3] = {
@@ -10,6 +10,19 @@ static const unsigned shapes[SHAPES][4][3] = {
     {{6, 0, 0}, {5, 0, 0}},
     {{6, 0, 0}, {1, 2, 0}, {5, 1, 0}, {3, 2, 3}},
     {{1, 1, 0}, {6, 0, 0}, {5, 0, 1}, {2, 2, 0}},
+};
+
+/* Those of version 4, in which a product takes six coins of the others, and the set's seat. */
+static const struct {
+    unsigned member, gates[4][3];
+} masked[MASKED] = {
+    {1, {{1, 2, 0}, {5, 0, 0}}},
+    {2, {{1, 3, 0}, {5, 0, 0}}},
+    {3, {{1, 1, 0}, {5, 0, 0}}},
+    {1, {{1, 1, 0}, {1, 2, 0}, {5, 0, 1}, {2, 2, 0}}},
+    {2, {{1, 1, 0}, {1, 2, 0}, {5, 0, 1}, {2, 2, 0}}},
+    {3, {{1, 1, 0}, {1, 2, 0}, {5, 0, 1}, {2, 2, 0}}},
+    {2, {{6, 0, 0}, {5, 0, 0}}},
 };
 
 static struct run first, second;
@@ -128,6 +141,10 @@ int main(void)
             all_settings(2, shapes[k], points[1], PAIRS);
             all_settings(3, shapes[k], points[2], PAIRS);
         }
+    for (unsigned k = 0; k < MASKED; k++) {
+        member = masked[k].member;
+        all_settings(MASKING, masked[k].gates, points[k % 3], 1);
+    }
     printf("%d passed, %d failed\n", passed, failed);
     return failed != 0;
 }

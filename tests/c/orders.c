@@ -4,7 +4,7 @@
 
 #include "plans.h"
 
-enum { PLANS = 600, ORDERS = 20, MOST_SEATS = 7, MOST_GATES = 14, MOST_OUTS = 4, MOST_CALLS = MOST_GATES + 3, LONGEST = BYTES(256), MOST_VIEW = BYTES(2048) };
+enum { PLANS = 700, ORDERS = 20, MOST_SEATS = 7, MOST_GATES = 14, MOST_OUTS = 4, MOST_CALLS = 3 * MOST_GATES + 3, LONGEST = BYTES(256), MOST_VIEW = BYTES(2048) };
 
 static uint8_t plan[256];
 static size_t plan_len;
@@ -41,7 +41,7 @@ static void make_plan(void)
     static const unsigned primes[] = {11, 13, 101, 257, 65521, 65537, MOST_PRIME};
     unsigned points[15], version = 1 + below(VERSIONS);
     seats = 2 + below(MOST_SEATS - 1);
-    unsigned t = 1 + below(seats - 1), p = primes[below(version == 3 ? 7 : 5)], gates = 1 + below(MOST_GATES), outs = 1 + below(MOST_OUTS);
+    unsigned t = 1 + below(seats - 1), p = primes[below(version > 2 ? 7 : 5)], gates = 1 + below(MOST_GATES), outs = 1 + below(MOST_OUTS);
     plan_len = contents_in(version, plan, seats, t, p, gates, outs);
     for (unsigned g = 0; g < gates; g++) {
         unsigned kind = g == 0 ? 1 + 5 * below(2) : 1 + below(6);

@@ -79,14 +79,15 @@ static inline unsigned below(unsigned bound)
 }
 
 /* The versions of a plan file: the bytes of a number of the file, and of its contents. A version with room for a sixth number in its contents has
- * points, one for each party, after the outs. */
-enum { VERSIONS = 3 };
+ * points, one for each party, after the outs. From version MASKING on products are masked and cut off in three rounds; in the versions before they are
+ * dealt anew in one. */
+enum { VERSIONS = 4, MASKING = 4 };
 
 struct version {
     unsigned field, head;
 };
 
-static const struct version versions[VERSIONS + 1] = {[1] = {2, 18}, [2] = {2, 20}, [3] = {4, 32}};
+static const struct version versions[VERSIONS + 1] = {[1] = {2, 18}, [2] = {2, 20}, [3] = {4, 32}, [4] = {4, 32}};
 
 /* The largest plan file that passes, and the largest prime of all versions. */
 #define MOST_PLAN (32 + 10 * 1024 + 3 * 64 + 4 * 15)

@@ -115,7 +115,7 @@ static void refusals(void)
     pointed("twice, next to each other", 7, 40, 40, 26);
     pointed("twice, apart", 7, 40, 7, 26);
     changed("version 0", 4, 0, 2, 0);
-    changed("version 4", 4, 4, 2, 0);
+    changed("version 5", 4, 5, 2, 0);
     changed("version 1 with points", 4, 1, 6, 0);
     changed("the points' offset", 18, 48, 6, 0);
     changed("the gates' offset", 10, 18, 6, 0);

@@ -90,7 +90,7 @@ static void worked(void)
     static const unsigned want[K_SIZE / 4] = {24, 32, 56, 32, 88, 40, 4, 2, 1, 6, 8, 5, 5, 4, 5, 3, 5, 8, 0, 6, 10, 0, 7, 10, 3, 7, 4, 7, 10, 7, 4, 2};
     uint8_t bytes[K_SIZE];
     put_list(bytes, want, K_SIZE / 4);
-    for (unsigned version = 1; version <= VERSIONS; version++) {
+    for (unsigned version = 1; version < MASKING; version++) {
         run_k(version);
         hold("K's record has 128 bytes", stored(&k) == K_SIZE);
         expect_bytes("K's record", record, bytes, K_SIZE);
@@ -430,7 +430,7 @@ static void many_runs(unsigned count)
     static const unsigned large[] = {65537, 1073741827, MOST_PRIME};
     unsigned points[15], matches = 0;
     for (unsigned i = 0; i < count; i++) {
-        unsigned version = 1 + i % VERSIONS, p = version == 3 && below(3) ? large[below(3)] : small_prime();
+        unsigned version = 1 + i % VERSIONS, p = version > 2 && below(3) ? large[below(3)] : small_prime();
         any_plan(&r, version == 2 ? 1 : version, p);
         if (version == 2) {
             pointed = r;

@@ -4,7 +4,7 @@
 
 #include "plans.h"
 
-enum { MOST_GATES = 24, MOST_OUTS = 6, MOST_COINS = BYTES(15 * 14 * MOST_GATES), MOST_VIEW = BYTES(1 << 16), MOST_WRITTEN = BYTES(15 * MOST_GATES) };
+enum { MOST_GATES = 24, MOST_OUTS = 6, MOST_COINS = BYTES(15 * 21 * MOST_GATES), MOST_CALLS = 3 * MOST_GATES + 3, MOST_VIEW = BYTES(1 << 16), MOST_WRITTEN = BYTES(15 * MOST_GATES) };
 
 /* A plan, its figures (a random wire has one of each seat) and coins. */
 struct run {
@@ -51,7 +51,9 @@ static inline unsigned figures_at(const uint8_t *plan, unsigned g, unsigned seat
 static inline unsigned coins_at(const uint8_t *plan, unsigned g, unsigned seat)
 {
     unsigned t = plan[6];
-    return gate_place(plan, g)[0] == 5 ? (seat <= 2 * t + 1 ? t : 0) : t * figures_at(plan, g, seat);
+    if (gate_place(plan, g)[0] != 5)
+        return t * figures_at(plan, g, seat);
+    return plan[4] >= MASKING ? 3 * t : seat <= 2 * t + 1 ? t : 0;
 }
 
 /* A prime above 15 that has room in two bytes. */
@@ -81,7 +83,7 @@ static inline uint64_t bench(const struct run *r, unsigned set, uint8_t *view)
  * and all states and writings of a run, in order. */
 struct seats {
     unsigned n, calls;
-    size_t figures[15], coins[15], state_len, mail[MOST_GATES + 3][15], out[MOST_GATES + 3][15], all_len;
+    size_t figures[15], coins[15], state_len, mail[MOST_CALLS][15], out[MOST_CALLS][15], all_len;
     uint8_t own[15][MOST_COINS + BYTES(MOST_GATES)], state[15][BYTES(MOST_GATES + 1)], written[15][MOST_WRITTEN], all[1 << 20];
 };
 

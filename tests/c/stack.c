@@ -10,8 +10,8 @@
 
 enum { GATES = 1024, OUTS = 64, PAGE = 4096, PAINT = 0xa5 };
 
-static uint8_t plan[MOST_PLAN], figures[BYTES(15 * GATES)], coins[BYTES(220000)], buffer[BYTES(500000)];
-static uint8_t stored[BYTES(500000)];
+static uint8_t plan[MOST_PLAN], figures[BYTES(15 * GATES)], coins[BYTES(330000)], buffer[BYTES(1100000)];
+static uint8_t stored[BYTES(1100000)];
 static uint8_t state[BYTES(2 * GATES)], mail[BYTES(20000)], written[BYTES(20000)];
 static size_t plan_len;
 
@@ -140,11 +140,11 @@ static uint64_t small(void)
     return refusals;
 }
 
-/* The largest plans of versions 1 and 2; one of version 3 is refused. */
+/* The largest plans of versions 1 and 2; others are refused. */
 static uint64_t convert(void)
 {
     uint64_t size = pool_convert_size(plan, plan_len);
-    if (plan[4] == 3)
+    if (plan[4] > 2)
         return POOL_REFUSAL(size) - 2 + POOL_REFUSAL(pool_convert(plan, plan_len, buffer, plan_len)) - 2;
     return POOL_REFUSAL(size) + pool_convert(plan, plan_len, buffer, POOL_VALUE(size));
 }

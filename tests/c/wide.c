@@ -63,7 +63,8 @@ static void changed(const char *what, size_t at, unsigned width, unsigned v, uns
 static void layout(void)
 {
     changed("K", 7, 1, 0, 0, 0);
-    changed("version 4", 4, 1, 4, 2, 0);
+    changed("version 4 has this layout", 4, 1, 4, 0, 0);
+    changed("version 5", 4, 1, 5, 2, 0);
     changed("version 0", 4, 1, 0, 2, 0);
     changed("byte 7", 7, 1, 1, 6, 0);
     changed("the gates' offset of version 2", 12, 4, 20, 6, 0);
@@ -124,7 +125,7 @@ static void cut(void)
         expect("4 before 5", pool_plan_check(k, at), at < 18 ? 1 : 4, 0);
         k[5] = 16;
         expect("3 before 4", pool_plan_check(k, at), at < 18 ? 1 : 3, 0);
-        k[4] = 4;
+        k[4] = 5;
         expect("2 before 3", pool_plan_check(k, at), at < 18 ? 1 : 2, 0);
     }
     wide_k(k);
@@ -262,7 +263,7 @@ static void many_plans(unsigned count)
         uint64_t value[MOST_GATES];
         unsigned p = primes[below(7)];
         do
-            any_plan(&r, 3, p);
+            any_plan(&r, 3 + k % 2, p);
         while (r.plan[6] == 0);
         any_points(points, r.plan[5], p);
         for (unsigned i = 0; i < r.plan[5]; i++)

@@ -1,5 +1,5 @@
 /* pool_bench: the table of shares, every multiply on its grid of pieces, and the members' view, written as the pieces are dealt. */
-#include "limit.h"
+#include "lanes.h"
 
 /* A member, and where its next numbers go. */
 struct member {
@@ -15,13 +15,13 @@ static size_t part_view(const struct shape *s, u16 set, u8 *view, struct member 
         if (!(set >> (seat - 1) & 1))
             continue;
         struct member *m = members + (*count)++;
-        size_t own = s->inputs_of[seat], dealings = own + (seat <= s->dealers ? s->multiplies : 0);
+        size_t own = s->inputs_of[seat], coins = s->t * own + (seat <= s->dealers ? product_coins(s) * s->multiplies : 0);
         m->seat = seat;
         m->figures = at;
         m->coins = m->figures + 4 * own;
-        m->inputs = m->coins + 4 * s->t * dealings;
+        m->inputs = m->coins + 4 * coins;
         m->pieces = m->inputs + 4 * s->inputs;
-        m->outs = m->pieces + 4 * (size_t)s->dealers * s->multiplies;
+        m->outs = m->pieces + 4 * product_pieces(s) * s->multiplies;
         at = m->outs + 4 * (s->n + 1) * s->outs_of[seat];
     }
     return (size_t)(at - view);
@@ -41,6 +41,102 @@ static void see_grid(const struct shape *s, struct member *m, const u8 *coins, r
     for (unsigned d = 0; d < s->dealers; d++)
         put4(m->pieces + 4 * d, column[16 * d]);
     m->pieces += 4 * s->dealers;
+}
+
+/* ---- products of version 4 */
+
+/* The members' points, a lane each: their powers. */
+struct lanes {
+    row powers[16], high_powers[16];
+    unsigned vectors;
+};
+
+static void fill_lanes(const struct shape *s, const struct masking *m, const struct member *members, unsigned count, struct lanes *l)
+{
+    memset(l, 0, sizeof *l);
+    l->vectors = (count + 1) / 2;
+    for (unsigned k = 0; k <= 2 * s->t; k++)
+        for (unsigned i = 0; i < count; i++) {
+            l->powers[k][i] = m->powers[k][members[i].seat - 1];
+            l->high_powers[k][i] = m->high_powers[k][members[i].seat - 1];
+        }
+}
+
+/* The members' pieces of all seats' dealings of so many coins. */
+INLINE void see_dealings(const struct shape *s, const struct lanes *l, struct member *members, unsigned count, const u64 *values, const u8 *coins,
+    unsigned terms, int wide)
+{
+    const struct reducing by = reducing_by(&s->f);
+    for (unsigned d = 0; d < s->n; d++, coins += 12 * s->t) {
+        V pieces[8];
+        row piece;
+        for (unsigned v = 0; v < l->vectors; v++)
+            pieces[v] = all(values ? values[d] : 0);
+        for (unsigned k = 0; k < terms; k++) {
+            u32 coin = get4(coins + 4 * k);
+            for (unsigned v = 0; v < l->vectors; v++)
+                pieces[v] = with_number(pieces[v], coin, load(l->powers[k + 1] + 2 * v), load(l->high_powers[k + 1] + 2 * v), wide);
+        }
+        for (unsigned v = 0; v < l->vectors; v++)
+            store(piece + 2 * v, reduced(&by, pieces[v], wide));
+        for (unsigned i = 0; i < count; i++)
+            put4(members[i].pieces + 4 * d, piece[i]);
+    }
+    for (unsigned i = 0; i < count; i++)
+        members[i].pieces += 4 * s->n;
+}
+
+/* The parts of a member's share: the masked products' polynomials, weighed by its row of the matrix, at all points. */
+INLINE void see_parts(const struct shape *s, const struct masking *m, struct member *member, const u64 *masked, const u8 *coins, int wide)
+{
+    const unsigned terms = (s->t + 2) / 2, vectors = (s->n + 1) / 2;
+    const struct reducing by = reducing_by(&s->f);
+    V sums[8], parts[8];
+    row sum, part;
+    for (unsigned k = 0; k < terms; k++)
+        sums[k] = _mm_setzero_si128();
+    for (unsigned d = 0; d < s->n; d++, coins += 12 * s->t) {
+        V w = all(m->matrix[d][member->seat - 1]), high_w = all(m->high_matrix[d][member->seat - 1]);
+        for (unsigned k = 0; k < terms; k++)
+            sums[k] = with_product(sums[k], terms_of(masked[d], coins, s->t, k), w, high_w, wide);
+    }
+    for (unsigned k = 0; k < terms; k++)
+        store(sum + 2 * k, reduced(&by, sums[k], wide));
+    for (unsigned v = 0; v < vectors; v++)
+        parts[v] = all(sum[0]);
+    for (unsigned k = 1; k <= s->t; k++)
+        for (unsigned v = 0; v < vectors; v++)
+            parts[v] = with_number(parts[v], sum[k], load(m->powers[k] + 2 * v), load(m->high_powers[k] + 2 * v), wide);
+    for (unsigned v = 0; v < vectors; v++)
+        store(part + 2 * v, reduced(&by, parts[v], wide));
+    for (unsigned j = 0; j < s->n; j++)
+        put4(member->pieces + 4 * j, part[j]);
+    member->pieces += 4 * s->n;
+}
+
+INLINE void see_product(const struct shape *s, const struct masking *m, const struct lanes *l, struct member *members, unsigned count,
+    const u64 *masked, const u8 *coins, int wide)
+{
+    for (unsigned i = 0; i < count; i++)
+        copy(&members[i].coins, coins + 12 * s->t * (members[i].seat - 1), 12 * s->t);
+    see_dealings(s, l, members, count, NULL, coins, 2 * s->t, wide);
+    see_dealings(s, l, members, count, masked, coins + 8 * s->t, s->t, wide);
+    for (unsigned i = 0; i < count; i++)
+        see_parts(s, m, members + i, masked, coins + 8 * s->t, wide);
+}
+
+static void masked_product(const struct shape *s, const struct masking *m, const struct lanes *l, struct member *members, unsigned count,
+    const u64 *a, const u64 *b, const u8 *coins, u64 *to)
+{
+    row masked = {0};
+    for (unsigned j = 0; j < s->n; j++)
+        masked[j] = mul(&s->f, a[j], b[j]);
+    mask_row(s, m, masked, coins, masked);
+    if (s->f.wide)
+        see_product(s, m, l, members, count, masked, coins, 1);
+    else
+        see_product(s, m, l, members, count, masked, coins, 0);
+    cut_off_row(s, m, masked, to);
 }
 
 /* Each sender's inputs in turn. */
@@ -86,10 +182,19 @@ static void see_outs(const struct shape *s, const struct tables *x, struct membe
 static void work_gates(const struct shape *s, const struct tables *x, const u8 *figures, const u8 *coins, struct member *members, unsigned count,
     row *table)
 {
+    static __thread struct masking m;
+    struct lanes l;
     row grid[15];
+    if (s->masks && s->multiplies) {
+        fill_masking(s, &m);
+        fill_lanes(s, &m, members, count, &l);
+    }
     for (unsigned g = 0; g < s->gates; g++) {
         const u8 *gate = gate_at(s, g);
-        if (gate[0] == 5) {
+        if (gate[0] == 5 && s->masks) {
+            masked_product(s, &m, &l, members, count, table[field_a(s, gate)], table[field_b(s, gate)], coins, table[g]);
+            coins += 12 * s->t * s->n;
+        } else if (gate[0] == 5) {
             multiply_on_grid(s, x, table[field_a(s, gate)], table[field_b(s, gate)], coins, grid, table[g]);
             for (unsigned i = 0; i < count; i++)
                 see_grid(s, members + i, coins, grid);
@@ -136,8 +241,8 @@ u64 limit_bench(const u8 *plan, size_t plan_len, u16 set, const u8 *figures, siz
     struct tables x;
     if (read_shape(plan, plan_len, &s) || set >> s.n || (unsigned)__builtin_popcount(set) > s.t)
         return 1;
-    size_t dealings = s.inputs + (size_t)s.dealers * s.multiplies;
-    if (wrong_list(figures, figures_len, s.inputs, (u32)s.f.p) || wrong_list(coins, coins_len, s.t * dealings, (u32)s.f.p) ||
+    size_t dealings = s.inputs + product_pieces(&s) * s.multiplies;
+    if (wrong_list(figures, figures_len, s.inputs, (u32)s.f.p) || wrong_list(coins, coins_len, all_coins(&s), (u32)s.f.p) ||
         view_size(&s, set) != view_len)
         return 1;
     fill_tables(&s, &x);

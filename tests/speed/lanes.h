@@ -85,6 +85,14 @@ INLINE V load_numbers(const u8 *at)
     return _mm_unpacklo_epi32(_mm_loadl_epi64((const __m128i *)at), _mm_setzero_si128());
 }
 
+/* Coefficients 2k and 2k + 1 of a dealing's polynomial; nothing is read past its coins. */
+INLINE V terms_of(u64 value, const u8 *coins, unsigned t, unsigned k)
+{
+    if (k == 0)
+        return t == 0 ? _mm_set_epi64x(0, (long long)value) : _mm_set_epi64x(get4(coins), (long long)value);
+    return 2 * k < t ? load_numbers(coins + 4 * (2 * k - 1)) : _mm_cvtsi32_si128((int)get4(coins + 4 * (2 * k - 1)));
+}
+
 INLINE void store_numbers(u8 *at, V x)
 {
     _mm_storel_epi64((__m128i *)at, _mm_shuffle_epi32(x, 8));

@@ -1,6 +1,6 @@
 /* What the library is timed against: its calls written by hand in C, for plain x86-64 with explicit vectors. On a call without a fault they write the
  * bytes that the library writes and answer what it answers. They look for every fault that it looks for, but do not tell one from another: the
- * answer is 1 then. */
+ * answer is 1 then. Plans with random wires are checked alone: the other calls answer 1 for them. */
 #ifndef LIMIT_H
 #define LIMIT_H
 
@@ -113,11 +113,12 @@ void weights(const struct field *f, const u32 *points, unsigned count, u64 *w);
 /* A plan that passes, and its gates counted. */
 struct shape {
     struct field f;
-    unsigned n, t, dealers, gates, outs; /* the dealers are 2t + 1, or none where nothing is multiplied */
+    unsigned n, t, dealers, gates, outs; /* the dealers are 2t + 1, in version 4 all, or none where nothing is multiplied */
+    int masks;                           /* version 4: products are masked and cut off */
     unsigned width, gate;                /* the bytes of a number of the file, and of a gate */
     const u8 *gates_at, *outs_at;
     u32 points[16];
-    unsigned inputs, multiplies, own;    /* the last: inputs of the seat that was asked for */
+    unsigned inputs, multiplies, draws, own; /* the last: inputs of the seat that was asked for */
     unsigned inputs_of[16], outs_of[16]; /* by seat, from 1 on */
 };
 
@@ -126,6 +127,28 @@ int read_plan(const u8 *plan, size_t plan_len, unsigned seat, struct shape *s);
 int read_shape(const u8 *plan, size_t plan_len, struct shape *s);
 void count_inputs(struct shape *s);
 void count_outs(struct shape *s);
+
+/* The coins of a dealer at a multiply, the rounds that it takes, and the pieces that each seat receives for it. */
+INLINE size_t product_coins(const struct shape *s)
+{
+    return s->masks ? 3 * s->t : s->t;
+}
+
+INLINE unsigned product_rounds(const struct shape *s)
+{
+    return s->masks ? 3 : 1;
+}
+
+INLINE size_t product_pieces(const struct shape *s)
+{
+    return (size_t)product_rounds(s) * s->dealers;
+}
+
+/* All coins of a plan. */
+INLINE size_t all_coins(const struct shape *s)
+{
+    return (size_t)s->t * s->inputs + product_coins(s) * s->dealers * s->multiplies;
+}
 
 INLINE const u8 *gate_at(const struct shape *s, unsigned g)
 {
@@ -160,6 +183,23 @@ struct tables {
 };
 
 void fill_tables(const struct shape *s, struct tables *x);
+
+/* What the products of version 4 take besides: the powers of the points up to 2t, the coefficients of the basis polynomials, a row for each point, and
+ * the matrix, a row for each of its columns; each with 2^16 times the same. */
+struct masking {
+    row powers[16], high_powers[16], basis[16], high_basis[16], matrix[16], high_matrix[16];
+};
+
+void fill_masking(const struct shape *s, struct masking *m);
+
+/* The coefficients of the basis polynomials of the points, from that of X^0, a row for each point. */
+void basis_rows(const struct shape *s, row *to);
+
+/* The masked products from the seats' own: all zeros' values at the points are added. */
+void mask_row(const struct shape *s, const struct masking *m, const u64 *products, const u8 *coins, u64 *to);
+
+/* The wire's row from the masked products. */
+void cut_off_row(const struct shape *s, const struct masking *m, const u64 *masked, u64 *to);
 
 /* A dealing's pieces. */
 void deal_row(const struct shape *s, const struct tables *x, u64 value, const u8 *coins, u64 *to);

@@ -75,7 +75,9 @@ static int differ(const struct shape *s, u16 set, const u8 *first, const u8 *sec
 /* Both runs. */
 struct runs {
     const struct shape *s;
+    u16 set;
     struct tables x;
+    struct masking m;
     struct delta d;
     row *first, *second;
 };
@@ -135,6 +137,43 @@ INLINE void match_product(const struct runs *r, const struct reducing *by, unsig
         move_coins(r, by, changes[i], coins + 4 * s->t * i, to + 4 * s->t * i, wide);
 }
 
+/* The coefficients of the polynomial through the products' changes, from that of X^0. */
+INLINE void change_of(const struct runs *r, const struct reducing *by, const u64 *changes, u64 *to, int wide)
+{
+    const unsigned vectors = (r->s->n + 1) / 2;
+    V sums[8];
+    for (unsigned v = 0; v < vectors; v++)
+        sums[v] = _mm_setzero_si128();
+    for (unsigned i = 0; i < r->s->n; i++)
+        for (unsigned v = 0; v < vectors; v++)
+            sums[v] = with_number(sums[v], changes[i], load(r->m.basis[i] + 2 * v), load(r->m.high_basis[i] + 2 * v), wide);
+    for (unsigned v = 0; v < vectors; v++)
+        store(to + 2 * v, reduced(by, sums[v], wide));
+}
+
+/* Version 4: the lowest non-member's zeros take up the change but for its value times delta, by which the masked products' dealings then move. */
+INLINE void match_masked(const struct runs *r, const struct reducing *by, unsigned g, const u8 *coins, u8 *to, int wide)
+{
+    const struct shape *s = r->s;
+    const u8 *gate = gate_at(s, g);
+    const size_t own = 12 * s->t;
+    const unsigned lowest = (unsigned)__builtin_ctz(~(unsigned)r->set);
+    row dealt = {0}, changes = {0}, masked, change;
+    changes_of(r, by, field_a(s, gate), field_b(s, gate), dealt, changes, wide);
+    change_of(r, by, changes, change, wide);
+    mask_row(s, &r->m, dealt, coins, masked);
+    cut_off_row(s, &r->m, masked, r->first[g]);
+    move_row(r, by, g, change[0], wide);
+    for (unsigned i = 0; i < s->n; i++) {
+        memcpy(to + own * i, coins + own * i, 8 * s->t);
+        move_coins(r, by, mul(&s->f, change[0], r->d.at[i]), coins + own * i + 8 * s->t, to + own * i + 8 * s->t, wide);
+    }
+    for (unsigned k = 0; k < 2 * s->t; k++) {
+        u64 kept = k < s->t ? mul(&s->f, change[0], r->d.terms[k]) : 0;
+        put4(to + own * lowest + 4 * k, add(&s->f, get4(coins + own * lowest + 4 * k), sub(&s->f, kept, change[k + 1])));
+    }
+}
+
 INLINE void match_gates(const struct runs *r, const u8 *first, const u8 *second, const u8 *coins, u8 *matched, int wide)
 {
     const struct shape *s = r->s;
@@ -143,8 +182,11 @@ INLINE void match_gates(const struct runs *r, const u8 *first, const u8 *second,
         const u8 *gate = gate_at(s, g);
         size_t taken = 0;
         if (gate[0] == 5) {
-            match_product(r, &by, g, coins, matched, wide);
-            taken = 4 * s->t * s->dealers;
+            if (s->masks)
+                match_masked(r, &by, g, coins, matched, wide);
+            else
+                match_product(r, &by, g, coins, matched, wide);
+            taken = 4 * product_coins(s) * s->dealers;
         } else if (gate[0] == 1) {
             u64 change = sub(&s->f, get4(second), get4(first));
             deal_row(s, &r->x, get4(first), coins, r->first[g]);
@@ -167,16 +209,21 @@ u64 limit_match(const u8 *plan, size_t plan_len, u16 set, const u8 *first, size_
 {
     static __thread row tables[2][1024];
     struct shape s;
-    struct runs r = {.s = &s, .first = tables[0], .second = tables[1]};
+    struct runs r;
+    r.s = &s;
+    r.set = set;
+    r.first = tables[0];
+    r.second = tables[1];
     if (read_shape(plan, plan_len, &s) || set >> s.n || (unsigned)__builtin_popcount(set) > s.t)
         return 1;
     u32 p = (u32)s.f.p;
-    size_t dealings = s.inputs + (size_t)s.dealers * s.multiplies;
-    if (wrong_list(first, first_len, s.inputs, p) || wrong_list(second, second_len, s.inputs, p) || wrong_list(coins, coins_len, s.t * dealings, p) ||
+    if (wrong_list(first, first_len, s.inputs, p) || wrong_list(second, second_len, s.inputs, p) || wrong_list(coins, coins_len, all_coins(&s), p) ||
         matched_len != coins_len || differ(&s, set, first, second))
         return 1;
     fill_tables(&s, &r.x);
     fill_delta(&s, &r.x, set, &r.d);
+    if (s.masks && s.multiplies)
+        fill_masking(&s, &r.m);
     if (s.f.wide)
         match_gates(&r, first, second, coins, matched, 1);
     else

@@ -54,7 +54,7 @@ static int is_prime(u32 p)
 INLINE unsigned wrong_gates(struct shape *s, unsigned seat, unsigned width)
 {
     const u8 *at = s->gates_at;
-    unsigned wrong = 0, multiplies = 0, inputs = 0, own = 0, gates = s->gates, n = s->n;
+    unsigned wrong = 0, multiplies = 0, inputs = 0, draws = 0, own = 0, gates = s->gates, n = s->n;
     u32 p = (u32)s->f.p;
     for (unsigned g = 0; g < gates; g++, at += 2 + 2 * width) {
         unsigned kind = at[0];
@@ -67,12 +67,16 @@ INLINE unsigned wrong_gates(struct shape *s, unsigned seat, unsigned width)
             wrong |= (a - 1 >= n) | b;
             inputs++;
             own += a == seat;
+        } else if (kind == 6) {
+            wrong |= (a | b) != 0;
+            draws++;
         } else {
             wrong |= (kind - 2 >= 3) | (a >= g) | (b >= (kind == 2 ? g : p));
         }
     }
     s->multiplies = multiplies;
     s->inputs = inputs;
+    s->draws = draws;
     s->own = own;
     return wrong;
 }
@@ -91,9 +95,9 @@ static unsigned wrong_points(struct shape *s, const u8 *at)
 
 int read_plan(const u8 *plan, size_t len, unsigned seat, struct shape *s)
 {
-    if (len < 18 || memcmp(plan, "POOL", 4) || plan[4] < 1 || plan[4] > 3 || plan[5] < 1 || plan[5] > 15 || plan[6] >= plan[5])
+    if (len < 18 || memcmp(plan, "POOL", 4) || plan[4] < 1 || plan[4] > 4 || plan[5] < 1 || plan[5] > 15 || plan[6] >= plan[5])
         return 1;
-    unsigned width = plan[4] == 3 ? 4 : 2, head = plan[4] == 1 ? 18 : plan[4] == 2 ? 20 : 32, n = plan[5], wrong;
+    unsigned width = plan[4] > 2 ? 4 : 2, head = plan[4] == 1 ? 18 : plan[4] == 2 ? 20 : 32, n = plan[5], wrong;
     u32 p = get_of(plan + 8, width);
     if (p <= n || p > 2147483647 || !is_prime(p) || len < head || plan[7])
         return 1;
@@ -104,7 +108,7 @@ int read_plan(const u8 *plan, size_t len, unsigned seat, struct shape *s)
     u32 points_at = outs_at + 3 * outs;
     if (len != points_at + (plan[4] == 1 ? 0 : width * n) || (plan[4] != 1 && get_of(plan + 8 + 5 * width, width) != points_at))
         return 1;
-    *s = (struct shape){.f = field_of(p), .n = n, .t = plan[6], .gates = gates, .outs = outs, .width = width, .gate = 2 + 2 * width,
+    *s = (struct shape){.f = field_of(p), .n = n, .t = plan[6], .masks = plan[4] == 4, .gates = gates, .outs = outs, .width = width, .gate = 2 + 2 * width,
         .gates_at = plan + head, .outs_at = plan + outs_at};
     wrong = width == 2 ? wrong_gates(s, seat, 2) : wrong_gates(s, seat, 4);
     for (unsigned o = 0; o < outs; o++)
@@ -112,7 +116,7 @@ int read_plan(const u8 *plan, size_t len, unsigned seat, struct shape *s)
     wrong |= s->multiplies && 2 * s->t >= n;
     for (unsigned i = 0; i < n; i++)
         s->points[i] = i + 1;
-    s->dealers = s->multiplies ? 2 * s->t + 1 : 0;
+    s->dealers = !s->multiplies ? 0 : s->masks ? n : 2 * s->t + 1;
     return wrong || (plan[4] != 1 && wrong_points(s, plan + points_at));
 }
 
@@ -141,7 +145,7 @@ void count_outs(struct shape *s)
 
 int read_shape(const u8 *plan, size_t plan_len, struct shape *s)
 {
-    if (read_plan(plan, plan_len, 0, s))
+    if (read_plan(plan, plan_len, 0, s) || s->draws)
         return 1;
     count_inputs(s);
     count_outs(s);

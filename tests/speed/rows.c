@@ -13,7 +13,7 @@ void fill_tables(const struct shape *s, struct tables *x)
             x->high_powers[k][j] = red(&s->f, v << 16);
         }
     }
-    if (s->dealers)
+    if (s->dealers && !s->masks)
         weights(&s->f, s->points, s->dealers, x->w);
     for (unsigned d = 0; d < s->dealers; d++)
         x->high_w[d] = red(&s->f, x->w[d] << 16);
@@ -75,14 +75,6 @@ INLINE void grid_gate(const struct shape *s, const struct tables *x, const u64 *
         }
     }
     EACH(v) store(to + 2 * v, reduced(&by, sums[v], wide));
-}
-
-/* Coefficients 2k and 2k + 1 of a dealing's polynomial; nothing is read past its coins. */
-INLINE V terms_of(u64 value, const u8 *coins, unsigned t, unsigned k)
-{
-    if (k == 0)
-        return t == 0 ? _mm_set_epi64x(0, (long long)value) : _mm_set_epi64x(get4(coins), (long long)value);
-    return 2 * k < t ? load_numbers(coins + 4 * (2 * k - 1)) : _mm_cvtsi32_si128((int)get4(coins + 4 * (2 * k - 1)));
 }
 
 INLINE void gate_at_once(const struct shape *s, const struct tables *x, const u64 *dealt, const u8 *coins, u64 *to, unsigned t, unsigned lanes, int wide)

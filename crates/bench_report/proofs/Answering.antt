@@ -12,7 +12,7 @@ use mathlib.Core.List.{List, [], ◌∷◌, Memᴰ}
 use Prim.Native.Nat.{ℕ, ◌+◌, ◌-◌, ◌*◌, ◌/◌, ◌%◌, ◌^◌, ◌<◌, ◌≤◌, min}
 use native.Mathlib.Omega.{arith}
 use borrow.Author.Rules.{rules}
-use borrow.Author.Tests.{ne_eqb, lt-ltb, le-ltb, ltb-false}
+use borrow.Author.Tests.{not-true, not-false, ne_eqb, lt-ltb, le-ltb, ltb-false}
 use Rattle.std.proofs.lemmas.List.{take_min, drop_min}
 use Rattle.std.proofs.lemmas.Bool.{or_parts}
 use lib.Dec.{eqb, ltb}
@@ -33,14 +33,15 @@ use Rattle.plan.specs.Refusals.{first_of, number_of, place_of}
 use Rattle.plan.specs.Plans.{Plan, party_count, kind_count, input_count, coin_count, sent_count}
 use Rattle.plan.specs.File.{between, plan_of, plan_check, plan_checks}
 use Rattle.plan.specs.Planned.{Planned}
-use Rattle.plan_coalition.specs.Coalitions.{members, set_fits}
-use Rattle.plan.proofs.Refusals.{and_then_passed, and_then_refused, first_of-append}
-use Rattle.plan.proofs.Planned.{plan_p, plan_n}
+use Rattle.plan_coalition.specs.Coalitions.{members, set_fits, set_ok}
+use Rattle.plan.proofs.Refusals.{and_then_passed, and_then_refused, first_of-append, need-false}
+use Rattle.plan.proofs.Planned.{plan_p, plan_n, plan_t}
 use Rattle.plan.proofs.Ranges.{contains_is}
 use Rattle.plan.proofs.Valid.{valid, plain, plain_no_7}
-use Rattle.plan_coalition.proofs.Coalitions.{member_party}
+use Rattle.plan_coalition.proofs.Coalitions.{set_ok_lem, member_party, member_most}
 use Rattle.seat_messages.specs.Calls.{unless_refused}
 use Rattle.run_protocol.specs.Rounds.{view, view_count}
+use Rattle.run_protocol.proofs.Few.{few-plan, views-most}
 use Rattle.run_dealings.specs.Rows.{Given}
 use Rattle.run_bench.specs.BenchCalls.{run_checks, bench_answer, benched_of, view_after}
 use Rattle.run_bench.proofs.BenchLaws.{passed-set, passed-given}
@@ -129,11 +130,35 @@ rest_all m l = take_all (length l - m) (drop m l) (omega (arith, length-drop m l
 pub front_long : (m : ℕ) (l : List ℕ) → m ≤ length l → m ≡ length (take m l)
 front_long m l h = sym (length-take-le m l h)
 
-pub view_long : (k : ℕ) (v : List ℕ) → k ≤ 1097728 → 4390912 ≤ length v → width * k ≡ length (take (width * k) v)
-view_long k v h l = sym (length-take-le (width * k) v (omega arith))
+module _ (bs : List ℕ) (h : Header) (p : Planned bs h) (set : ℕ) (t : Bool) (et : t ≡ set_fits h.n h.t set) where
+  -- 9 comes first of a run's refusals
+  pub set_refused_lines :
+      t ≡ false → (list : List ℕ) (at e : ℕ) (x u : List ℕ) → Put (line refused_word (number_of refusal.Coalition ∷ place_of refusal.Coalition ∷ [])) at x u e
+      → Put (listed bs set list) at x u e
+  unfolding listed answered run_checks first_of
+  set_refused_lines f list at e x u w =
+      let figures : List ℕ = take (width * input_count (plan_of bs)) list in
+      let coins : List ℕ = drop (width * input_count (plan_of bs)) list in
+      let room : ℕ = width * view_count (plan_of bs) (members set) in
+      let c : bench_answer bs set figures coins room ≡ Err refusal.Coalition =
+      past_plan bs h set figures coins room p
+      ∙ and_then_refused _ _ refusal.Coalition (need-false refusal.Coalition (set_ok (plan_of bs) set) (sym (et ∙ set_ok_lem bs h set p) ∙ f)) in
+      put_as _ _ at e x u (refused_lines _ refusal.Coalition (plan_of bs) set (numbers figures) (numbers coins) c) w
 
-pub view_sized : (k n : ℕ) (v : List ℕ) → k ≡ n → k ≤ 1097728 → 4390912 ≤ length v → length (take (width * k) v) ≡ width * n
-view_sized k n v e h l = length-take-le (width * k) v (omega arith) ∙ ap (λ (x : ℕ). width * x) e
+  -- of at most t members a view has room
+  module _ (y : t ≡ true) (k : ℕ) (ek : k ≡ view_count (plan_of bs) (members set)) where
+    view_few : k ≤ 524288
+    view_few =
+        omega (arith, ek, views-most (plan_of bs) (few-plan bs p.passes) (members set) (omega (arith, member_most h.n h.t set (sym et ∙ y), plan_t p)))
+
+    pub view_within : (v : List ℕ) → length v ≡ 2097152 → width * k ≤ length v
+    view_within v l = omega (arith, view_few)
+
+    pub view_sized : (v : List ℕ) → length v ≡ 2097152 → length (take (width * k) v) ≡ width * view_count (plan_of bs) (members set)
+    view_sized v l = length-take-le (width * k) v (view_within v l) ∙ ap (λ (x : ℕ). width * x) ek
+
+    pub view_long : (v : List ℕ) → length v ≡ 2097152 → width * k ≡ length (take (width * k) v)
+    view_long v l = sym (length-take-le (width * k) v (view_within v l))
 
 pub split_lines : (bs : List ℕ) (set : ℕ) (list : List ℕ) (k m at e : ℕ) (t u : List ℕ) → k ≡ input_count (plan_of bs) → m ≡ min (width * k) (length list)
     → Put (answered bs set (take m list) (take (length list - m) (drop m list))) at t u e → Put (listed bs set list) at t u e
@@ -141,7 +166,7 @@ unfolding listed
 split_lines bs set list k m at e t u ek em w =
     rw (← ek, ← take_min (width * k) list, ← drop_min (width * k) list, ← em, ← rest_all m list) w
 
-pub ruleset splitting = (rules, front_long, view_long, view_sized, split_lines)
+pub ruleset splitting = (rules, not-true, not-false, front_long, set_refused_lines, view_within, view_long, view_sized, split_lines)
 
 -- ---- the plan's refusal
 pub plan_refused_lines :

@@ -33,14 +33,19 @@ fn put_benched(
     }
 }
 
-// The text of a bench run of a plan that passes: the list's first numbers, as many as a run of it has figures, are these.
+// The text of a bench run of a plan that passes: the list's first numbers, as many as a run of it has figures, are these. Of a set that passes the
+// view has room.
 // As it is: text, plan, set and list go from `put_answer`, which reads the plan, through `put_planned`, which makes room for the view, to here, where
 // the list is split; a struct of them would be made in the first and taken apart here.
 #[tactic(auto, using(crate::proofs::Answering::splitting))]
-fn put_listed(text: &mut Text, plan: &PlanFile, set: u16, list: &[u8], view: &mut [u8; 4390912])
+fn put_listed(text: &mut Text, plan: &PlanFile, set: u16, list: &[u8], view: &mut [u8; 2097152])
     ensures same { text.new.room.ghost_name ≡ text.old.room.ghost_name }
     ensures put { Put (listed plan.now.bytes.now set list.now) text.old.written text.old.room.now text.new.room.now text.new.written }
 {
+    let h = plan.header;
+    if !plan_coalition::set_ok(h.n, h.t, set) {
+        return bench_lines::put_refused(text, Refusal::Coalition);
+    }
     let size = numbers::WIDTH * run_bench::checking::view_count(plan, set);
     let m = (numbers::WIDTH * plan_counts::input_count(plan)).min(list.len());
     put_benched(text, plan, set, &list[..m], &list[m..], &mut view[..size]);
@@ -52,7 +57,7 @@ fn put_planned(text: &mut Text, plan: &PlanFile, set: u16, list: &[u8])
     ensures same { text.new.room.ghost_name ≡ text.old.room.ghost_name }
     ensures put { Put (listed plan.now.bytes.now set list.now) text.old.written text.old.room.now text.new.room.now text.new.written }
 {
-    let mut view = [0u8; 4390912];
+    let mut view = [0u8; 2097152];
     put_listed(text, plan, set, list, &mut view);
 }
 

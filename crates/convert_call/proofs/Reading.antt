@@ -1,5 +1,5 @@
 -- A plan of version 1 or 2 is read as any other.
---     old-same      its checks are those of a plan, where the version is not 3
+--     old-same      its checks are those of a plan, where the version is not 3 or 4
 --     versions      what closes the needs of the reader
 -- Assumes nothing.
 use Rattle.std.proofs.Common.{Ok, Err}
@@ -9,9 +9,8 @@ use mathlib.Core.Bool.{Bool, true, false, ◌&&◌}
 use mathlib.Core.List.{List}
 use native.Mathlib.Omega.{arith}
 use borrow.Author.Rules.{rules}
-use borrow.Author.Tests.{clash, le-leb, lt-leb, eqb-true, eqb-false}
-use native.Mathlib.Decide.{dec_le}
-use lib.Dec.{eqb, leb}
+use borrow.Author.Tests.{clash, le-leb, lt-leb, leb-true, leb-false}
+use lib.Dec.{leb}
 use lib.ListN.{length, take, drop}
 use Rattle.numbers.proofs.Truth.{both_true}
 use Rattle.plan.specs.declared.Header.{Header}
@@ -37,19 +36,22 @@ module _ (bs : List ℕ) where
   unfolding old_checks plan_checks first_of rest
   old-is = refl
 
-  plan-is : plan_check bs ≡ and_then (need refusal.Magic begun) (and_then (need refusal.Version (between 1 3 (version_at bs))) rest)
+  plan-is : plan_check bs ≡ and_then (need refusal.Magic begun) (and_then (need refusal.Version (between 1 4 (version_at bs))) rest)
   unfolding plan_check plan_checks first_of rest
   plan-is = refl
 
-  same-range : (v : ℕ) → (v ≡ 3 → ⊥) → between 1 2 v ≡ between 1 3 v
+  same-range : (v : ℕ) → between 3 4 v ≡ false → between 1 2 v ≡ between 1 4 v
   unfolding between
-  same-range v h = ap (λ (b : Bool). leb 1 v && b) (by (dec_le v 2))
+  same-range v h = ap (λ (b : Bool). leb 1 v && b) (by (leb v 2) (leb 3 v) (leb v 4) refl refl refl h)
     where
-      by : Dec (v ≤ 2) → leb v 2 ≡ leb v 3
-      by (yes l) = le-leb v 2 l ∙ sym (le-leb v 3 (omega arith))
-      by (no l) = lt-leb v 2 (omega arith) ∙ sym (lt-leb v 3 (omega (arith, h)))
+      by : (a b c : Bool) → leb v 2 ≡ a → leb 3 v ≡ b → leb v 4 ≡ c → (b && c) ≡ false → a ≡ c
+      by true b true e f g h = refl
+      by true b false e f g h = absurd (omega (arith, leb-true v 2 e, leb-false v 4 g))
+      by false true true e f g h = absurd (clash (sym h))
+      by false true false e f g h = refl
+      by false false c e f g h = absurd (omega (arith, leb-false v 2 e, leb-false 3 v f))
 
-  old-same : (version_at bs ≡ 3 → ⊥) → first_of (old_checks bs) ≡ plan_check bs
+  old-same : between 3 4 (version_at bs) ≡ false → first_of (old_checks bs) ≡ plan_check bs
   old-same h = old-is ∙ ap (λ (b : Bool). and_then (need refusal.Magic begun) (and_then (need refusal.Version b) rest)) (same-range (version_at bs) h) ∙ sym plan-is
 
   -- a plan that passes has version 1 or 2
@@ -59,7 +61,11 @@ module _ (bs : List ℕ) where
       passed-need refusal.Version _ (passed_both (need refusal.Version (between 1 2 (version_at bs))) rest a.1).0
 
   old-passed : first_of (old_checks bs) ≡ (Ok tt) → first_of (old_checks bs) ≡ plan_check bs
-  old-passed e = old-same (λ v. omega (arith, (between-true 1 2 (version_at bs) (old-version e)).1))
+  unfolding between
+  old-passed e = old-same (later (version_at bs) (between-true 1 2 (version_at bs) (old-version e)).1)
+    where
+      later : (v : ℕ) → v ≤ 2 → between 3 4 v ≡ false
+      later v l = rw (lt-leb 3 v (omega arith)) refl
 
   pub old-plan : first_of (old_checks bs) ≡ (Ok tt) → plan_check bs ≡ (Ok tt)
   old-plan e = sym (old-passed e) ∙ e
@@ -69,18 +75,21 @@ module _ (bs : List ℕ) where
   unfolding need and_then
   old-without e = rw (plan-is, old-is, e)
 
-  module _ (t : Bool) (et : t ≡ (eqb (version_at bs) 3 && begun)) where
-    pub old-third : t ≡ true → first_of (old_checks bs) ≡ Err refusal.Version
+  module _ (t : Bool) (et : t ≡ (between 3 4 (version_at bs) && begun)) where
+    pub old-later : t ≡ true → first_of (old_checks bs) ≡ Err refusal.Version
     unfolding need and_then between
-    old-third h =
-        let k = both_true (eqb (version_at bs) 3) begun (sym et ∙ h) in
-        rw (old-is, k.1, eqb-true (version_at bs) 3 k.0)
+    old-later h =
+        let k = both_true (between 3 4 (version_at bs)) begun (sym et ∙ h) in
+        rw (old-is, k.1, none (version_at bs) (between-true 3 4 (version_at bs) k.0).0) refl
+      where
+        none : (v : ℕ) → 3 ≤ v → between 1 2 v ≡ false
+        none v l = rw (le-leb 1 v (omega arith), lt-leb v 2 (omega arith)) refl
 
     old-agrees : t ≡ false → first_of (old_checks bs) ≡ plan_check bs
-    old-agrees h = by (eqb (version_at bs) 3) begun refl refl (sym et ∙ h)
+    old-agrees h = by (between 3 4 (version_at bs)) begun refl refl (sym et ∙ h)
       where
-        by : (v b : Bool) → eqb (version_at bs) 3 ≡ v → begun ≡ b → (v && b) ≡ false → first_of (old_checks bs) ≡ plan_check bs
-        by false b p q e = old-same (eqb-false (version_at bs) 3 p)
+        by : (v b : Bool) → between 3 4 (version_at bs) ≡ v → begun ≡ b → (v && b) ≡ false → first_of (old_checks bs) ≡ plan_check bs
+        by false b p q e = old-same p
         by true false p q e = old-without q
         by true true p q e = absurd (clash (sym e))
 
@@ -90,4 +99,8 @@ module _ (bs : List ℕ) where
     pub old-passes : (xs : List ℕ) (h : Header) → t ≡ false → Planned xs h → xs ≡ bs → first_of (old_checks bs) ≡ (Ok tt)
     old-passes xs h n p e = old-agrees n ∙ ap plan_check (sym e) ∙ p.passes
 
-pub ruleset versions = (rules, old-third, old-refused, old-passes)
+-- a test that fails makes the whole fail
+pub not_begun : (t b x : Bool) → t ≡ b → t ≡ false → t ≡ (b && x)
+not_begun t b x e f = f ∙ ap (λ (y : Bool). y && x) (sym (sym e ∙ f))
+
+pub ruleset versions = (rules, old-later, old-refused, old-passes)

@@ -1,21 +1,21 @@
 // A plan of version 1 or 2 written as one of version 3.
 #![tactic(auto, using(crate::proofs::Converting::putting))]
 
-ghost use Rattle.std.specs.Prelude.{Ok, Err, IfOk, IfErr, ◌≡◌, ◌&&◌, ◌≤◌, eqb, leb, length, take};
+ghost use Rattle.std.specs.Prelude.{Ok, Err, IfOk, IfErr, ◌≡◌, ◌&&◌, ◌≤◌, leb, length, take};
 ghost use mathlib.Core.List.{flat_map};
 ghost use Rattle.plan.specs.Refusals.{first_of};
-ghost use Rattle.plan.specs.File.{magic, same_bytes, version_at, plan_of};
+ghost use Rattle.plan.specs.File.{magic, same_bytes, between, version_at, plan_of};
 ghost use Rattle.plan_file.specs.Bodies.{written, place_in, out_start, gates_bytes, out_bytes, points_bytes};
 ghost use Rattle.convert_call.specs.Converting.{old_checks, converted_file, convert_answer, convert_after};
 
 use plan::{PlanFile, Refusal};
 
-// Whether a file begins as a plan of version 3.
-#[tactic(auto, using(crate::proofs::Reading::versions))]
-fn is_third(bytes: &[u8]) -> bool
-    ensures { result ≡ (eqb (version_at bytes.now) 3 && (leb 18 (length bytes.now) && same_bytes (take 4 bytes.now) magic)) }
+// Whether a file begins as a plan of version 3 or 4.
+#[tactic(auto, using(plan::proofs::Ranges::contains_is))]
+fn is_later(bytes: &[u8]) -> bool
+    ensures { result ≡ (between 3 4 (version_at bytes.now) && (leb 18 (length bytes.now) && same_bytes (take 4 bytes.now) magic)) }
 {
-    plan::byte(bytes, 4) == 3 && plan_reading::begins(bytes)
+    (3..=4).contains(&plan::byte(bytes, 4)) && plan_reading::begins(bytes)
 }
 
 // Reads a plan of version 1 or 2: any other version is refused.
@@ -25,7 +25,7 @@ pub fn read_old(bytes: &[u8]) -> Result<PlanFile<'_>, Refusal>
     ensures passed { IfOk result (λ f. first_of (old_checks bytes.now) ≡ Ok tt) }
     ensures refused { IfErr result (λ r. first_of (old_checks bytes.now) ≡ Err r) }
 {
-    if is_third(bytes) {
+    if is_later(bytes) {
         return Err(Refusal::Version);
     }
     // As it is: `?` and `Ok`. The call alone was tried: that the plan passes is a ghost field of it, and of a plan inside a `Result` no search found it,

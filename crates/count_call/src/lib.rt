@@ -14,24 +14,27 @@ ghost use Rattle.count_call.specs.Counting.{Countable};
 use checking::Given;
 use count_fill::Settings;
 use plan::Refusal;
+use run_dealings::Way;
+use run_tables::RunPlan;
 
 pub mod checking;
 
 impl Given<'_> {
-    // The rows of all settings, as they come. Where there are at most 65,536 settings a run has at most 14,576 coins.
+    // The rows of all settings, as they come, by the plan with what its dealings are worked with. Where there are at most 65,536 settings a run has at
+    // most 14,576 coins.
     #[tactic(auto, using(crate::proofs::CallLaws::rooming))]
-    fn fill_rows(&self, v: usize, out: &mut [u8])
-        requires countable { Countable (plan_of self.now.plan.now.bytes.now) self.now.set self.now.inputs.now self.now.coins.now }
-        requires v_value { (v ≡ view_count (plan_of self.now.plan.now.bytes.now) (members self.now.set)) × (v ≤ 1097728) }
+    fn fill_rows_by(&self, run: &RunPlan, v: usize, out: &mut [u8])
+        requires countable { Countable (plan_of run.now.plan.now.bytes.now) self.now.set self.now.inputs.now self.now.coins.now }
+        requires v_value { (v ≡ view_count (plan_of run.now.plan.now.bytes.now) (members self.now.set)) × (v ≤ 1097728) }
         requires out_len { length out.old % (width * (v + 1)) ≡ 0 }
-        ensures { out.new ≡ rows_filled (plan_of self.now.plan.now.bytes.now) self.now.set (numbers self.now.inputs.now) (numbers self.now.coins.now) (length out.old / (width * (v + 1))) }
+        ensures { out.new ≡ rows_filled (plan_of run.now.plan.now.bytes.now) self.now.set (numbers self.now.inputs.now) (numbers self.now.coins.now) (length out.old / (width * (v + 1))) }
     {
-        let n = plan_counts::coin_count(self.plan);
+        let n = plan_counts::coin_count(run.plan);
         let mut owners = [0u8; 14576];
         let mut coins = [0u8; 58304];
-        count_fill::owners(self.plan, &mut owners);
+        count_fill::owners(run.plan, &mut owners);
         let settings = Settings {
-            plan: self.plan,
+            run,
             set: self.set,
             inputs: self.inputs,
             given: self.coins,
@@ -39,6 +42,30 @@ impl Given<'_> {
             view_len: v,
         };
         settings.fill(&mut coins, out);
+    }
+
+    // The same from the plan alone.
+    #[tactic(auto, using(crate::proofs::CallLaws::rooming))]
+    fn fill_rows(&self, v: usize, out: &mut [u8])
+        requires countable { Countable (plan_of self.now.plan.now.bytes.now) self.now.set self.now.inputs.now self.now.coins.now }
+        requires v_value { (v ≡ view_count (plan_of self.now.plan.now.bytes.now) (members self.now.set)) × (v ≤ 1097728) }
+        requires out_len { length out.old % (width * (v + 1)) ≡ 0 }
+        ensures { out.new ≡ rows_filled (plan_of self.now.plan.now.bytes.now) self.now.set (numbers self.now.inputs.now) (numbers self.now.coins.now) (length out.old / (width * (v + 1))) }
+    {
+        let mut rows = [0u64; 240];
+        let mut weights = [0u64; 15];
+        let mut matrix = [0u64; 225];
+        let points = seat_messages::points_of(self.plan);
+        let points = &points[..self.plan.header.n];
+        let run = RunPlan::new(
+            self.plan,
+            Way::Grid,
+            points,
+            &mut rows,
+            &mut weights,
+            &mut matrix,
+        );
+        self.fill_rows_by(&run, v, out);
     }
 
     // Writes the views of a call that no refusal falls on, each with its count.

@@ -15,6 +15,7 @@ ghost use Rattle.count_fill.specs.Filling.{Put, rows_filled, Lent};
 
 use field::Field;
 use plan::{Gate, PlanFile, Rule};
+use run_tables::RunPlan;
 
 // ---- whose the coins are
 
@@ -92,16 +93,17 @@ fn coin(member: bool, given: &[u8], from: usize, f: Field, rest: u64) -> (u64, u
     }
 }
 
-// What all settings are run with: the plan and the set, the inputs, the members' coins, the owners of all coins, and the numbers of a view.
+// What all settings are run with: the plan with what its dealings are worked with, the set, the inputs, the members' coins, the owners of all coins, and
+// the numbers of a view.
 #[derive(Clone, Copy)]
 pub struct Settings<'a> {
-    pub plan: &'a PlanFile<'a>,
+    pub run: &'a RunPlan<'a>,
     pub set: u16,
     pub inputs: &'a [u8],
     pub given: &'a [u8],
     pub owners: &'a [u8],
     pub view_len: usize,
-    pub ghost lent: { Lent (plan_of plan.now.bytes.now) set inputs.now given.now owners.now view_len },
+    pub ghost lent: { Lent (plan_of run.now.plan.now.bytes.now) set inputs.now given.now owners.now view_len },
 }
 
 impl Settings<'_> {
@@ -109,9 +111,9 @@ impl Settings<'_> {
     #[tactic(auto, using(crate::proofs::SettingLaws::setting))]
     fn set_coins(&self, k: u64, out: &mut [u8])
         requires { length out.old ≡ width * length self.now.owners.now }
-        ensures { out.new ≡ bytes_of (coins_from self.now.plan.now.header.field.p self.now.set self.now.owners.now (numbers self.now.given.now) k) }
+        ensures { out.new ≡ bytes_of (coins_from self.now.run.now.plan.now.header.field.p self.now.set self.now.owners.now (numbers self.now.given.now) k) }
     {
-        let f = self.plan.header.field;
+        let f = self.run.plan.header.field;
         let mut from = 0;
         let mut rest = k;
         for (c, owner) in self.owners.iter().enumerate() {
@@ -123,41 +125,44 @@ impl Settings<'_> {
         }
     }
 
-    // The set's view of the run with these coins, then 1.
+    // The set's view of the run with these coins, then 1; `table` takes the run's shares.
     #[tactic(auto, using(crate::proofs::RowLaws::viewing))]
-    fn fill_row(&self, coins: &[u8], row: &mut [u8])
-        requires given { Given (plan_of self.now.plan.now.bytes.now) self.now.inputs.now coins.now }
+    fn fill_row(&self, coins: &[u8], table: &mut [u64], row: &mut [u8])
+        requires given { Given (plan_of self.now.run.now.plan.now.bytes.now) self.now.inputs.now coins.now }
+        requires table_in_bounds { self.now.run.now.plan.now.header.n * self.now.run.now.plan.now.header.gates ≤ length table.old }
         requires row_len { length row.old ≡ width * (self.now.view_len + 1) }
-        ensures { row.new ≡ bytes_of (view (plan_of self.now.plan.now.bytes.now) (members self.now.set) (numbers self.now.inputs.now) (numbers coins.now) [] ++ (1 ∷ [])) }
+        ensures { row.new ≡ bytes_of (view (plan_of self.now.run.now.plan.now.bytes.now) (members self.now.set) (numbers self.now.inputs.now) (numbers coins.now) [] ++ (1 ∷ [])) }
     {
         let e = numbers::WIDTH * self.view_len;
-        run_bench::write_run(self.plan, self.set, self.inputs, coins, &mut row[..e]);
+        run_bench::write_run_by(self.run, self.set, self.inputs, coins, table, &mut row[..e]);
         numbers::write(row, self.view_len, 1);
     }
 
-    // The rows of as many settings as have room, from setting 0 on; `coins` takes each setting's coins.
+    // The rows of as many settings as have room, from setting 0 on; `coins` takes each setting's coins, `table` the shares of its run.
     #[tactic(auto, using(crate::proofs::RowLaws::filling))]
-    fn fill_by(&self, coins: &mut [u8], out: &mut [u8])
-        requires coins_len { length coins.old ≡ width * coin_count (plan_of self.now.plan.now.bytes.now) }
+    fn fill_by(&self, coins: &mut [u8], table: &mut [u64], out: &mut [u8])
+        requires coins_len { length coins.old ≡ width * coin_count (plan_of self.now.run.now.plan.now.bytes.now) }
+        requires table_in_bounds { self.now.run.now.plan.now.header.n * self.now.run.now.plan.now.header.gates ≤ length table.old }
         requires out_len { length out.old % (width * (self.now.view_len + 1)) ≡ 0 }
-        ensures { out.new ≡ rows_filled (plan_of self.now.plan.now.bytes.now) self.now.set (numbers self.now.inputs.now) (numbers self.now.given.now) (length out.old / (width * (self.now.view_len + 1))) }
+        ensures { out.new ≡ rows_filled (plan_of self.now.run.now.plan.now.bytes.now) self.now.set (numbers self.now.inputs.now) (numbers self.now.given.now) (length out.old / (width * (self.now.view_len + 1))) }
     {
         let size = numbers::WIDTH * (self.view_len + 1);
         for s in 0..out.len() / size {
             self.set_coins(s as u64, coins);
             let at = size * s;
-            self.fill_row(coins, &mut out[at..at + size]);
+            self.fill_row(coins, table, &mut out[at..at + size]);
         }
     }
 
-    // The same, where the room of the coins may have bytes left over.
+    // The same, where the room of the coins may have bytes left over, in a table that holds 1,024 wires of 15 parties.
     #[tactic(auto, using(crate::proofs::RowLaws::rooming))]
     pub fn fill(&self, room: &mut [u8], out: &mut [u8])
         requires owners_in_bounds { width * length self.now.owners.now ≤ length room.old }
         requires out_len { length out.old % (width * (self.now.view_len + 1)) ≡ 0 }
-        ensures { out.new ≡ rows_filled (plan_of self.now.plan.now.bytes.now) self.now.set (numbers self.now.inputs.now) (numbers self.now.given.now) (length out.old / (width * (self.now.view_len + 1))) }
+        ensures { out.new ≡ rows_filled (plan_of self.now.run.now.plan.now.bytes.now) self.now.set (numbers self.now.inputs.now) (numbers self.now.given.now) (length out.old / (width * (self.now.view_len + 1))) }
     {
         let used = numbers::WIDTH * self.owners.len();
-        self.fill_by(&mut room[..used], out);
+        let mut table = [0u64; 15360];
+        self.fill_by(&mut room[..used], &mut table, out);
     }
 }

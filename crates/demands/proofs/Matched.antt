@@ -1,17 +1,16 @@
 -- Where the matching refuses nothing, its two lists meet the premises of demand 3.
---     own_same, granted-same                    what refusals 21 and 22 leave
+--     inputs-left, outs-left                    what refusals 21 and 22 leave
 --     matched_bytes                             the claim, on any bytes
 -- Assumes nothing.
 use Rattle.std.proofs.Common.{Ok}
-use Prim.Native.Nat.{ℕ, suc, ◌+◌, ◌*◌, ◌<◌}
+use Prim.Native.Nat.{ℕ, suc, ◌*◌, ◌<◌}
 use mathlib.Core.Path.{◌≡◌, refl, sym, ap, ap₂, subst, ◌∙◌}
 use mathlib.Core.Bool.{Bool, true, false, cond, not, ◌||◌}
 use mathlib.Core.List.{List, [], ◌∷◌, map}
 use native.Mathlib.Omega.{arith}
 use borrow.Author.Tests.{eqb-true}
 use lib.Dec.{eqb}
-use lib.ListN.{length, get_or, drop}
-use lib.Seq.{get_or-drop}
+use lib.ListN.{length, get_or}
 use Rattle.numbers.specs.Bytes.{width, numbers, bytes_of, all_below, holds_count}
 use Rattle.numbers.proofs.Searches.{nothing_passes}
 use Rattle.numbers.proofs.Below.{all_below_at, first_over-nothing}
@@ -20,7 +19,7 @@ use Rattle.plan.specs.declared.Output.{Output}
 use Rattle.plan.specs.declared.Refusal.TheVariants as refusal
 use Rattle.plan.specs.Refusals.{first_of}
 use Rattle.plan.proofs.Refusals.{first_of-append, passed_both, passed-need, passed_found}
-use Rattle.plan.specs.Plans.{Plan, input_owners, input_count, coin_count, out_wires_of, out_wires, own_of, own_inputs}
+use Rattle.plan.specs.Plans.{Plan, input_count, coin_count, out_wires_of, out_wires, own_inputs}
 use Rattle.plan.specs.File.{plan_checks, plan_check, plan_of}
 use Rattle.plan_coalition.specs.Coalitions.{in_set, members, set_ok}
 use Rattle.run_protocol.specs.Ideal.{values, granted}
@@ -28,35 +27,15 @@ use Rattle.run_protocol.specs.Rounds.{view_count}
 use Rattle.run_protocol.specs.Settings.{Inputs, Coins}
 use Rattle.sharing_laws.proofs.Lists.{map-all}
 use Rattle.match_agreement.specs.MatchCalls.{inputs_agree, outs_agree, pair_checks, match_answer}
+use Rattle.match_agreement.proofs.Agreed.{either_back, inputs_left}
 use Rattle.demands.specs.Demands.{Alike, SameBytes}
 use Rattle.demands.specs.Further.{MatchedBytes}
 use Rattle.demands.proofs.Third.{each_member}
 use Rattle.demands.proofs.First.{first_passed}
 use Rattle.demands.proofs.Computed.{demand3}
 
-either_back : (b : Bool) (x y : ℕ) → (not b || eqb x y) ≡ true → b ≡ true → x ≡ y
-either_back true x y h e = eqb-true x y h
-either_back false x y h e = absurd (let z : ◌≡◌ {A = ℕ} 0 1 = ap (λ (u : Bool). cond {A = ℕ} u 1 0) e in omega (arith, z))
-
--- ---- what refusal 21 leaves
+-- ---- what refusal 22 leaves
 module _ (set i : ℕ) (on : in_set set i ≡ true) where
-  own_same : (os xs ys : List ℕ) → ((j : ℕ) → j < length os → in_set set (get_or os j 0) ≡ true → get_or xs j 0 ≡ get_or ys j 0) → own_of i os xs ≡ own_of i os ys
-  unfolding own_of
-  own_same [] xs ys h = refl
-  own_same (s ∷ os) xs ys h =
-      step (eqb i s) refl (own_same os (drop 1 xs) (drop 1 ys) (λ j l e. later j (h (suc j) (omega arith) e)))
-    where
-      later : (j : ℕ) → get_or xs (suc j) 0 ≡ get_or ys (suc j) 0 → get_or (drop 1 xs) j 0 ≡ get_or (drop 1 ys) j 0
-      later j e =
-          let s : 1 + j ≡ suc j = omega arith in
-          get_or-drop 1 xs j 0 ∙ ap (λ (k : ℕ). get_or xs k 0) s ∙ e ∙ ap (λ (k : ℕ). get_or ys k 0) (sym s) ∙ sym (get_or-drop 1 ys j 0)
-
-      step : (b : Bool) → eqb i s ≡ b → own_of i os (drop 1 xs) ≡ own_of i os (drop 1 ys)
-          → cond b (get_or xs 0 0 ∷ own_of i os (drop 1 xs)) (own_of i os (drop 1 xs)) ≡ cond b (get_or ys 0 0 ∷ own_of i os (drop 1 ys)) (own_of i os (drop 1 ys))
-      step true e r = ap₂ (λ (x : ℕ) (l : List ℕ). x ∷ l) (h 0 (omega arith) (ap (in_set set) (sym (eqb-true i s e)) ∙ on)) r
-      step false e r = r
-
-  -- ---- what refusal 22 leaves
   outs_same : (f g : ℕ → ℕ) (os : List Output)
       → ((o : ℕ) → o < length os → in_set set (get_or os o (record { party = 0; wire = 0 })).party ≡ true → f (get_or os o (record { party = 0; wire = 0 })).wire ≡ g (get_or os o (record { party = 0; wire = 0 })).wire)
       → map f (out_wires_of i os) ≡ map g (out_wires_of i os)
@@ -71,13 +50,9 @@ module _ (set i : ℕ) (on : in_set set i ≡ true) where
 
 module _ (plan : Plan) (set : ℕ) (ok : set_ok plan set ≡ true) (xs ys : List ℕ) where
   inputs-left : inputs_agree plan set xs ys ≡ Ok tt → map (λ i. own_inputs plan i xs) (members set) ≡ map (λ i. own_inputs plan i ys) (members set)
-  unfolding inputs_agree input_count own_inputs
   inputs-left e =
       map-all (λ i. own_inputs plan i xs) (λ i. own_inputs plan i ys) (members set)
-      (each_member (λ i. own_inputs plan i xs ≡ own_inputs plan i ys) plan set ok
-      (λ i l m on. own_same set i on (input_owners plan) xs ys
-      (λ j q. either_back (in_set set (get_or (input_owners plan) j 0)) (get_or xs j 0) (get_or ys j 0)
-      (nothing_passes (λ j. not (in_set set (get_or (input_owners plan) j 0)) || eqb (get_or xs j 0) (get_or ys j 0)) (input_count plan) (passed_found refusal.InputsDiffer _ e) j q))))
+      (each_member (λ i. own_inputs plan i xs ≡ own_inputs plan i ys) plan set ok (λ i l m on. inputs_left set i on plan xs ys e))
 
   outs-left : outs_agree plan set (values plan xs) (values plan ys) ≡ Ok tt → map (granted plan xs) (members set) ≡ map (granted plan ys) (members set)
   unfolding outs_agree granted out_wires

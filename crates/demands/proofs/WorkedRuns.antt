@@ -33,6 +33,7 @@ run_sums = record {
   random_sent = refl;
   random_coins = refl;
   random_matched = refl;
+  fourth_passes = refl;
   fourth_rows = refl;
   fourth_shares = refl;
   fourth_result = refl;

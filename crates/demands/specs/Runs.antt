@@ -4,7 +4,8 @@ use Rattle.sharing_laws.specs.Basis.{row}
 use Rattle.plan.specs.declared.Gate.TheVariants.{Input, Add, Multiply, Random}
 use Rattle.plan.specs.declared.Rule.TheVariants.{Reduction}
 use Rattle.plan.specs.Plans.{Plan, last_call, sent_count}
-use Rattle.plan.specs.File.{plan_of}
+use Rattle.plan.specs.Refusals.{code_of}
+use Rattle.plan.specs.File.{plan_check, plan_of}
 use Rattle.run_protocol.specs.Rounds.{results, view}
 use Rattle.run_protocol.specs.Shares.{wire_at, share_table}
 use Rattle.match_privacy.specs.Matching.{matched_coins}
@@ -74,7 +75,8 @@ pub record RunSums : Type 0 where
   -- the draws of the set's members stay, others may change
   pub random_coins : matched_coins Spot (3 ∷ []) inputs10 others10 coins10 ≡ 3 ∷ 3 ∷ 8 ∷ 5 ∷ 9 ∷ 6 ∷ 7 ∷ []
   pub random_matched : view Spot (3 ∷ []) others10 (3 ∷ 3 ∷ 8 ∷ 5 ∷ 9 ∷ 6 ∷ 7 ∷ []) [] ≡ view Spot (3 ∷ []) inputs10 coins10 []
-  -- the rows of the matrix that cuts coefficients off, and the run
+  -- the file passes; the rows of the matrix that cuts coefficients off, and the run
+  pub fourth_passes : code_of (plan_check fourth) ≡ 0
   pub fourth_rows : map (row 11 1 (1 ∷ 2 ∷ 3 ∷ [])) (1 ∷ 2 ∷ 3 ∷ []) ≡ (6 ∷ 1 ∷ 5 ∷ []) ∷ (9 ∷ 5 ∷ 9 ∷ []) ∷ (1 ∷ 9 ∷ 2 ∷ []) ∷ []
   pub fourth_shares : shares_in K4 inputs7 coins7 (2 ∷ 3 ∷ []) ≡ (10 ∷ 0 ∷ 1 ∷ []) ∷ (5 ∷ 8 ∷ 0 ∷ []) ∷ []
   pub fourth_result : results K4 inputs7 coins7 [] 3 ≡ 2 ∷ []

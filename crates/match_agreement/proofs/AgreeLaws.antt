@@ -273,17 +273,22 @@ module _ (bs : List ℕ) (set : ℕ) (xs ys : List ℕ) where
             before = below j (omega (arith, f.within)) f.before;
           }))
 
-      pub compare-place : (j n : ℕ) → r ≡ Some j → n ≡ taken → n ≤ 15 → Fits w64 (next + j)
-      compare-place j n e en few =
+      pub compare-place : (j n : ℕ) (x : Gate) → r ≡ Some j → x ≡ gate_at bs g → n ≡ inputs_taken (plan_of bs) x → n ≤ 15 → Fits w64 (next + j)
+      compare-place j n x e ex ex_n few =
+          let en : n ≡ taken = ex_n ∙ ap (inputs_taken (plan_of bs)) ex in
           let f : First here taken j = first_failing_lem here taken j (sym er ∙ e) in
           record { fits = omega (arith, compare-few l, f.within) }
 
-      pub compare_on : (n : ℕ) → r ≡ None → n ≡ taken → n ≤ 15 → Comparing bs h.gates set xs ys (next + n) (g + 1)
-      compare_on n e en few = record {
+      counted : (n : ℕ) (x : Gate) → x ≡ gate_at bs g → n ≡ inputs_taken (plan_of bs) x → n ≡ length (input_owners_at (plan_of bs) (gate_at bs g))
+      unfolding inputs_taken
+      counted n x ex en = en ∙ ap (λ (y : Gate). length (input_owners_at (plan_of bs) y)) ex
+
+      pub compare_on : (n : ℕ) (x : Gate) → r ≡ None → x ≡ gate_at bs g → n ≡ inputs_taken (plan_of bs) x → n ≤ 15 → Comparing bs h.gates set xs ys (next + n) (g + 1)
+      compare_on n x e ex en few = record {
         within = omega arith;
         few = omega (arith, w.few);
-        taken = taken_next (input_owners_at (plan_of bs)) bs h next g n k w.taken l (unfold inputs_taken in en);
-        agree = rw en (passes-nothing agrees (next + taken) (below taken (omega arith) (nothing_passes here taken (sym er ∙ e))));
+        taken = taken_next (input_owners_at (plan_of bs)) bs h next g n k w.taken l (counted n x ex en);
+        agree = rw (en, ex) (passes-nothing agrees (next + taken) (below taken (omega arith) (nothing_passes here taken (sym er ∙ e))));
       }
 
     pub compare-done : h.gates ≤ g → None ≡ first_failing agrees (input_count (plan_of bs))

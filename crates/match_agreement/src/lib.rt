@@ -120,7 +120,7 @@ impl InputPair<'_> {
     {
         let mut next = 0;
         for g in 0..self.plan.header.gates {
-            let taken = run_ideal::inputs_taken(self.plan, g);
+            let taken = run_ideal::inputs_taken(self.plan, self.plan.gate(g));
             if let Some(j) = self.gate_off(g, next) {
                 return Some(next + j);
             }

@@ -231,12 +231,12 @@ module _ (bs : List ℕ) (h : Header) (set : ℕ) (xs ys coins : List ℕ) where
       past-list xs a b c ys e f = ap (drop b) e ∙ drop-drop b a xs ∙ ap (λ (n : ℕ). drop n xs) (sym f)
 
       pub match-next :
-          (before' after' out' : List ℕ) (r t : ℕ)
+          (before' after' out' : List ℕ) (r t : ℕ) (x : Gate)
           → Matched plan (members set) h.n (gate_at bs g) g (drop next (numbers xs)) (drop next (numbers ys)) (drop at (numbers coins)) at before after out before' after' out' r
-          → length before' ≡ length before → length after' ≡ length after → length out' ≡ length out → t ≡ inputs_taken plan (gate_at bs g) → t ≤ 15
+          → length before' ≡ length before → length after' ≡ length after → length out' ≡ length out → x ≡ gate_at bs g → t ≡ inputs_taken plan x → t ≤ 15
           → Matching bs h set xs ys coins out₀ before' after' out' r (next + t) (g + 1)
       unfolding new first_next second-next past with_coins
-      match-next before' after' out' r t w lb la lo et le = record {
+      match-next before' after' out' r t x w lb la lo ex ex_t le = let et : t ≡ inputs_taken plan (gate_at bs g) = ex_t ∙ ap (inputs_taken plan) ex in record {
         given = rw lo m.given;
         within = omega arith;
         few = omega (arith, m.few);

@@ -47,14 +47,13 @@ use Rattle.plan_coalition.specs.Coalitions.{members}
 use Rattle.plan.proofs.Planned.{between-true, plan_n, plan_t, plan_p, plan_rule, plan_dealers}
 use Rattle.plan.proofs.Valid.{Valid, valid, gate-kept, gate_majority}
 use Rattle.run_protocol.specs.Shares.{Before, product_of, multiply_dealt, dealt_at, gate_share, past}
-use Rattle.run_dealings.specs.Rows.{rows_of, products_of, Sized, Rowed, Standing, Taking, Holds, Stepped}
-use Rattle.run_dealings.proofs.RowLaws.{standing-row}
+use Rattle.run_dealings.specs.Rows.{rows_of, products_of, Sized, Standing, Taking, Holds, Stepped}
 use Rattle.run_tables.proofs.StepLaws.{planned_sized}
 use Rattle.seat_messages.proofs.PointLaws.{plan_points_long}
 use Rattle.run_tables.proofs.GateLaws.{entry-of-wire}
 use Rattle.match_privacy.specs.Matching.{matched_blocks, lowest, change_of, absorbed_by, absorbed, with_coins, matched_at}
 use Rattle.match_moves.specs.Moves.{moved, moved_blocks, dealers_in, dealt_in, Lent, Advanced}
-use Rattle.match_moves.specs.Truncations.{changes_of, change_by, gains_of, zero_row, party_row, party_at, party_rows, truncated_coins, Truncating}
+use Rattle.match_moves.specs.Truncations.{changes_of, change_by, gains_of, zero_row, party_row, party_at, party_rows, truncated_coins, truncates, coins_in, gate_block, Truncating}
 use Rattle.match_moves.proofs.TruncationLaws.{count-truncation}
 use Rattle.match_call.specs.MatchSteps.{delta_tail, spares_of, Equipped, Absorbing, Follows, Turn, NewCoins, Both, Matched}
 use Rattle.sharing_laws.proofs.Alls.{below_canon}
@@ -68,6 +67,25 @@ use Rattle.match_call.proofs.TruncatedLaws.{truncated-are}
 -- a gate at which all deal t coins: no multiply by truncation
 abbrev pub Even : Plan → Gate → Type 0
 Even plan gate = (a b : ℕ) → gate ≡ Multiply a b → plan.rule ≡ Reduction
+
+-- every gate is one, or such a multiply
+data Sort (plan : Plan) (h : Header) (gate : Gate) : Type 0 where
+  all_deal : Even plan gate → truncates h.rule gate ≡ false → Sort plan h gate
+  truncated : (a b : ℕ) → gate ≡ Multiply a b → h.rule ≡ Truncation → truncates h.rule gate ≡ true → Sort plan h gate
+
+sorted : (plan : Plan) (h : Header) → plan.rule ≡ h.rule → (gate : Gate) → Sort plan h gate
+unfolding truncates is_kind kind_of
+sorted plan h same gate = by h.rule refl gate refl
+  where
+    by : (r : Rule) → h.rule ≡ r → (x : Gate) → gate ≡ x → Sort plan h gate
+    by Reduction e x q = all_deal (λ a b k. same ∙ e) (rw e)
+    by Truncation e (Input s) q = all_deal (λ a b k. cc) (rw (e, q))
+    by Truncation e (Add a b) q = all_deal (λ a b k. cc) (rw (e, q))
+    by Truncation e (Scale a c) q = all_deal (λ a b k. cc) (rw (e, q))
+    by Truncation e (Offset a c) q = all_deal (λ a b k. cc) (rw (e, q))
+    by Truncation e (Multiply a b) q = truncated a b q e (rw (e, q))
+    by Truncation e Random q = all_deal (λ a b k. cc) (rw (e, q))
+    by Truncation e (Spend a b) q = all_deal (λ a b k. cc) (rw (e, q))
 
 module _ (plan : Plan) (h : Header) (et : plan.t ≡ h.t) (en : party_count plan ≡ h.n) where
   first-dealings : (k : ℕ) → first_dealings plan k ≡ map (dealing_by plan) (tab suc k)
@@ -495,70 +513,35 @@ module _ (bs : List ℕ) (h : Header) (set : ℕ) (es : List ℕ) (w : Equipped 
   pub turn-major : majority_ok h.n h.t gate ≡ true
   turn-major = step-major bs h set es w g gate turn.gate eg
 
-  -- the gate's new coins
-  abbrev New : List ℕ → ℕ → Type 0
-  New out' r =
-      NewCoins (plan_of bs) (members set) h.n (gate_at bs g) g (drop next (numbers xs)) (drop next (numbers ys)) (drop at (numbers coins)) at before after out out' r
+  module _ (low : ℕ) (spares : List ℕ) (bp bt : ℕ) (dealers : List ℕ) (v : Absorbing bs h set low spares bp bt dealers) where
+    pub turn-lent : Lent h.field.p at (coins_in h gate) coins out
+    unfolding coins_in
+    turn-lent = by (sorted (plan_of bs) h (plan_rule w.planned) gate)
+      where
+        by : Sort (plan_of bs) h gate → Lent h.field.p at (cond (truncates h.rule gate) (3 * h.t * h.n) (h.t * length (dealers_in h gate))) coins out
+        by (all_deal e q) = rw q (step-lent bs h set es w g gate turn.gate eg e at coins out turn.lent)
+        by (truncated a b em rule q) = rw q (cut-lent bs h set es w g gate turn.gate eg low spares bp bt dealers v rule a b em at coins out turn.lent)
 
-  -- where all deal t coins
-  abbrev Moves : List ℕ → ℕ → Type 0
-  Moves out' r =
-      Advanced at (h.t * length (dealers_in h gate))
-      (moved_blocks h.field.p h.t set es (dealers_in h gate) (dealt_in h gate before (drop next (numbers xs))) (dealt_in h gate after (drop next (numbers ys))) (drop at (numbers coins))) out out' r
-
-  even-lent : Even (plan_of bs) gate → Lent h.field.p at (h.t * length (dealers_in h gate)) coins out
-  even-lent even = step-lent bs h set es w g gate turn.gate eg even at coins out turn.lent
-
-  even-moves : Even (plan_of bs) gate → (out' : List ℕ) (r : ℕ) → length out' ≡ length out → Moves out' r → New out' r
-  even-moves even out' r same moves =
-      gate-matched bs h set es w g gate turn.gate eg even at coins out turn.lent (drop next (numbers xs)) (drop next (numbers ys)) before after out' r same moves turn.first turn.second
-
-  module _ (by : h.rule ≡ Reduction) where
-    by-rule : Even (plan_of bs) gate
-    by-rule a b e = plan_rule w.planned ∙ by
-
-    pub turn-lent : Lent h.field.p at (h.t * length (dealers_in h gate)) coins out
-    turn-lent = even-lent by-rule
-
-    pub turn-moves : (out' : List ℕ) (r : ℕ) → length out' ≡ length out → Moves out' r → New out' r
-    turn-moves = even-moves by-rule
-
-  module _ (n : (a b : ℕ) → gate ≡ Multiply a b → ⊥) where
-    by-kind : Even (plan_of bs) gate
-    by-kind a b e = absurd (n a b e)
-
-    pub other-lent : Lent h.field.p at (h.t * length (dealers_in h gate)) coins out
-    other-lent = even-lent by-kind
-
-    pub other-moves : (out' : List ℕ) (r : ℕ) → length out' ≡ length out → Moves out' r → New out' r
-    other-moves = even-moves by-kind
-
-  -- a multiply by truncation
-  module _ (low : ℕ) (spares : List ℕ) (bp bt : ℕ) (dealers : List ℕ) (v : Absorbing bs h set low spares bp bt dealers) (by : h.rule ≡ Truncation) (a b : ℕ) (em : gate ≡ Multiply a b) where
-    pub turn-two : 2 * h.t < h.n
-    turn-two = cut_two bs h set es w g gate turn.gate eg low spares bp bt dealers v by a b em
-
-    pub turn-left : (table : List ℕ) → Standing h.field.p h.n g table → Rowed h.field.p h.n a table
-    turn-left table s = standing-row h.field.p h.n g a table s (left_below bs h set es w g gate turn.gate eg low spares bp bt dealers v by a b em)
-
-    pub turn-right : (table : List ℕ) → Standing h.field.p h.n g table → Rowed h.field.p h.n b table
-    turn-right table s = standing-row h.field.p h.n g b table s (right_below bs h set es w g gate turn.gate eg low spares bp bt dealers v by a b em)
-
-    pub turn-cut-lent : Lent h.field.p at (3 * h.t * h.n) coins out
-    turn-cut-lent = cut-lent bs h set es w g gate turn.gate eg low spares bp bt dealers v by a b em at coins out turn.lent
-
-    pub turn-cut :
+    pub turn-matched :
         (out' : List ℕ) (r : ℕ) → length out' ≡ length out
-        → Advanced at (3 * h.t * h.n)
-        (truncated_coins h.field.p h.n h.t set low es spares (change_by h.field.p (h.t + h.t + 1) dealers (changes_of h.field.p h.n (h.t + h.t + 1) a b before after))
-        (drop at (numbers coins))) out out' r
-        → New out' r
-    turn-cut out' r same moves =
-        cut-new bs h set es w g gate turn.gate eg low spares bp bt dealers v by a b em at coins out turn.lent (drop next (numbers xs)) (drop next (numbers ys)) before after
-        out' r same moves turn.first turn.second
+        → Advanced at (coins_in h gate)
+        (gate_block h set low es spares dealers gate before after (drop next (numbers xs)) (drop next (numbers ys)) (drop at (numbers coins))) out out' r
+        → NewCoins (plan_of bs) (members set) h.n (gate_at bs g) g (drop next (numbers xs)) (drop next (numbers ys)) (drop at (numbers coins)) at before after out out' r
+    unfolding coins_in gate_block
+    turn-matched out' r same moves = by (sorted (plan_of bs) h (plan_rule w.planned) gate)
+      where
+        by :
+            Sort (plan_of bs) h gate
+            → NewCoins (plan_of bs) (members set) h.n (gate_at bs g) g (drop next (numbers xs)) (drop next (numbers ys)) (drop at (numbers coins)) at before after out out' r
+        by (all_deal e q) =
+            gate-matched bs h set es w g gate turn.gate eg e at coins out turn.lent (drop next (numbers xs)) (drop next (numbers ys)) before after out' r same (rw q at moves)
+            turn.first turn.second
+        by (truncated a b em rule q) =
+            cut-new bs h set es w g gate turn.gate eg low spares bp bt dealers v rule a b em at coins out turn.lent (drop next (numbers xs)) (drop next (numbers ys)) before after
+            out' r same (unfold operands_of in rw (em) at (rw q at moves)) turn.first turn.second
 
 -- As it is: answers name this set, since the check leaves their goals open by `using` alone.
-pub ruleset matching_coins = (rules, es-long, es-below, equipped-sized, truncating, turn-kept, turn-major, turn-lent, turn-moves, other-lent, other-moves, turn-two, turn-left, turn-right, turn-cut-lent, turn-cut)
+pub ruleset matching_coins = (rules, es-long, es-below, equipped-sized, truncating, turn-kept, turn-major, turn-lent, turn-matched)
 
 -- ---- both runs
 module _ (bs : List ℕ) (h : Header) (set : ℕ) (es : List ℕ) (w : Equipped bs h set es) (g : ℕ) (xs ys before after : List ℕ) (at : ℕ) (coins out : List ℕ) (turn : Turn bs h g xs ys before after at coins out) where

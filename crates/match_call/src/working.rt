@@ -12,7 +12,7 @@ ghost use Rattle.match_call.specs.MatchSteps.{delta_whole, delta_tail, spares_of
 use match_agreement::InputPair;
 use match_moves::Mover;
 use match_moves::truncation::Truncation;
-use plan::{Gate, PlanFile, Rule};
+use plan::PlanFile;
 use run_dealings::Way;
 use run_tables::RunPlan;
 
@@ -60,14 +60,7 @@ impl Matcher<'_> {
             after,
             truncation: &self.truncation,
         };
-        let gate = self.run.plan.gate(at.gate);
-        match self.run.plan.header.rule {
-            Rule::Reduction => mover.gate(at.gate, gate, at.input, at.coin, out),
-            Rule::Truncation => match gate {
-                Gate::Multiply(a, b) => mover.truncated(a, b, at.coin, out),
-                _ => mover.gate(at.gate, gate, at.input, at.coin, out),
-            },
-        }
+        mover.gate(at.gate, self.run.plan.gate(at.gate), at.input, at.coin, out)
     }
 
     // A gate's row in both tables: the first run's with the coins, the second run's with the new ones.
@@ -110,7 +103,7 @@ impl Matcher<'_> {
                 coin: at,
             };
             at = self.step(place, before, after, out);
-            next += run_ideal::inputs_taken(self.run.plan, g);
+            next += run_ideal::inputs_taken(self.run.plan, self.run.plan.gate(g));
         }
     }
 }

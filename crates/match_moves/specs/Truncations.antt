@@ -1,17 +1,19 @@
 -- The coins of a multiply by truncation, moved party by party.
-use Rattle.std.specs.Prelude.{ℕ, suc, ◌+◌, ◌-◌, ◌*◌, ◌≡◌, true, cond, List, ◌++◌, eqb, ltb, length, take, drop, get_or}
+use Rattle.std.specs.Prelude.{ℕ, suc, ◌+◌, ◌-◌, ◌*◌, ◌≡◌, Bool, true, false, cond, List, ◌++◌, eqb, ltb, length, take, drop, get_or}
 use mathlib.Core.List.{flat_map}
 use Rattle.numbers.specs.Tables.{tab}
 use Rattle.numbers.specs.Bytes.{all_below}
 use Rattle.field.specs.Mod.{mul, sub}
+use Rattle.plan.specs.declared.Gate.{Gate}
 use Rattle.plan.specs.declared.Rule.{Rule}
 use Rattle.plan.specs.declared.Rule.TheVariants.{Reduction, Truncation}
 use Rattle.plan.specs.declared.Header.{Header}
+use Rattle.plan.specs.Plans.{is_kind, operands_of}
 use Rattle.plan_coalition.specs.Coalitions.{in_set}
 use Rattle.sharing_laws.specs.Poly.{padded}
 use Rattle.sharing_laws.specs.Basis.{fitted}
 use Rattle.run_dealings.specs.Rows.{products_of}
-use Rattle.match_moves.specs.Moves.{moved}
+use Rattle.match_moves.specs.Moves.{moved, moved_blocks, dealers_in, dealt_in}
 
 -- by how much the products of the first m parties change
 unfoldable pub changes_of : ℕ → ℕ → ℕ → ℕ → ℕ → List ℕ → List ℕ → List ℕ
@@ -52,6 +54,23 @@ party_rows p n t set low es spares e gains cs = flat_map (party_at p t set low e
 unfoldable pub truncated_coins : ℕ → ℕ → ℕ → ℕ → ℕ → List ℕ → List ℕ → List ℕ → List ℕ → List ℕ
 truncated_coins p n t set low es spares f cs = party_rows p n t set low es spares (get_or f 0 0) (gains_of p (t + t) es f) cs
 
+-- ---- a gate's coins, by its kind and the rule
+unfoldable pub truncates : Rule → Gate → Bool
+truncates Reduction g = false
+truncates Truncation g = is_kind 5 g
+
+unfoldable pub coins_in : Header → Gate → ℕ
+coins_in h g = cond (truncates h.rule g) (3 * h.t * h.n) (h.t * length (dealers_in h g))
+
+-- moved, where both runs' inputs from this gate on are xs and ys, and the coins cs
+unfoldable pub gate_block : Header → ℕ → ℕ → List ℕ → List ℕ → List ℕ → Gate → List ℕ → List ℕ → List ℕ → List ℕ → List ℕ → List ℕ
+gate_block h set low es spares dealers g before after xs ys cs =
+    cond (truncates h.rule g)
+    (truncated_coins h.field.p h.n h.t set low es spares
+    (change_by h.field.p (h.t + h.t + 1) dealers (changes_of h.field.p h.n (h.t + h.t + 1) (get_or (operands_of g) 0 0) (get_or (operands_of g) 1 0) before after)) cs)
+    (moved_blocks h.field.p h.t set es (dealers_in h g) (dealt_in h g before xs) (dealt_in h g after ys) cs)
+
+-- ---- what the change is fitted to
 -- how many dealers' points the change is fitted to: none where the plan's multiplies do not truncate, or it can have none
 unfoldable pub fitted_by : Rule → ℕ → ℕ → ℕ
 fitted_by Reduction n t = 0

@@ -10,10 +10,11 @@ ghost use Rattle.field.specs.Field.{Below2, Is};
 ghost use Rattle.plan.specs.File.{gate_ok, majority_ok};
 ghost use Rattle.plan_coalition.specs.Coalitions.{in_set, members};
 ghost use Rattle.run_dealings.specs.Rows.{products_of, draws_of, Sized, Rowed, Standing};
-ghost use Rattle.match_moves.specs.Moves.{member_points, moved, change_of, moved_blocks, dealers_in, dealt_in, Movable, Lent, Written, Advanced};
-ghost use Rattle.match_moves.specs.Truncations.{Truncating};
+ghost use Rattle.match_moves.specs.Moves.{member_points, moved, change_of, moved_blocks, Movable, Lent, Written, Advanced};
+ghost use Rattle.match_moves.specs.Truncations.{coins_in, gate_block, Truncating};
 
-use plan::{Gate, Header};
+use field::Sums;
+use plan::{Gate, Header, Rule};
 use truncation::Truncation;
 
 // ---- the members
@@ -130,7 +131,7 @@ impl Mover<'_> {
         ensures { record { eq : take (self.now.header.t + self.now.header.t + 1) result ≡ products_of self.now.header.field.p self.now.header.n (self.now.header.t + self.now.header.t + 1) a b table.now; below : all_below self.now.header.field.p (take (self.now.header.t + self.now.header.t + 1) result) ≡ true } }
     {
         let h = self.header;
-        run_dealings::products(h.field, h.n, h.t + h.t + 1, a, b, table)
+        run_dealings::products(Sums::new(h.field), h.n, h.t + h.t + 1, a, b, table)
     }
 
     // Writes the moved coins of a multiply gate's dealings; answers the place after them.
@@ -167,8 +168,8 @@ impl Mover<'_> {
         requires gate_value_2 { majority_ok self.now.header.n self.now.header.t gate ≡ true }
         requires standing { Standing self.now.header.field.p self.now.header.n g self.now.before.now }
         requires standing_2 { Standing self.now.header.field.p self.now.header.n g self.now.after.now }
-        requires lent { Lent self.now.header.field.p at (self.now.header.t * length (dealers_in self.now.header gate)) self.now.coins.now out.old }
-        ensures { Advanced at (self.now.header.t * length (dealers_in self.now.header gate)) (moved_blocks self.now.header.field.p self.now.header.t self.now.set self.now.delta.now (dealers_in self.now.header gate) (dealt_in self.now.header gate self.now.before.now (drop next (numbers self.now.first.now))) (dealt_in self.now.header gate self.now.after.now (drop next (numbers self.now.second.now))) (drop at (numbers self.now.coins.now))) out.old out.new result }
+        requires lent { Lent self.now.header.field.p at (coins_in self.now.header gate) self.now.coins.now out.old }
+        ensures { Advanced at (coins_in self.now.header gate) (gate_block self.now.header self.now.set self.now.truncation.now.lowest self.now.delta.now self.now.truncation.now.spares.now self.now.truncation.now.bases.points.now gate self.now.before.now self.now.after.now (drop next (numbers self.now.first.now)) (drop next (numbers self.now.second.now)) (drop at (numbers self.now.coins.now))) out.old out.new result }
     {
         match gate {
             Gate::Input(party) => {
@@ -177,7 +178,10 @@ impl Mover<'_> {
                 self.dealing(party, x, y, at, out);
                 at + self.delta.len()
             }
-            Gate::Multiply(a, b) => self.multiply(a, b, at, out),
+            Gate::Multiply(a, b) => match self.header.rule {
+                Rule::Reduction => self.multiply(a, b, at, out),
+                Rule::Truncation => self.truncated(a, b, at, out),
+            },
             Gate::Random => self.random(next, at, out),
             _ => at,
         }

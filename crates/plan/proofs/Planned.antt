@@ -31,7 +31,7 @@ use Rattle.plan.proofs.Refusals.{passed_both, passed-need, passed_found}
 
 -- ---- the checks of a plan that passes
 pub record Passing (bs : List ℕ) : Type 0 where
-  pub version : between 1 3 (version_at bs) ≡ true
+  pub version : between 1 4 (version_at bs) ≡ true
   pub parties : parties_ok (n_at bs) ≡ true
   pub threshold : threshold_ok (n_at bs) (t_at bs) ≡ true
   pub modulus : modulus_ok (n_at bs) (p_at bs) ≡ true

@@ -1,7 +1,7 @@
 -- What the proofs use of a plan, and that a plan that passes has it.
 --     Valid, valid            all that the protocol asks: 2t < n only where there is a gate of kind 5 or 7
 --     Sized, sized            what its lists and calls need beside
---     Plain, plain            what a plan file may have today: the rule of versions 1 to 3, and kinds 1 to 6
+--     Plain, plain            what a plan file may have: kinds 1 to 6
 --     points-apart            no two points are the same
 --     none_or_majority        no gate of kind 5, or 2t < n
 --     plain_no_7              a plain plan has no gate of kind 7
@@ -56,7 +56,6 @@ pub record Sized (plan : Plan) : Type 0 where
   pub short : length plan.gates + 3 * kind_count plan 7 ≤ 4096
 
 pub record Plain (plan : Plan) : Type 0 where
-  pub rule : plan.rule ≡ Reduction
   pub kinds : (g : ℕ) → kind_of (get_or plan.gates g (Input 0)) ≤ 6
 
 -- ---- no two points are the same
@@ -166,7 +165,6 @@ module _ (bs : List ℕ) (h : plan_check bs ≡ (Ok tt)) where
   unfolding plan_of party_count gate_at gate_from
   plain =
       record {
-        rule = rw (ne_eqb (version_at bs) 4 (λ e. omega (arith, e, (between-true 1 3 (version_at bs) checks.version).1)));
         kinds = λ g. kinds_read (gate_at bs) (gate_count_at bs) g (λ i. kind_read _ _ _ _);
       }
 

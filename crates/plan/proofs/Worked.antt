@@ -135,7 +135,7 @@ wide_body =
 point4 : ℕ → ℕ → List ℕ
 point4 low high = low ∷ 0 ∷ high ∷ 0 ∷ []
 
--- 101 and 65,537 as primes of four bytes, a point above 65,535, and the file that ends in its contents: 6 after 3, 4 and 5
+-- 101 and 65,537 as primes of four bytes, a point above 65,535, versions 4 and 5, and the file that ends in its contents: 6 after 3, 4 and 5
 pub third : List Row
 third =
     row (wide 3 3 1 (point4 101 0) 72 (wide_body ++ (point4 7 0 ++ (point4 40 0 ++ point4 3 0)))) (Ok tt)
@@ -144,7 +144,8 @@ third =
     ∷ row (wide 3 3 1 (point4 2 1) 72 (wide_body ++ (point4 7 0 ++ (point4 40 0 ++ point4 3 0)))) (Err refusal.Modulus)
     ∷ row (wide 3 3 1 (point4 101 0) 73 (wide_body ++ (point4 7 0 ++ (point4 40 0 ++ point4 3 0)))) (Err refusal.Layout)
     ∷ row (wide 3 3 1 (point4 101 0) 72 (wide_body ++ (point4 7 0 ++ point4 40 0))) (Err refusal.Layout)
-    ∷ row (wide 4 3 1 (point4 101 0) 72 (wide_body ++ (point4 7 0 ++ (point4 40 0 ++ point4 3 0)))) (Err refusal.Version)
+    ∷ row (wide 4 3 1 (point4 101 0) 72 (wide_body ++ (point4 7 0 ++ (point4 40 0 ++ point4 3 0)))) (Ok tt)
+    ∷ row (wide 5 3 1 (point4 101 0) 72 (wide_body ++ (point4 7 0 ++ (point4 40 0 ++ point4 3 0)))) (Err refusal.Version)
     ∷ row (wide 2 3 1 (point4 101 0) 72 (wide_body ++ (point4 7 0 ++ (point4 40 0 ++ point4 3 0)))) (Err refusal.Layout)
     ∷ row (contents 3 16 1 0 11) (Err refusal.Parties)
     ∷ row (contents 3 3 3 0 11) (Err refusal.Threshold)

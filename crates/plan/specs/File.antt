@@ -1,4 +1,4 @@
--- The plan file of versions 1 to 3: its checks, 1 to 8, 25 and 26, and the plan that it stands for.
+-- The plan file of versions 1 to 4: its checks, 1 to 8, 25 and 26, and the plan that it stands for.
 use Rattle.std.specs.Prelude.{Option, Some, None, ℕ, suc, ◌+◌, ◌*◌, Bool, true, false, cond, not, ◌&&◌, List, [], ◌∷◌, eqb, leb, ltb, length, take, get_or}
 use Rattle.numbers.specs.Tables.{tab, first_failing}
 use Rattle.numbers.specs.Bytes.{number_at, word_at}
@@ -182,7 +182,7 @@ points_check bs = unless_found (λ i. refusal.Points) (first_failing (point_kept
 unfoldable pub plan_checks : List ℕ → List Checked
 plan_checks bs =
     need refusal.Magic (leb 18 (length bs) && same_bytes (take 4 bs) magic)
-    ∷ need refusal.Version (between 1 3 (version_at bs))
+    ∷ need refusal.Version (between 1 4 (version_at bs))
     ∷ need refusal.Parties (parties_ok (n_at bs))
     ∷ need refusal.Threshold (threshold_ok (n_at bs) (t_at bs))
     ∷ need refusal.Modulus (modulus_ok (n_at bs) (p_at bs))

@@ -1,5 +1,5 @@
 -- Counts of a plan's gates, coins and outs.
---     kinds, coining, counting, counting_outs     what closes the needs of the functions that count
+--     kinds, coining, counting_one, counting, counting_outs     what closes the needs of the functions that count
 --     by_kind                                     of those that give what a gate brings
 -- Assumes nothing.
 use mathlib.Core.Path.{◌≡◌, refl, sym, ap, subst, ◌∙◌}
@@ -9,14 +9,14 @@ use Prim.Native.Nat.{ℕ, suc, ◌+◌, ◌*◌, ◌<◌, ◌≤◌}
 use native.Mathlib.Nat.{mul-le-mul}
 use native.Mathlib.Omega.{arith}
 use borrow.Author.Rules.{rules}
-use borrow.Author.Tests.{ne_eqb}
+use borrow.Author.Tests.{eq-eqb, ne_eqb}
 use mir.Syntax.{w64}
 use mir.Val.{bool_byte, Fits}
 use lib.Dec.{eqb, leb}
 use lib.ListN.{length, get_or, take}
-use lib.Seq.{take_all}
+use lib.Seq.{take_all, length-take-le}
 use Rattle.numbers.specs.Tables.{count_where}
-use Rattle.numbers.proofs.Counts.{Counted, count_none, count_next, counted, count_where-append}
+use Rattle.numbers.proofs.Counts.{Counted, count_none, count_next, counted, count_where-take-suc}
 use Rattle.plan.specs.declared.Gate.{Gate}
 use Rattle.plan.specs.declared.Gate.TheVariants.{Input, Add, Scale, Offset, Multiply, Random, Spend}
 use Rattle.plan.specs.declared.Rule.{Rule}
@@ -45,10 +45,6 @@ module _ (g q : Gate) (e : g ≡ q) where
 pub rounds_as : (g : Gate) (k : ℕ) → k ≡ kind_of g → leb 5 k ≡ leb 5 (kind_of g)
 rounds_as g k e = ap (leb 5) e
 
--- a gate that was read
-pub own_as : (i : ℕ) (x y : Gate) (t : Bool) → y ≡ x → t ≡ is_input_of i y → t ≡ is_input_of i x
-own_as i x y t e f = f ∙ ap (is_input_of i) e
-
 -- ---- a gate's kind by its first byte
 not_both : (t : Bool) → t ≡ true → t ≡ false → ⊥
 not_both t e f = let z : ◌≡◌ {A = ℕ} 0 1 = cc in omega arith
@@ -73,13 +69,8 @@ kind_byte bs h g k p l e = e ∙ kind_of_lem h.n h.field.p g (get_or bs (gate_pl
 pub kind_read : (bs ds : List ℕ) (h : Header) (g k : ℕ) → ds ≡ bs → k ≡ get_or ds (gate_place ds g) 0 → Planned bs h → g < h.gates → k ≡ kind_of (gate_at bs g)
 kind_read bs ds h g k e q p l = kind_byte bs h g k p l (q ∙ ap (λ (s : List ℕ). get_or s (gate_place s g) 0) e)
 
--- an input has kind 1
-pub own-not : (i k : ℕ) (x : Gate) → k ≡ kind_of x → (k ≡ 1 → ⊥) → false ≡ is_input_of i x
-unfolding is_input_of is_kind
-own-not i k x e ne = rw (ne_eqb (kind_of x) 1 (λ q. ne (e ∙ q)))
-
 -- As it is: answers name this set, since the check leaves their goals open by `using` alone.
-pub ruleset kinds = (rules, kind_as, input_of_as, rounds_as, kind_read, own-not, own_as)
+pub ruleset kinds = (rules, kind_as, input_of_as, rounds_as, kind_read)
 
 -- a test as a number
 pub as_count : (t : Bool) {o : ℕ} → o ≡ bool_byte t → o ≡ cond t 1 0
@@ -166,21 +157,9 @@ module _ (plan : Plan) (i : ℕ) (gate : Gate) where
 -- As it is: answers name this set, since the check leaves their goals open by `using` alone.
 pub ruleset coining = (rules, one_at_most, coins_input, coins_multiply, coins_random, coins_none, inputs_input, inputs_random, inputs_none)
 
--- ---- a loop over the gates that counts: k of the first g pass
-module _ (f : Gate → Bool) (bs : List ℕ) (h : Header) (k g : ℕ) (p : Planned bs h) (c : Counted f (plan_of bs).gates k g) where
-  gates_next : g < h.gates → (o : ℕ) → o ≡ cond (f (gate_at bs g)) 1 0 → Counted f (plan_of bs).gates (k + o) (g + 1)
-  gates_next l o eo = count_next f (plan_of bs).gates k g c o (Input 0) (rw (plan_gates p) l) (rw (plan_gate p g l) eo)
-
--- the loop of a tally, of the gates below `top`
-pub record Tallying (bs : List ℕ) (top i : ℕ) (c : Tally) (g : ℕ) : Type 0 where
-  pub within : g ≤ top
-  pub inputs : Counted (is_kind 1) (plan_of bs).gates c.inputs g
-  pub own : Counted (is_input_of i) (plan_of bs).gates c.own g
-  pub multiplies : Counted (is_kind 5) (plan_of bs).gates c.multiplies g
-  pub randoms : Counted (is_kind 6) (plan_of bs).gates c.randoms g
-  pub spends : Counted (is_kind 7) (plan_of bs).gates c.spends g
-  pub few : c.inputs + c.multiplies + c.randoms + c.spends ≤ g
-  pub own_few : c.own ≤ c.inputs
+-- ---- a tally of one gate more
+abbrev once : Bool → ℕ
+once b = cond b 1 0
 
 one_kind : (g : Gate) → cond (is_kind 1 g) 1 0 + cond (is_kind 5 g) 1 0 + cond (is_kind 6 g) 1 0 + cond (is_kind 7 g) 1 0 ≤ 1
 unfolding is_kind kind_of
@@ -192,6 +171,25 @@ one_kind (Multiply a b) = omega arith
 one_kind Random = omega arith
 one_kind (Spend a b) = omega arith
 
+one-more : (t : Bool) (n : ℕ) → cond t (suc n) n ≡ n + cond t 1 0
+one-more true n = omega arith
+one-more false n = omega arith
+
+-- of gates of four kinds there are as many as gates at most
+kinds_few : (gs : List Gate) → count_where (is_kind 1) gs + count_where (is_kind 5) gs + count_where (is_kind 6) gs + count_where (is_kind 7) gs ≤ length gs
+unfolding count_where
+kinds_few [] = omega arith
+kinds_few (x ∷ gs) =
+    omega (
+      arith,
+      kinds_few gs,
+      one_kind x,
+      one-more (is_kind 1 x) (count_where (is_kind 1) gs),
+      one-more (is_kind 5 x) (count_where (is_kind 5) gs),
+      one-more (is_kind 6 x) (count_where (is_kind 6) gs),
+      one-more (is_kind 7 x) (count_where (is_kind 7) gs),
+    )
+
 own-input : (i : ℕ) (g : Gate) → cond (is_input_of i g) 1 0 ≤ cond (is_kind 1 g) 1 0
 unfolding is_input_of
 own-input i g = pick (is_kind 1 g) (eqb i (get_or (operands_of g) 0 0))
@@ -201,60 +199,97 @@ own-input i g = pick (is_kind 1 g) (eqb i (get_or (operands_of g) 0 0))
     pick true false = omega arith
     pick false b = omega arith
 
+not-own : (i : ℕ) (g : Gate) → (kind_of g ≡ 1 → ⊥) → once (is_input_of i g) ≡ 0
+unfolding is_input_of is_kind
+not-own i g n = rw (ne_eqb (kind_of g) 1 n)
+
 module _ (bs : List ℕ) (i : ℕ) where
-  pub tally-none : (top : ℕ) → Tallying bs top i (record { inputs = 0; own = 0; multiplies = 0; randoms = 0; spends = 0 }) 0
-  tally-none top = record {
-    within = omega arith;
-    inputs = count_none (is_kind 1) (plan_of bs).gates;
-    own = count_none (is_input_of i) (plan_of bs).gates;
-    multiplies = count_none (is_kind 5) (plan_of bs).gates;
-    randoms = count_none (is_kind 6) (plan_of bs).gates;
-    spends = count_none (is_kind 7) (plan_of bs).gates;
-    few = omega arith;
-    own_few = omega arith;
-  }
+  pub tally-none : Tallied (take 0 (plan_of bs).gates) i (record { inputs = 0; own = 0; multiplies = 0; randoms = 0; spends = 0 })
+  unfolding count_where
+  tally-none = record { inputs = refl; own = refl; multiplies = refl; randoms = refl; spends = refl; few = omega arith; own_few = omega arith }
 
-  module _ (h : Header) (top : ℕ) (c : Tally) (g : ℕ) (p : Planned bs h) (lt : top ≤ h.gates) (w : Tallying bs top i c g) where
-    pub tally-next : g < top → (k : ℕ) → k ≡ kind_of (gate_at bs g) → (tb : Bool) (oa ob om or os : ℕ)
-        → oa ≡ bool_byte (eqb k 1) → tb ≡ is_input_of i (gate_at bs g) → ob ≡ bool_byte tb → om ≡ bool_byte (eqb k 5) → or ≡ bool_byte (eqb k 6) → os ≡ bool_byte (eqb k 7)
-        → Tallying bs top i (record { inputs = c.inputs + oa; own = c.own + ob; multiplies = c.multiplies + om; randoms = c.randoms + or; spends = c.spends + os }) (g + 1)
-    unfolding is_kind
-    tally-next l k ek tb oa ob om or os ea et eb em er es =
-        let a : oa ≡ cond (is_kind 1 (gate_at bs g)) 1 0 = as_count (eqb k 1) ea ∙ rw ek in
-        let b : ob ≡ cond (is_input_of i (gate_at bs g)) 1 0 = as_count tb eb ∙ rw et in
-        let m : om ≡ cond (is_kind 5 (gate_at bs g)) 1 0 = as_count (eqb k 5) em ∙ rw ek in
-        let r : or ≡ cond (is_kind 6 (gate_at bs g)) 1 0 = as_count (eqb k 6) er ∙ rw ek in
-        let s : os ≡ cond (is_kind 7 (gate_at bs g)) 1 0 = as_count (eqb k 7) es ∙ rw ek in
+  module _ (h : Header) (g : ℕ) (c : Tally) (p : Planned bs h) (l : g < h.gates) (t : Tallied (take g (plan_of bs).gates) i c) where
+    abbrev x : Gate
+    x = gate_at bs g
+
+    more : (f : Gate → Bool) (k o : ℕ) → k ≡ count_where f (take g (plan_of bs).gates) → o ≡ cond (f (gate_at bs g)) 1 0 → k + o ≡ count_where f (take (g + 1) (plan_of bs).gates)
+    more f k o e eo = rw (e, eo, ← plan_gate p g l) (sym (count_where-take-suc f (plan_of bs).gates g (Input 0) (rw (plan_gates p) l)))
+
+    tally-more : (d : Tally) → d.inputs ≡ c.inputs + cond (is_kind 1 (gate_at bs g)) 1 0 → d.own ≡ c.own + cond (is_input_of i (gate_at bs g)) 1 0
+        → d.multiplies ≡ c.multiplies + cond (is_kind 5 (gate_at bs g)) 1 0 → d.randoms ≡ c.randoms + cond (is_kind 6 (gate_at bs g)) 1 0
+        → d.spends ≡ c.spends + cond (is_kind 7 (gate_at bs g)) 1 0 → Tallied (take (g + 1) (plan_of bs).gates) i d
+    tally-more d ea eb em er es =
+        let a : d.inputs ≡ count_where (is_kind 1) (take (g + 1) (plan_of bs).gates) = ea ∙ more (is_kind 1) c.inputs _ t.inputs refl in
+        let m : d.multiplies ≡ count_where (is_kind 5) (take (g + 1) (plan_of bs).gates) = em ∙ more (is_kind 5) c.multiplies _ t.multiplies refl in
+        let r : d.randoms ≡ count_where (is_kind 6) (take (g + 1) (plan_of bs).gates) = er ∙ more (is_kind 6) c.randoms _ t.randoms refl in
+        let s : d.spends ≡ count_where (is_kind 7) (take (g + 1) (plan_of bs).gates) = es ∙ more (is_kind 7) c.spends _ t.spends refl in
         record {
-          within = omega arith;
-          inputs = gates_next (is_kind 1) bs h c.inputs g p w.inputs (omega arith) oa a;
-          own = gates_next (is_input_of i) bs h c.own g p w.own (omega arith) ob b;
-          multiplies = gates_next (is_kind 5) bs h c.multiplies g p w.multiplies (omega arith) om m;
-          randoms = gates_next (is_kind 6) bs h c.randoms g p w.randoms (omega arith) or r;
-          spends = gates_next (is_kind 7) bs h c.spends g p w.spends (omega arith) os s;
-          few = omega (arith, w.few, one_kind (gate_at bs g), a, m, r, s);
-          own_few = omega (arith, w.own_few, own-input i (gate_at bs g), a, b);
+          inputs = a;
+          own = eb ∙ more (is_input_of i) c.own _ t.own refl;
+          multiplies = m;
+          randoms = r;
+          spends = s;
+          few = omega (arith, a, m, r, s, kinds_few (take (g + 1) (plan_of bs).gates), length-take-le (g + 1) (plan_of bs).gates (omega (arith, plan_gates p)), p.gates-high);
+          own_few = omega (arith, t.own_few, own-input i (gate_at bs g), ea, eb);
         }
 
-    pub tallied : top ≤ g → Tallied (take top (plan_of bs).gates) i c
-    tallied l =
-        let e : g ≡ top = omega (arith, w.within) in
-        record {
-          inputs = rw (← e) w.inputs.is;
-          own = rw (← e) w.own.is;
-          multiplies = rw (← e) w.multiplies.is;
-          randoms = rw (← e) w.randoms.is;
-          spends = rw (← e) w.spends.is;
-          few = omega (arith, w.few, w.within, p.gates-high);
-          own_few = w.own_few;
-        }
+    module _ (k : ℕ) (ek : k ≡ kind_of (gate_at bs g)) where
+      is-not : (j : ℕ) → (k ≡ j → ⊥) → once (is_kind j (gate_at bs g)) ≡ 0
+      unfolding is_kind
+      is-not j n = rw (ne_eqb (kind_of (gate_at bs g)) j (λ e. n (ek ∙ e)))
+
+      is : (j : ℕ) → k ≡ j → once (is_kind j (gate_at bs g)) ≡ 1
+      unfolding is_kind
+      is j e = rw (eq-eqb (kind_of (gate_at bs g)) j (sym ek ∙ e))
+
+      other : (k ≡ 1 → ⊥) → once (is_input_of i (gate_at bs g)) ≡ 0
+      other n = not-own i (gate_at bs g) (λ e. n (ek ∙ e))
+
+      pub tally-input : (y : Gate) (b : Bool) (o : ℕ) → k ≡ 1 → y ≡ gate_at bs g → b ≡ is_input_of i y → o ≡ bool_byte b
+          → Tallied (take (g + 1) (plan_of bs).gates) i (record { inputs = c.inputs + 1; own = c.own + o; multiplies = c.multiplies; randoms = c.randoms; spends = c.spends })
+      tally-input y b o e ey eb eo =
+          let own : o ≡ cond (is_input_of i (gate_at bs g)) 1 0 = as_count b eo ∙ rw (eb, ey) in
+          tally-more _ (omega (arith, is 1 e)) (omega (arith, own)) (omega (arith, is-not 5 (λ q. omega arith))) (omega (arith, is-not 6 (λ q. omega arith))) (omega (arith, is-not 7 (λ q. omega arith)))
+
+      pub tally-multiply : k ≡ 5 → Tallied (take (g + 1) (plan_of bs).gates) i (record { inputs = c.inputs; own = c.own; multiplies = c.multiplies + 1; randoms = c.randoms; spends = c.spends })
+      tally-multiply e =
+          tally-more _ (omega (arith, is-not 1 (λ q. omega arith))) (omega (arith, other (λ q. omega arith))) (omega (arith, is 5 e)) (omega (arith, is-not 6 (λ q. omega arith))) (omega (arith, is-not 7 (λ q. omega arith)))
+
+      pub tally-above : (r o : ℕ) → 5 < k → r ≡ bool_byte (eqb k 6) → o ≡ bool_byte (eqb k 7)
+          → Tallied (take (g + 1) (plan_of bs).gates) i (record { inputs = c.inputs; own = c.own; multiplies = c.multiplies; randoms = c.randoms + r; spends = c.spends + o })
+      unfolding is_kind
+      tally-above r o l er eo =
+          tally-more _ (omega (arith, is-not 1 (λ q. omega arith))) (omega (arith, other (λ q. omega arith))) (omega (arith, is-not 5 (λ q. omega arith)))
+          (ap (λ (m : ℕ). c.randoms + m) (as_count (eqb k 6) er ∙ rw ek)) (ap (λ (m : ℕ). c.spends + m) (as_count (eqb k 7) eo ∙ rw ek))
+
+      pub tally-other : k ≤ 5 → (k ≡ 5 → ⊥) → (k ≡ 1 → ⊥) → Tallied (take (g + 1) (plan_of bs).gates) i c
+      tally-other l n5 n1 =
+          tally-more c (omega (arith, is-not 1 n1)) (omega (arith, other n1)) (omega (arith, is-not 5 n5)) (omega (arith, is-not 6 (λ q. omega arith))) (omega (arith, is-not 7 (λ q. omega arith)))
+
+-- As it is: answers name this set, since the check leaves their goals open by `using` alone.
+pub ruleset counting_one = (rules, one_at_most, tally-above, tally-multiply, tally-input, tally-other)
+
+-- the pass over the gates below `top`
+pub record Tallying (bs : List ℕ) (top i : ℕ) (c : Tally) (g : ℕ) : Type 0 where
+  pub within : g ≤ top
+  pub tallied : Tallied (take g (plan_of bs).gates) i c
+
+module _ (bs : List ℕ) (top i : ℕ) (c : Tally) (g : ℕ) (w : Tallying bs top i c g) where
+  pub tallying-next : g < top → (d : Tally) → Tallied (take (g + 1) (plan_of bs).gates) i d → Tallying bs top i d (g + 1)
+  tallying-next l d t = record { within = omega arith; tallied = t }
+
+  pub tallying-done : top ≤ g → Tallied (take top (plan_of bs).gates) i c
+  tallying-done l = let e : g ≡ top = omega (arith, w.within) in rw (← e) w.tallied
+
+pub tallying-none : (bs : List ℕ) (top i : ℕ) (c : Tally) → Tallied (take 0 (plan_of bs).gates) i c → Tallying bs top i c 0
+tallying-none bs top i c t = record { within = omega arith; tallied = t }
 
 -- of all gates
 pub tallied_all : (bs : List ℕ) (h : Header) (i : ℕ) (c : Tally) → Planned bs h → Tallied (take h.gates (plan_of bs).gates) i c → Tallied (plan_of bs).gates i c
 tallied_all bs h i c p t = subst (λ (gs : List Gate). Tallied gs i c) (take_all h.gates (plan_of bs).gates (omega (arith, plan_gates p))) t
 
 -- As it is: answers name this set, since the check leaves their goals open by `using` alone.
-pub ruleset counting = (rules, tally-none, tally-next, tallied, tallied_all)
+pub ruleset counting = (rules, tally-none, tallying-none, tallying-next, tallying-done, tallied_all)
 
 -- ---- outs
 module _ (i : ℕ) where

@@ -9,10 +9,10 @@ use Prim.Native.Nat.{ℕ, zero, suc, ◌+◌, ◌-◌, ◌<◌, ◌≤◌}
 use native.Mathlib.Numerals.{add-one}
 use native.Mathlib.Omega.{arith}
 use borrow.Author.Rules.{rules}
-use lib.Dec.{leb}
+use borrow.Author.Tests.{eq-eqb, ne_eqb}
+use lib.Dec.{eqb}
 use lib.ListN.{length, get_or, drop, drop_of_length-le, get_or-append}
 use lib.Seq.{drop-cons, get_or-append-add}
-use mir.Val.{bool_byte}
 use Rattle.numbers.specs.Tables.{count_where}
 use Rattle.plan.specs.declared.Gate.{Gate}
 use Rattle.plan.specs.declared.Gate.TheVariants.{Input, Add, Scale, Offset, Multiply, Random, Spend}
@@ -71,33 +71,32 @@ module _ (g a b j : ℕ) where
   reduced_step s e = e
 
 -- how many there are, by the gate's kind
-module _ (rule : Rule) (g k : ℕ) (x : Gate) (e : k ≡ kind_of x) where
-  pub steps-multiply : (r : ℕ) → k ≡ 5 → r ≡ multiply_rounds rule → r ≡ length (steps_at rule g x)
-  unfolding steps_at kind_of multiply_steps multiply_rounds
-  steps-multiply r l f = f ∙ of rule x (sym e ∙ l)
-    where
-      of : (q : Rule) (y : Gate) → kind_of y ≡ 5 → multiply_rounds q ≡ length (steps_at q g y)
-      of q (Input s) m = absurd (omega arith)
-      of q (Add a b) m = absurd (omega arith)
-      of q (Scale a c) m = absurd (omega arith)
-      of q (Offset a c) m = absurd (omega arith)
-      of Reduction (Multiply a b) m = refl
-      of Truncation (Multiply a b) m = refl
-      of q Random m = absurd (omega arith)
-      of q (Spend a b) m = absurd (omega arith)
+pub multiply-steps : (rule : Rule) (k r : ℕ) → k ≡ 5 → r ≡ multiply_rounds rule → r ≡ cond (eqb k 5) (multiply_rounds rule) 1
+multiply-steps rule k r e f = rw (eq-eqb k 5 e) f
 
-  pub steps_other : (r : ℕ) → (k ≡ 5 → ⊥) → r ≡ bool_byte (leb 6 k) → r ≡ length (steps_at rule g x)
-  unfolding steps_at kind_of
-  steps_other r n f = f ∙ ap (λ (m : ℕ). bool_byte (leb 6 m)) e ∙ of x (λ q. n (e ∙ q))
-    where
-      of : (y : Gate) → (kind_of y ≡ 5 → ⊥) → bool_byte (leb 6 (kind_of y)) ≡ length (steps_at rule g y)
-      of (Input s) o = refl
-      of (Add a b) o = refl
-      of (Scale a c) o = refl
-      of (Offset a c) o = refl
-      of (Multiply a b) o = absurd (o refl)
-      of Random o = refl
-      of (Spend a b) o = refl
+pub one-step : (rule : Rule) (k : ℕ) → (k ≡ 5 → ⊥) → 1 ≡ cond (eqb k 5) (multiply_rounds rule) 1
+one-step rule k n = rw (ne_eqb k 5 n)
+
+steps-long : (rule : Rule) (g : ℕ) (x : Gate) → 5 ≤ kind_of x → cond (eqb (kind_of x) 5) (multiply_rounds rule) 1 ≡ length (steps_at rule g x)
+unfolding steps_at kind_of multiply_steps multiply_rounds
+steps-long rule g (Input s) l = absurd (omega arith)
+steps-long rule g (Add a b) l = absurd (omega arith)
+steps-long rule g (Scale a c) l = absurd (omega arith)
+steps-long rule g (Offset a c) l = absurd (omega arith)
+steps-long Reduction g (Multiply a b) l = refl
+steps-long Truncation g (Multiply a b) l = refl
+steps-long rule g Random l = refl
+steps-long rule g (Spend a b) l = refl
+
+no_steps : (rule : Rule) (g : ℕ) (x : Gate) → kind_of x < 5 → steps_at rule g x ≡ []
+unfolding steps_at kind_of
+no_steps rule g (Input s) l = refl
+no_steps rule g (Add a b) l = refl
+no_steps rule g (Scale a c) l = refl
+no_steps rule g (Offset a c) l = refl
+no_steps rule g (Multiply a b) l = absurd (omega arith)
+no_steps rule g Random l = absurd (omega arith)
+no_steps rule g (Spend a b) l = absurd (omega arith)
 
 -- a plan file has no gate that spends
 no-spend : (gs : List Gate) (g a b : ℕ) → count_where (is_kind 7) gs ≡ 0 → g < length gs → get_or gs g (Input 0) ≡ Spend a b → ⊥
@@ -153,25 +152,32 @@ module _ (bs : List ℕ) (h : Header) (p : Planned bs h) where
     in_row : get_or (own ++ (rest ++ (SendOuts ∷ []))) left SendOuts ≡ step_at (plan_of bs) (suc k)
     in_row = ap (λ (m : List Step). get_or m left SendOuts) (sym (append_assoc own rest (SendOuts ∷ []))) ∙ at
 
-    pub step_found : (r : ℕ) → r ≡ length own → left < r → (gate : Gate) (s : Step) → gate ≡ gate_at bs g → s ≡ get_or (steps_at h.rule g gate) left SendOuts → s ≡ step_at (plan_of bs) (suc k)
-    step_found r e m gate s eg q =
-        q ∙ ap (λ (x : Gate). get_or (steps_at h.rule g x) left SendOuts) eg ∙ sym (get_or-append own (rest ++ (SendOuts ∷ [])) SendOuts left (omega arith)) ∙ in_row
+    module _ (k' r : ℕ) (ek : k' ≡ kind_of (gate_at bs g)) (m : 5 ≤ k') (er : r ≡ cond (eqb k' 5) (multiply_rounds h.rule) 1) where
+      long : r ≡ length own
+      long = er ∙ ap (λ (n : ℕ). cond (eqb n 5) (multiply_rounds h.rule) 1) ek ∙ steps-long h.rule g (gate_at bs g) (omega arith)
+
+      pub step_found : left < r → (gate : Gate) (s : Step) → gate ≡ gate_at bs g → s ≡ get_or (steps_at h.rule g gate) left SendOuts → s ≡ step_at (plan_of bs) (suc k)
+      step_found n gate s eg q =
+          q ∙ ap (λ (x : Gate). get_or (steps_at h.rule g x) left SendOuts) eg ∙ sym (get_or-append own (rest ++ (SendOuts ∷ [])) SendOuts left (omega (arith, long))) ∙ in_row
+
+      pub step_passed : r ≤ left → (n : ℕ) → n ≡ left - r → Stepping bs h.rule h.gates k n (g + 1)
+      step_passed o n q =
+          let there : left ≡ length own + n = omega (arith, long) in
+          record {
+            within = omega arith;
+            is =
+                rw add-one
+                (sym (get_or-append-add own (rest ++ (SendOuts ∷ [])) n SendOuts) ∙ ap (λ (j : ℕ). get_or (own ++ (rest ++ (SendOuts ∷ []))) j SendOuts) (sym there) ∙ in_row);
+          }
+
+    pub step_skipped : (k' : ℕ) → k' ≡ kind_of (gate_at bs g) → k' < 5 → (n : ℕ) → n ≡ left → Stepping bs h.rule h.gates k n (g + 1)
+    step_skipped k' ek m n q = record { within = omega arith; is = rw (add-one, q) (rw (no_steps h.rule g (gate_at bs g) (omega arith)) at in_row) }
 
     pub step_of : (gate : Gate) (s : Step) → gate ≡ gate_at bs g → s ≡ get_or (steps_at h.rule g gate) left SendOuts → Stepped (plan_of bs) s
     step_of gate s eg q =
         let is : IsGate (plan_of bs) g gate = record { within = rw (plan_gates p) l; is = plan_gate p g l ∙ sym eg } in
         subst (Stepped (plan_of bs)) (sym (q ∙ ap (λ (rule : Rule). get_or (steps_at rule g gate) left SendOuts) (sym (plan_rule p))))
         (stepped_at (plan_of bs) g left gate (plain_no_7 (plan_of bs) (plain bs p.passes)) is)
-
-    pub step_passed : (r : ℕ) → r ≡ length own → r ≤ left → (n : ℕ) → n ≡ left - r → Stepping bs h.rule h.gates k n (g + 1)
-    step_passed r e m n q =
-        let there : left ≡ length own + n = omega arith in
-        record {
-          within = omega arith;
-          is =
-              rw add-one
-              (sym (get_or-append-add own (rest ++ (SendOuts ∷ [])) n SendOuts) ∙ ap (λ (j : ℕ). get_or (own ++ (rest ++ (SendOuts ∷ []))) j SendOuts) (sym there) ∙ in_row);
-        }
 
   module _ (k left g : ℕ) (w : Stepping bs h.rule h.gates k left g) where
     pub step-none : h.gates ≤ g → SendOuts ≡ step_at (plan_of bs) (suc k)
@@ -203,6 +209,8 @@ module _ (plan : Plan) where
   unfolding Stepped
   stepped-product s g a b i e = (subst (Stepped plan) e i).0
 
+pub ruleset counting_steps = (rules, multiply-steps, one-step)
+
 -- As it is: answers name this set, since the check leaves their goals open by `using` alone.
 pub ruleset stepping =
-    (rules, step_as, by_rule, only_first, only_later, zero-first, masked_second, truncated_third, no-fourth, reduced_step, steps-multiply, steps_other, steps_begin, step_found, step_of, step_passed, step-none, outs_stepped, inputs_stepped, step_first, step_later)
+    (rules, step_as, by_rule, only_first, only_later, zero-first, masked_second, truncated_third, no-fourth, reduced_step, steps_begin, step_found, step_of, step_passed, step_skipped, step-none, outs_stepped, inputs_stepped, step_first, step_later)

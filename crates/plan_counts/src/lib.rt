@@ -278,14 +278,36 @@ impl<'a> PlanGates<'a> {
         self.gates.gate(g)
     }
 
-    // Whether gate g, of kind k, is an input of party i.
-    #[tactic(auto, using(crate::proofs::Counts::kinds))]
-    fn is_own(&self, i: usize, g: usize, k: usize) -> bool
+    // A tally for party i of the gates below gate g, with gate g.
+    // As it is: no `match` on the kinds, which becomes a jump for each gate.
+    #[tactic(auto, using(crate::proofs::Counts::counting_one))]
+    fn with_gate(&self, i: usize, g: usize, tally: Tally) -> Tally
         requires g_lt_gates { g < self.now.plan.now.header.gates }
-        requires k_value { k ≡ kind_of (gate_at self.now.plan.now.bytes.now g) }
-        ensures { result ≡ is_input_of i (gate_at self.now.plan.now.bytes.now g) }
+        requires tallied { Tallied (take g (plan_of self.now.plan.now.bytes.now).gates) i tally }
+        ensures { Tallied (take (g + 1) (plan_of self.now.plan.now.bytes.now).gates) i result }
     {
-        k == INPUT && is_input_of(i, self.gate(g))
+        let k = self.kind(g);
+        if MULTIPLY < k {
+            return Tally {
+                randoms: tally.randoms + usize::from(k == RANDOM),
+                spends: tally.spends + usize::from(k == SPEND),
+                ..tally
+            };
+        }
+        if k == MULTIPLY {
+            return Tally {
+                multiplies: tally.multiplies + 1,
+                ..tally
+            };
+        }
+        if k == INPUT {
+            return Tally {
+                inputs: tally.inputs + 1,
+                own: tally.own + usize::from(is_input_of(i, self.gate(g))),
+                ..tally
+            };
+        }
+        tally
     }
 
     // A tally for party i of the gates below gate `top`, in one pass.
@@ -302,28 +324,9 @@ impl<'a> PlanGates<'a> {
             spends: 0,
         };
         for g in 0..top {
-            let k = self.kind(g);
-            tally.inputs += usize::from(k == INPUT);
-            tally.own += usize::from(self.is_own(i, g, k));
-            tally.multiplies += usize::from(k == MULTIPLY);
-            tally.randoms += usize::from(k == RANDOM);
-            tally.spends += usize::from(k == SPEND);
+            tally = self.with_gate(i, g, tally);
         }
         tally
-    }
-
-    // How many steps gate g has, where a multiply gate has so many.
-    #[tactic(auto, using(crate::proofs::Steps::stepping))]
-    fn steps(&self, multiply: usize, g: usize) -> usize
-        requires g_lt_gates { g < self.now.plan.now.header.gates }
-        requires multiply_value { multiply ≡ multiply_rounds self.now.plan.now.header.rule }
-        ensures { result ≡ length (steps_at self.now.plan.now.header.rule g (gate_at self.now.plan.now.bytes.now g)) }
-    {
-        let k = self.kind(g);
-        if k == MULTIPLY {
-            return multiply;
-        }
-        usize::from(MULTIPLY < k)
     }
 
     // The step of calls k + 1: those of the gates that take rounds come one by one, then the outs'.
@@ -332,14 +335,16 @@ impl<'a> PlanGates<'a> {
         ensures { record { eq : result ≡ step_at (plan_of self.now.plan.now.bytes.now) (suc k); of : Stepped (plan_of self.now.plan.now.bytes.now) result } }
     {
         let rule = self.plan.header.rule;
-        let multiply = multiply_rounds(rule);
         let mut left = k;
         for g in 0..self.plan.header.gates {
-            let steps = self.steps(multiply, g);
-            if left < steps {
-                return step_of(rule, g, self.gate(g), left);
+            let kind = self.kind(g);
+            if MULTIPLY <= kind {
+                let steps = steps_of(rule, kind);
+                if left < steps {
+                    return step_of(rule, g, self.gate(g), left);
+                }
+                left -= steps;
             }
-            left -= steps;
         }
         Step::SendOuts
     }
@@ -425,6 +430,17 @@ pub fn coins_below(plan: &PlanFile, i: usize, g: usize) -> usize
 }
 
 // ---- steps
+
+// How many steps a gate has of a kind that takes rounds.
+#[tactic(auto, using(crate::proofs::Steps::counting_steps))]
+fn steps_of(rule: Rule, kind: usize) -> usize
+    ensures { result ≡ cond (eqb kind 5) (multiply_rounds rule) 1 }
+{
+    if kind == MULTIPLY {
+        return multiply_rounds(rule);
+    }
+    1
+}
 
 // Step j of a multiply gate.
 // As it is: j is the number of calls past the gate's first, so it is compared.

@@ -614,9 +614,9 @@ module _ (n t p : ℕ) (b : Bodies) (few-gates : length b.gates ≤ 1024) (few_o
       letters : same_bytes (take 4 (file_of_plan n t p b)) magic ≡ true
       letters = unfold file_of_plan in unfold file_as in unfold contents in unfold started in unfold magic in unfold same_bytes in refl
 
-  version_made : between 1 3 (version_at (file_of_plan n t p b)) ≡ true
+  version_made : between 1 4 (version_at (file_of_plan n t p b)) ≡ true
   unfolding file_of_plan
-  version_made = rw (version_back (version_for p) (plan_with n t p b)) (version_cases (λ v. between 1 3 v ≡ true) p (λ l. unfold between in refl) (unfold between in refl))
+  version_made = rw (version_back (version_for p) (plan_with n t p b)) (version_cases (λ v. between 1 4 v ≡ true) p (λ l. unfold between in refl) (unfold between in refl))
 
   -- a file that was made is refused for its contents, for the parties of its outs and for want of a majority alone
   pub file_check_outs : (parties_ok n ≡ true → modulus_ok n p ≡ true → Wired n p b)

@@ -144,10 +144,10 @@ module _ (bs : List ℕ) (passes : plan_check bs ≡ (Ok tt)) (v : ℕ) (known :
       by true q r = eqb-true (version_at bs) 4 q ∙ sym e
       by false q r = let z : ◌≡◌ {A = ℕ} 0 1 = cc in absurd (omega arith)
 
-  versioned : between 1 3 (version_at file) ≡ true
+  versioned : between 1 4 (version_at file) ≡ true
   versioned = rw (version_back v plan) (by (eqb v 2) (eqb v 3) refl refl)
     where
-      by : (a b : Bool) → eqb v 2 ≡ a → eqb v 3 ≡ b → between 1 3 v ≡ true
+      by : (a b : Bool) → eqb v 2 ≡ a → eqb v 3 ≡ b → between 1 4 v ≡ true
       by true b e f = rw (eqb-true v 2 e) (unfold between in refl)
       by false true e f = rw (eqb-true v 3 f) (unfold between in refl)
       by false false e f = rw (← fourth (omega (arith, version.0, version.1, eqb-false v 2 e, eqb-false v 3 f))) checks.version

@@ -185,7 +185,7 @@ module _ (s : List ℕ) (t : Bool) (et : t ≡ (leb 18 (length s) && same_bytes 
   unfolding plan_checks first_of and_then need
   contents-magic h = rw (← et, h)
 
-  module _ (ht : t ≡ true) (w : ℕ) (ew : w ≡ get_or s 4 0) (v : Bool) (ev : v ≡ between 1 3 w) where
+  module _ (ht : t ≡ true) (w : ℕ) (ew : w ≡ get_or s 4 0) (v : Bool) (ev : v ≡ between 1 4 w) where
     pub contents-version : v ≡ false → Err refusal.Version ≡ first_of (take 4 (plan_checks s))
     unfolding plan_checks first_of and_then need
     contents-version h = rw (← et, ht, ← ew, ← ev, h)

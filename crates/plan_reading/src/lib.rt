@@ -248,7 +248,7 @@ fn check_contents(plan: &[u8]) -> Result<(), Refusal>
     if !begins(plan) {
         return Err(Refusal::Magic);
     }
-    if !(1..=3).contains(&plan::byte(plan, 4)) {
+    if !(1..=4).contains(&plan::byte(plan, 4)) {
         return Err(Refusal::Version);
     }
     let n = plan::byte(plan, 5);

@@ -1,7 +1,7 @@
 // A run of all parties in one machine: the bench.
 #![tactic(auto)]
 
-ghost use Rattle.std.specs.Prelude.{◌≡◌, [], ◌*◌, ◌^◌, ◌<◌, length};
+ghost use Rattle.std.specs.Prelude.{◌≡◌, [], ◌*◌, ◌^◌, ◌<◌, ◌≤◌, length};
 ghost use Rattle.numbers.specs.Bytes.{width, numbers, bytes_of};
 ghost use Rattle.plan.specs.Plans.{sent_count};
 ghost use Rattle.plan.specs.File.{plan_of};
@@ -16,8 +16,29 @@ use run_tables::RunPlan;
 
 pub mod checking;
 
-// Writes the views of a set's members in the run of all calls, by the table of shares, which holds 1,024 wires of 15 parties. The set may have
-// more than t members.
+// Writes the views of a set's members in the run of all calls, by the table of shares, which is worked in a lent one. The set may have more than
+// t members.
+#[tactic(auto, using(crate::proofs::BenchLaws::writing_run))]
+pub fn write_run_by(
+    run: &RunPlan,
+    set: u16,
+    inputs: &[u8],
+    coins: &[u8],
+    table: &mut [u64],
+    out: &mut [u8],
+)
+    requires given { Given (plan_of run.now.plan.now.bytes.now) inputs.now coins.now }
+    requires set_bound { set < 2 ^ run.now.plan.now.header.n }
+    requires table_in_bounds { run.now.plan.now.header.n * run.now.plan.now.header.gates ≤ length table.old }
+    requires out_len { length out.old ≡ width * view_count (plan_of run.now.plan.now.bytes.now) (members set) }
+    ensures { out.new ≡ bytes_of (view (plan_of run.now.plan.now.bytes.now) (members set) (numbers inputs.now) (numbers coins.now) []) }
+{
+    run.fill(inputs, coins, table);
+    let used = run.plan.header.n * run.plan.header.gates;
+    run_views::write_views(run, set, inputs, coins, &table[..used], out);
+}
+
+// The same from the plan alone, in a table that holds 1,024 wires of 15 parties.
 #[tactic(auto, using(crate::proofs::BenchLaws::writing_run))]
 pub fn write_run(plan: &PlanFile, set: u16, inputs: &[u8], coins: &[u8], out: &mut [u8])
     requires given { Given (plan_of plan.now.bytes.now) inputs.now coins.now }
@@ -39,9 +60,7 @@ pub fn write_run(plan: &PlanFile, set: u16, inputs: &[u8], coins: &[u8], out: &m
         &mut weights,
         &mut matrix,
     );
-    run.fill(inputs, coins, &mut table);
-    let used = plan.header.n * plan.header.gates;
-    run_views::write_views(&run, set, inputs, coins, &table[..used], out);
+    write_run_by(&run, set, inputs, coins, &mut table, out);
 }
 
 // Runs a plan on all inputs and coins: writes the view of a coalition, its members ascending, and answers the elements sent, own included;

@@ -14,11 +14,10 @@ use Rattle.plan.specs.declared.Gate.{Gate}
 use Rattle.plan.specs.declared.Gate.TheVariants.{Input, Add, Scale, Offset, Multiply, Random, Spend}
 use Rattle.plan.specs.declared.Rule.TheVariants.{Reduction, Truncation}
 use Rattle.plan.specs.declared.Header.{Header}
-use Rattle.plan.specs.Plans.{Plan, kind_of, is_kind, multiplying, dealings_at, coin_owners_at}
-use Rattle.plan.specs.File.{gate_at, plan_of}
+use Rattle.plan.specs.Plans.{Plan, dealings_at, coin_owners_at}
+use Rattle.plan.specs.File.{plan_of}
 use Rattle.plan.specs.Planned.{Planned}
 use Rattle.plan.proofs.Planned.{plan_t, plan_n, plan_rule, plan_dealers}
-use Rattle.plan.proofs.Valid.{gate_majority}
 use Rattle.run_protocol.proofs.Owners.{length_blocks}
 use Rattle.run_protocol.proofs.Dealt.{input-owners, reduction-owners, truncation-owners, random-owners}
 
@@ -49,43 +48,37 @@ module _ (bs : List ℕ) (h : Header) (k : Planned bs h) where
   coins-at-random : length (coin_owners_at (plan_of bs) Random) ≡ h.t * h.n
   coins-at-random = ap length (random-owners (plan_of bs)) ∙ length_blocks (plan_of bs).t 0 _ ∙ ap₂ (λ (x y : ℕ). x * y) (plan_t k) (plan_n k)
 
-  module _ (g : ℕ) (gate : Gate) (is : gate ≡ gate_at bs g) where
-    pub coins_input : (s : ℕ) → gate ≡ Input s → h.t ≡ length (coin_owners_at (plan_of bs) (gate_at bs g))
-    coins_input s e = rw (← is, e) (sym (coins-at-input s))
+  module _ (gate : Gate) where
+    pub coins_input : (s : ℕ) → gate ≡ Input s → h.t ≡ length (coin_owners_at (plan_of bs) gate)
+    coins_input s e = rw e (sym (coins-at-input s))
 
-    pub coins_else : ((i : ℕ) → gate ≡ Input i → ⊥) → ((a b : ℕ) → gate ≡ Multiply a b → ⊥) → (gate ≡ Random → ⊥) → 0 ≡ length (coin_owners_at (plan_of bs) (gate_at bs g))
-    coins_else i m r = rw (← is) (sym (ap length (no_owners (plan_of bs) gate i m r)))
+    pub coins_else : ((i : ℕ) → gate ≡ Input i → ⊥) → ((a b : ℕ) → gate ≡ Multiply a b → ⊥) → (gate ≡ Random → ⊥) → 0 ≡ length (coin_owners_at (plan_of bs) gate)
+    coins_else i m r = sym (ap length (no_owners (plan_of bs) gate i m r))
 
-    pub coins_reduction : (a b : ℕ) → gate ≡ Multiply a b → h.rule ≡ Reduction → h.t * (h.t + h.t + 1) ≡ length (coin_owners_at (plan_of bs) (gate_at bs g))
-    coins_reduction a b e r = rw (← is, e) (sym (coins-at-reduction a b r))
+    pub coins_reduction : (a b : ℕ) → gate ≡ Multiply a b → h.rule ≡ Reduction → h.t * (h.t + h.t + 1) ≡ length (coin_owners_at (plan_of bs) gate)
+    coins_reduction a b e r = rw e (sym (coins-at-reduction a b r))
 
-    pub coins_truncation : (a b : ℕ) → gate ≡ Multiply a b → h.rule ≡ Truncation → 3 * h.t * h.n ≡ length (coin_owners_at (plan_of bs) (gate_at bs g))
-    coins_truncation a b e r = rw (← is, e) (sym (coins-at-truncation a b r))
+    pub coins_truncation : (a b : ℕ) → gate ≡ Multiply a b → h.rule ≡ Truncation → 3 * h.t * h.n ≡ length (coin_owners_at (plan_of bs) gate)
+    coins_truncation a b e r = rw e (sym (coins-at-truncation a b r))
 
-    pub coins_random : gate ≡ Random → h.t * h.n ≡ length (coin_owners_at (plan_of bs) (gate_at bs g))
-    coins_random e = rw (← is, e) (sym coins-at-random)
+    pub coins_random : gate ≡ Random → h.t * h.n ≡ length (coin_owners_at (plan_of bs) gate)
+    coins_random e = rw e (sym coins-at-random)
 
 -- ---- how many they are
 module _ (bs : List ℕ) (h : Header) (k : Planned bs h) where
-  pub coins_few : h.t * (h.t + h.t + 1) ≤ 406
-  coins_few = mul-le-mul {n₂ = 14} {m₂ = 29} (omega (arith, k.threshold, k.n-high)) (omega (arith, k.threshold, k.n-high))
+  pub coins_few : h.t * (h.t + h.t + 1) ≤ 630
+  coins_few = omega (arith, mul-le-mul {n₁ = h.t} {m₁ = h.t + h.t + 1} {n₂ = 14} {m₂ = 29} (omega (arith, k.threshold, k.n-high)) (omega (arith, k.threshold, k.n-high)))
 
   pub coins-fit : Fits w64 (h.t * (h.t + h.t + 1))
   coins-fit = record { fits = omega (arith, coins_few) }
 
-  -- where a gate multiplies, t is at most 7
-  module _ (g : ℕ) (gate : Gate) (l : g < h.gates) (is : gate ≡ gate_at bs g) (a b : ℕ) (e : gate ≡ Multiply a b) where
-    two : 2 * h.t < h.n
-    unfolding multiplying is_kind kind_of
-    two = gate_majority bs h k g gate l is (ap multiplying e)
+  pub truncation-few : 3 * h.t * h.n ≤ 630
+  truncation-few = omega (arith, mul-le-mul {n₁ = 3 * h.t} {m₁ = h.n} {n₂ = 42} {m₂ = 15} (omega (arith, k.threshold, k.n-high)) k.n-high)
 
-    pub truncation-few : 3 * h.t * h.n ≤ 406
-    truncation-few = omega (arith, mul-le-mul {n₁ = 3 * h.t} {m₁ = h.n} {n₂ = 21} {m₂ = 15} (omega (arith, two, k.n-high)) k.n-high)
+  pub truncation-fits : Fits w64 (3 * h.t * h.n)
+  truncation-fits = record { fits = omega (arith, truncation-few) }
 
-    pub truncation-fits : Fits w64 (3 * h.t * h.n)
-    truncation-fits = record { fits = omega (arith, truncation-few) }
-
-  pub draws-few : h.t * h.n ≤ 406
+  pub draws-few : h.t * h.n ≤ 630
   draws-few = omega (arith, mul-le-mul {n₁ = h.t} {m₁ = h.n} {n₂ = 14} {m₂ = 15} (omega (arith, k.threshold, k.n-high)) k.n-high)
 
   pub draws-fit : Fits w64 (h.t * h.n)

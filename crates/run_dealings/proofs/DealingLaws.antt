@@ -384,4 +384,7 @@ module _ (p t k : ℕ) (points rows : List ℕ) (h : Powered p (terms t) points 
   pub point_row_is : take (k * j + k - k * j) (drop (k * j) rows) ≡ powers p (get_or points j 0) (length (take (k * j + k - k * j) (drop (k * j) rows)))
   point_row_is = at_point ∙ ap (powers p (get_or points j 0)) (sym at_point_long)
 
-pub ruleset finding_row = (rules, point_row_within, point_row_fits, point_row_end_fits, point_row_some, point_row_few, point_row_is)
+  pub point_row_long : length (take (k * j + k - k * j) (drop (k * j) rows)) ≡ terms t
+  point_row_long = at_point_long ∙ e
+
+pub ruleset finding_row = (rules, point_row_long, point_row_within, point_row_fits, point_row_end_fits, point_row_some, point_row_few, point_row_is)

@@ -5,5 +5,6 @@ pub mod ColumnLaws
 pub mod DealingLaws
 pub mod SumLaws
 pub mod TruncationLaws
+pub mod MaskLaws
 pub mod MixtureLaws
 pub mod CoinLaws

@@ -2,20 +2,26 @@
 --     Making, entry-none, entry-next, entries-made     loops that fill an array's first n entries
 -- Assumes nothing.
 use mathlib.Core.Path.{◌≡◌, refl, sym, ap, ◌∙◌}
+use mathlib.Core.Bool.{true}
 use mathlib.Core.List.{List, [], ◌∷◌, ◌++◌, map}
 use Prim.Native.Nat.{ℕ, zero, suc, ◌+◌, ◌-◌, ◌*◌, ◌^◌, ◌<◌, ◌≤◌}
 use native.Mathlib.Numerals.{add-one}
 use native.Mathlib.Omega.{arith}
 use borrow.Author.Rules.{rules}
+use borrow.Author.Tests.{lt-ltb}
 use lib.ListN.{length, take, drop, set, get_or, replicate, length-replicate, length-drop, length-set}
 use lib.Seq.{take_at, drop_at, take-nil, drop-nil, take-suc-set, get_or-take, get_or-drop, take-take, length-take-le}
 use mir.Syntax.{w64}
 use mir.Val.{Fits}
 use Rattle.numbers.specs.Tables.{tab}
+use Rattle.numbers.specs.Bytes.{all_below}
 use Rattle.numbers.proofs.Tables.{tab-next, tab-zero, get_or-tab, row_room}
 use Rattle.numbers.proofs.Below.{all_below_at, all_below-take, all_below-drop}
 use Rattle.numbers.proofs.Fills.{Filled, fill_none, fill_next, filled}
 use Rattle.field.specs.Mod.{mul}
+use Rattle.field.specs.Field.{Is}
+use Rattle.field.proofs.Solve.{#, quote, solve}
+use Rattle.sharing_laws.specs.Interp.{dot}
 use Rattle.sharing_laws.proofs.Alls.{map-tab}
 use Rattle.run_dealings.specs.Rows.{Rowed, Standing}
 
@@ -118,4 +124,16 @@ module _ (p n w : ℕ) (table : List ℕ) (r : Rowed p n w table) where
 abbrev pub product_at : ℕ → ℕ → ℕ → ℕ → List ℕ → ℕ → ℕ
 product_at p n a b table j = mul p (get_or table (n * a + j) 0) (get_or table (n * b + j) 0)
 
-pub ruleset row_reading = (rules, first_entry_below, row_start_fits, entry-within, entry-fits, entry-place-fits, row-entry-below)
+-- one product as a sum
+pub one_product : (p a b : ℕ) → dot p (a ∷ []) (b ∷ []) ≡ mul p a b
+unfolding dot
+one_product p a b = solve p (search (quote, # a, # b)) (omega arith)
+
+pub product-is : (p a b r : ℕ) → Is p (dot p (a ∷ []) (b ∷ [])) r → r ≡ mul p a b
+product-is p a b r i = i.eq ∙ one_product p a b
+
+pub entry-alone : (p a : ℕ) → a < p → all_below p (a ∷ []) ≡ true
+unfolding all_below
+entry-alone p a l = rw (lt-ltb a p l)
+
+pub ruleset row_reading = (rules, product-is, entry-alone, first_entry_below, row_start_fits, entry-within, entry-fits, entry-place-fits, row-entry-below)

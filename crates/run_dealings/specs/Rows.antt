@@ -1,5 +1,5 @@
 -- The table of shares as the code keeps it: a row for each wire, in it each party's share. The code deals by powers of the points.
-use Rattle.std.specs.Prelude.{Option, Some, None, ℕ, zero, suc, ◌+◌, ◌*◌, ◌≤◌, ◌<◌, ◌≡◌, true, cond, ltb, length, take, drop, get_or}
+use Rattle.std.specs.Prelude.{Option, Some, None, ℕ, zero, suc, ◌+◌, ◌*◌, ◌≤◌, ◌<◌, ◌≡◌, true, cond, ltb, length, take, drop, get_or, replicate}
 use mathlib.Core.List.{List, ◌∷◌, map, flat_map}
 use Rattle.numbers.specs.Tables.{tab}
 use Rattle.numbers.specs.Bytes.{width, numbers, all_below}
@@ -49,6 +49,13 @@ draws_of n xs = tab (λ d. get_or xs d 0) n
 -- the sum of the values of these polynomials at x
 unfoldable pub summed_at : ℕ → List (List ℕ) → ℕ → ℕ
 summed_at p fs x = sum_all p (map (λ f. eval p f x) fs)
+
+-- all parties' masked products where wires a and b are multiplied: the product of its shares, and the values at its point of the dealings of 0, whose
+-- 2t coins each come before another t
+unfoldable pub masked_of : ℕ → ℕ → List ℕ → ℕ → ℕ → List ℕ → List ℕ → List ℕ
+masked_of p t points a b table cs =
+    tab (λ d. add p (get_or (products_of p (length points) (length points) a b table) d 0) (summed_at p (shared_by (t + t) (3 * t) (replicate (length points) 0) cs) (get_or points d 0)))
+    (length points)
 
 -- the weighted sum of the values of these polynomials at x
 unfoldable pub mixed_at : ℕ → List ℕ → List (List ℕ) → ℕ → ℕ

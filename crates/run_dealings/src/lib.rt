@@ -11,8 +11,8 @@ ghost use Rattle.sharing_laws.specs.Poly.{eval, padded};
 ghost use Rattle.sharing_laws.specs.Interp;
 ghost use Rattle.sharing_matrix.specs.Matrix.{applied};
 ghost use Rattle.plan.specs.Plans.{coin_owners_at};
-ghost use Rattle.plan.specs.File.{gate_at, plan_of};
-ghost use Rattle.run_dealings.specs.Rows.{terms, powers, power_rows, products_of, shared_by, draws_of, mixed_at, summed_at, truncated_at, Powered, Dealers, Weighted, Cutting, Coined, Spaced, Rowed};
+ghost use Rattle.plan.specs.File.{plan_of};
+ghost use Rattle.run_dealings.specs.Rows.{terms, powers, power_rows, products_of, shared_by, draws_of, masked_of, mixed_at, summed_at, truncated_at, Powered, Dealers, Weighted, Cutting, Coined, Spaced, Rowed};
 ghost use Rattle.run_dealings.specs.Columns.{pieces_by, column_at, column_sum, share_at, mixed_coefficient, mixture_of, summed_coefficient, total_of, with_column, with_columns};
 
 use field::{Field, Sums};
@@ -189,18 +189,21 @@ pub fn row_by<F: Fn(usize) -> u64>(n: usize, rule: F) -> [u64; 15]
 
 // ---- multiply gates
 
-// What the first m parties deal: each one's share of wire a times its share of wire b.
+// What the first m parties deal: each one's share of wire a times its share of wire b, without a division.
 #[tactic(auto, using(crate::proofs::RowLaws::row_reading))]
-pub fn products(f: Field, n: usize, m: usize, a: usize, b: usize, table: &[u64]) -> [u64; 15]
+pub fn products(sums: Sums, n: usize, m: usize, a: usize, b: usize, table: &[u64]) -> [u64; 15]
     requires m_le_n { (m ≤ n) × (n ≤ 15) }
-    requires rowed { Rowed f.p n a table.now }
-    requires rowed_2 { Rowed f.p n b table.now }
-    ensures result_value { take m result ≡ products_of f.p n m a b table.now }
+    requires rowed { Rowed sums.field.p n a table.now }
+    requires rowed_2 { Rowed sums.field.p n b table.now }
+    ensures result_value { take m result ≡ products_of sums.field.p n m a b table.now }
     ensures result_value_2 { drop m result ≡ replicate (15 - m) 0 }
 {
     let left = n * a;
     let right = n * b;
-    row_by(m, |j| f.mul(table[left + j], table[right + j]))
+    row_by(
+        m,
+        |j| sharing::dot_by(sums, &[table[left + j]], &[table[right + j]]),
+    )
 }
 
 // The sum of two rows, entry by entry.
@@ -266,11 +269,17 @@ impl Product<'_> {
     // by both crates, and a public one of field would be there for these two.
     #[inline(always)]
     #[tactic(auto, using(crate::proofs::ColumnLaws::columning))]
-    fn column<const WIDE: bool>(&self, powers: &[u64], j: usize, grid: &mut [[u64; 15]; 15]) -> u64
+    fn column<const WIDE: bool, const N: usize>(
+        &self,
+        powers: &[u64],
+        j: usize,
+        grid: &mut [[u64; N]; N],
+    ) -> u64
         requires wide_value { WIDE ≡ self.now.dealings.now.sums.wide }
+        requires weights_in_bounds { length self.now.dealings.now.weights.now ≤ N }
         requires powers_len { length powers.now ≡ terms self.now.dealings.now.t }
         requires powers_value { all_below self.now.dealings.now.sums.field.p powers.now ≡ true }
-        requires j_bound { j < 15 }
+        requires j_bound { j < N }
         ensures is { Is self.now.dealings.now.sums.field.p (column_sum self.now.dealings.now.sums.field.p self.now.dealings.now.weights.now (pieces_by self.now.dealings.now.sums.field.p (length powers.now) powers.now self.now.polynomials.now (length self.now.dealings.now.weights.now))) result }
         ensures grid_after { grid.new ≡ with_column j (pieces_by self.now.dealings.now.sums.field.p (length powers.now) powers.now self.now.polynomials.now (length self.now.dealings.now.weights.now)) grid.old }
     {
@@ -292,12 +301,16 @@ impl Product<'_> {
         sums.reduced(sum)
     }
 
-    // The columns of all receivers, by their power rows of K powers each, and every column's sum.
+    // The columns of all receivers, N at most, by their power rows of K powers each, and every column's sum.
     #[inline(always)]
     #[tactic(auto, using(crate::proofs::ColumnLaws::gridding))]
-    fn columns<const WIDE: bool, const K: usize>(&self, grid: &mut [[u64; 15]; 15]) -> [u64; 15]
+    fn columns<const WIDE: bool, const K: usize, const N: usize>(
+        &self,
+        grid: &mut [[u64; N]; N],
+    ) -> [u64; 15]
         requires wide_value { WIDE ≡ self.now.dealings.now.sums.wide }
         requires k_value { K ≡ terms self.now.dealings.now.t }
+        requires points_in_bounds { length self.now.dealings.now.points.now ≤ N }
         ensures result_value { take (length self.now.dealings.now.points.now) result ≡ map (share_at self.now.dealings.now.sums.field.p K self.now.dealings.now.weights.now self.now.polynomials.now) self.now.dealings.now.points.now }
         ensures grid_after { grid.new ≡ with_columns (column_at self.now.dealings.now.sums.field.p K self.now.dealings.now.points.now self.now.polynomials.now (length self.now.dealings.now.weights.now)) (length self.now.dealings.now.points.now) grid.old }
     {
@@ -306,24 +319,27 @@ impl Product<'_> {
         let mut sums = [0u64; 15];
         for j in 0..points.len() {
             let at = K * j;
-            sums[j] = self.column::<WIDE>(&rows[at..at + K], j, grid);
+            sums[j] = self.column::<WIDE, N>(&rows[at..at + K], j, grid);
         }
         sums
     }
 
-    // Every receiver's share: the polynomials are dealt into the grid, and each receiver's column is weighed and summed there. The prime's range and
-    // the count of coefficients are constants in each call.
+    // Every receiver's share: the polynomials are dealt into the grid, and each receiver's column is weighed and summed there. The prime's range,
+    // the count of coefficients and the grid's room are constants in each call: the room of 15 parties is as much to clear as a product of 3 is work.
     #[inline(never)]
     #[tactic(auto, using(crate::proofs::DealingLaws::sharing_by))]
     fn gridded(&self) -> [u64; 15]
         ensures { take (length self.now.dealings.now.points.now) result ≡ map (share_at self.now.dealings.now.sums.field.p (terms self.now.dealings.now.t) self.now.dealings.now.weights.now self.now.polynomials.now) self.now.dealings.now.points.now }
     {
-        let mut grid = [[0u64; 15]; 15];
-        match (self.dealings.sums.wide, self.dealings.t < 4) {
-            (true, true) => self.columns::<true, 4>(&mut grid),
-            (true, false) => self.columns::<true, 8>(&mut grid),
-            (false, true) => self.columns::<false, 4>(&mut grid),
-            (false, false) => self.columns::<false, 8>(&mut grid),
+        let wide = self.dealings.sums.wide;
+        let few = self.dealings.points.len() <= 5;
+        match (wide, self.dealings.t < 4, few) {
+            (true, true, true) => self.columns::<true, 4, 5>(&mut [[0; 5]; 5]),
+            (true, true, false) => self.columns::<true, 4, 15>(&mut [[0; 15]; 15]),
+            (true, false, _) => self.columns::<true, 8, 15>(&mut [[0; 15]; 15]),
+            (false, true, true) => self.columns::<false, 4, 5>(&mut [[0; 5]; 5]),
+            (false, true, false) => self.columns::<false, 4, 15>(&mut [[0; 15]; 15]),
+            (false, false, _) => self.columns::<false, 8, 15>(&mut [[0; 15]; 15]),
         }
     }
 
@@ -403,6 +419,7 @@ impl<'a> Dealings<'a> {
     pub fn power_row(&self, j: usize) -> &'a [u64]
         requires { j < length self.now.points.now }
         ensures { record {
+          long : length result.now ≡ terms self.now.t;
           some : self.now.t < length result.now;
           few : length result.now ≤ 16;
           are : result.now ≡ powers self.now.sums.field.p (get_or self.now.points.now j 0) (length result.now);
@@ -488,7 +505,7 @@ impl<'a> Dealings<'a> {
         ensures { take (length self.now.points.now) result ≡ applied self.now.sums.field.p self.now.t self.now.points.now (products_of self.now.sums.field.p (length self.now.points.now) (length self.now.points.now) a b table.now) }
     {
         let n = self.points.len();
-        let products = products(self.sums.field, n, n, a, b, table);
+        let products = products(self.sums, n, n, a, b, table);
         let mut row = [0u64; 15];
         matrix.shares(&products[..n], &mut row[..n]);
         row
@@ -535,6 +552,66 @@ impl<'a> Dealings<'a> {
         add_rows(self.sums.field, &products[..n], &zeros[..n])
     }
 
+    // The value at point j of a polynomial with twice as many coefficients as a power row has powers: the upper half is worked by the same row, and takes
+    // the power that comes next.
+    #[tactic(auto, using(crate::proofs::MaskLaws::halving))]
+    fn whole_value(&self, polynomial: &[u64], j: usize) -> u64
+        requires points_value { all_below self.now.sums.field.p self.now.points.now ≡ true }
+        requires polynomial_len { length polynomial.now ≡ terms self.now.t + terms self.now.t }
+        requires polynomial_value { all_below self.now.sums.field.p polynomial.now ≡ true }
+        requires j_in_bounds { j < length self.now.points.now }
+        ensures { Is self.now.sums.field.p (eval self.now.sums.field.p polynomial.now (get_or self.now.points.now j 0)) result }
+    {
+        let sums = self.sums;
+        let row = self.power_row(j);
+        let k = row.len();
+        let low = sharing::dot_by(sums, row, &polynomial[..k]);
+        let high = sharing::dot_by(sums, row, &polynomial[k..]);
+        let next = sums.field.mul(row[k - 1], self.points[j]);
+        sharing::dot_by(sums, &[1, next], &[low, high])
+    }
+
+    // At each party's point the value of the sum of the parties' dealings of 0, whole: by their 2t coins.
+    #[tactic(auto, using(crate::proofs::MaskLaws::masking))]
+    fn masks(&self, coins: &[u8], at: usize) -> [u64; 15]
+        requires t_bound { self.now.t < 8 }
+        requires points_value { all_below self.now.sums.field.p self.now.points.now ≡ true }
+        requires coined { Coined self.now.sums.field.p (3 * self.now.t) (length self.now.points.now) at (numbers coins.now) }
+        ensures { take (length self.now.points.now) result ≡ map (summed_at self.now.sums.field.p (shared_by (self.now.t + self.now.t) (3 * self.now.t) (replicate (length self.now.points.now) 0) (drop at (numbers coins.now)))) self.now.points.now }
+    {
+        let n = self.points.len();
+        let k = terms(self.t);
+        let step = 3 * self.t;
+        let zeros = [0u64; 15];
+        let dealt = Dealt {
+            values: &zeros[..n],
+            coins,
+            t: self.t + self.t,
+            at,
+            step,
+        };
+        let mut sum = [0u64; 16];
+        sum_polynomials(self.sums.field, &dealt, &mut sum[..k + k]);
+        let whole = &sum[..k + k];
+        row_by(n, |j| self.whole_value(whole, j))
+    }
+
+    // All parties' masked products: each one's product of its shares of wires a and b, and its mask.
+    #[tactic(auto, using(crate::proofs::MaskLaws::masked))]
+    pub fn masked(&self, a: usize, b: usize, coins: &[u8], at: usize, table: &[u64]) -> [u64; 15]
+        requires t_bound { self.now.t < 8 }
+        requires points_value { all_below self.now.sums.field.p self.now.points.now ≡ true }
+        requires coined { Coined self.now.sums.field.p (3 * self.now.t) (length self.now.points.now) at (numbers coins.now) }
+        requires rowed { Rowed self.now.sums.field.p (length self.now.points.now) a table.now }
+        requires rowed_2 { Rowed self.now.sums.field.p (length self.now.points.now) b table.now }
+        ensures { take (length self.now.points.now) result ≡ masked_of self.now.sums.field.p self.now.t self.now.points.now a b table.now (drop at (numbers coins.now)) }
+    {
+        let n = self.points.len();
+        let products = products(self.sums, n, n, a, b, table);
+        let masks = self.masks(coins, at);
+        add_rows(self.sums.field, &products[..n], &masks[..n])
+    }
+
     // The row of these dealings: each receiver's pieces are weighed and summed.
     // As it is: the way is kept with the dealings. A closure would be a type parameter of `Dealings` and of each struct that keeps one, and its contract
     // would be the one that both methods have.
@@ -578,7 +655,7 @@ impl<'a> Dealings<'a> {
         ensures { take (length self.now.points.now) result ≡ map (mixed_at self.now.sums.field.p self.now.weights.now (shared_by self.now.t self.now.t (products_of self.now.sums.field.p (length self.now.points.now) (length self.now.weights.now) a b table.now) (drop at (numbers coins.now)))) self.now.points.now }
     {
         let dealers = self.weights.len();
-        let products = products(self.sums.field, self.points.len(), dealers, a, b, table);
+        let products = products(self.sums, self.points.len(), dealers, a, b, table);
         let dealt = Dealt {
             values: &products[..dealers],
             coins,
@@ -592,13 +669,12 @@ impl<'a> Dealings<'a> {
 
 // ---- coins
 
-// The coins that gate g takes from the list of all.
-pub fn coins_taken(plan: &PlanFile, g: usize) -> usize
-    requires g_lt_gates { g < plan.now.header.gates }
-    ensures { record { eq : result ≡ length (coin_owners_at (plan_of plan.now.bytes.now) (gate_at plan.now.bytes.now g)); most : result ≤ 406 } }
+// The coins that a gate takes from the list of all.
+pub fn coins_taken(plan: &PlanFile, gate: Gate) -> usize
+    ensures { record { eq : result ≡ length (coin_owners_at (plan_of plan.now.bytes.now) gate); most : result ≤ 630 } }
 {
     let t = plan.header.t;
-    match plan.gate(g) {
+    match gate {
         Gate::Input(_) => t,
         Gate::Multiply(_, _) => match plan.header.rule {
             Rule::Reduction => t * (t + t + 1),

@@ -72,14 +72,6 @@ module _ (bs : List ℕ) (h : Header) (k : Planned bs h) (g : ℕ) where
   no-spend a b l e = none-spends (plan_of bs).gates (plain_no_7 (plan_of bs) (plain bs k.passes)) g a b (plan_gate k g l ∙ e)
 
   module _ (gate : Gate) (is : gate ≡ gate_at bs g) where
-    pub takes-input : (s : ℕ) → gate ≡ Input s → 1 ≡ inputs_taken (plan_of bs) (gate_at bs g)
-    unfolding inputs_taken input_owners_at
-    takes-input s e = rw (← is, e)
-
-    pub takes-random : gate ≡ Random → h.n ≡ inputs_taken (plan_of bs) (gate_at bs g)
-    unfolding inputs_taken input_owners_at parties
-    takes-random e = rw (← is, e, length-tab) (sym (plan_n k))
-
     -- its constant is an element
     pub scaled-below : (a c : ℕ) → g < h.gates → gate ≡ Scale a c → c < h.field.p
     scaled-below a c l e = scale_constant h.n h.field.p g gate (gate-kept bs h k g gate l is) a c e
@@ -116,8 +108,17 @@ module _ (bs : List ℕ) (h : Header) (k : Planned bs h) (g : ℕ) where
       unfolding gate_value
       value-spend a b u v e eu ev q = rw (← is, e, plan_p k, ← eu, ← ev) q
 
+-- ---- the inputs that a gate takes
+pub takes-input : (plan : Plan) (gate : Gate) (s : ℕ) → gate ≡ Input s → 1 ≡ inputs_taken plan gate
+unfolding inputs_taken input_owners_at
+takes-input plan gate s e = rw e
+
+pub takes-random : (bs : List ℕ) (h : Header) (k : Planned bs h) (gate : Gate) → gate ≡ Random → h.n ≡ inputs_taken (plan_of bs) gate
+unfolding inputs_taken input_owners_at parties
+takes-random bs h k gate e = rw (e, length-tab) (sym (plan_n k))
+
 -- a gate that is neither takes none
-takes_none : (plan : Plan) (gate : Gate) → ((s : ℕ) → gate ≡ Input s → ⊥) → (gate ≡ Random → ⊥) → 0 ≡ inputs_taken plan gate
+pub takes_none : (plan : Plan) (gate : Gate) → ((s : ℕ) → gate ≡ Input s → ⊥) → (gate ≡ Random → ⊥) → 0 ≡ inputs_taken plan gate
 unfolding inputs_taken input_owners_at
 takes_none plan (Input s) i r = absurd (i s refl)
 takes_none plan (Add a b) i r = refl
@@ -127,11 +128,8 @@ takes_none plan (Multiply a b) i r = refl
 takes_none plan Random i r = absurd (r refl)
 takes_none plan (Spend a b) i r = refl
 
-pub takes-other : (plan : Plan) (gate g : Gate) → gate ≡ g → ((s : ℕ) → gate ≡ Input s → ⊥) → (gate ≡ Random → ⊥) → 0 ≡ inputs_taken plan g
-takes-other plan gate g e i r = takes_none plan gate i r ∙ ap (inputs_taken plan) e
-
 -- As it is: answers name this set, since the check leaves their goals open by `using` alone.
-pub ruleset taking = (rules, takes-input, takes-random, takes-other)
+pub ruleset taking = (rules, takes-input, takes-random, takes_none)
 
 pub rest-below : (p : ℕ) (xs ys : List ℕ) (next : ℕ) → all_below p xs ≡ true → ys ≡ drop next xs → all_below p ys ≡ true
 rest-below p xs ys next h e = rw e (all_below-drop p next xs h)
@@ -177,10 +175,10 @@ module _ (bs : List ℕ) (h : Header) (xs d₀ : List ℕ) where
     front_long = sym (length-take-le g d (omega (arith, w.within, w.room)))
 
     pub work-next :
-        (v t : ℕ) → g < h.gates → Is h.field.p (gate_value (plan_of bs) (gate_at bs g) (take g d) (drop next xs)) v
-        → t ≡ inputs_taken (plan_of bs) (gate_at bs g) → t ≤ 15 → Worked bs h xs d₀ (set d g v) (next + t) (g + 1)
+        (v t : ℕ) (x : Gate) → g < h.gates → Is h.field.p (gate_value (plan_of bs) (gate_at bs g) (take g d) (drop next xs)) v
+        → x ≡ gate_at bs g → t ≡ inputs_taken (plan_of bs) x → t ≤ 15 → Worked bs h xs d₀ (set d g v) (next + t) (g + 1)
     unfolding values_from all_below
-    work-next v t l ev et few =
+    work-next v t x l ev ex et few =
         let gs : List Gate = (plan_of bs).gates in
         let m : g < length gs = rw (plan_gates k) l in
         let front : take (g + 1) (set d g v) ≡ take g d ++ (v ∷ []) = rw (add-one, take-suc-set d g v (work-room l)) in
@@ -193,7 +191,7 @@ module _ (bs : List ℕ) (h : Header) (xs d₀ : List ℕ) where
           left =
               ap₂ (λ (n : ℕ) (e : List ℕ). values_from (plan_of bs) (drop n gs) e (drop (next + t) xs)) (add-one g) (front ∙ ap (λ (y : ℕ). take g d ++ (y ∷ [])) ev.eq)
               ∙ ap (values_from (plan_of bs) (drop (suc g) gs) (take g d ++ (gate_value (plan_of bs) (gate_at bs g) (take g d) (drop next xs) ∷ [])))
-              (sym (drop-drop t next xs) ∙ ap (λ (n : ℕ). drop n (drop next xs)) et)
+              (sym (drop-drop t next xs) ∙ ap (λ (n : ℕ). drop n (drop next xs)) (et ∙ ap (inputs_taken (plan_of bs)) ex))
               ∙ sym (ap (λ (l : List Gate). values_from (plan_of bs) l (take g d) (drop next xs)) (drop-cons gs g (Input 0) m ∙ ap (λ (x : Gate). x ∷ drop (suc g) gs) (plan_gate k g l)))
               ∙ w.left;
         }

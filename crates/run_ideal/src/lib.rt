@@ -10,13 +10,12 @@ ghost use Rattle.run_protocol.specs.Ideal.{inputs_taken, gate_value, values};
 
 use plan::{Gate, PlanFile};
 
-// The inputs that gate g takes from the list of all.
+// The inputs that a gate takes from the list of all.
 #[tactic(auto, using(crate::proofs::IdealLaws::taking))]
-pub fn inputs_taken(plan: &PlanFile, g: usize) -> usize
-    requires g_lt_gates { g < plan.now.header.gates }
-    ensures { record { eq : result ≡ inputs_taken (plan_of plan.now.bytes.now) (gate_at plan.now.bytes.now g); le : result ≤ 15 } }
+pub fn inputs_taken(plan: &PlanFile, gate: Gate) -> usize
+    ensures { record { eq : result ≡ inputs_taken (plan_of plan.now.bytes.now) gate; le : result ≤ 15 } }
 {
-    match plan.gate(g) {
+    match gate {
         Gate::Input(_) => 1,
         Gate::Random => plan.header.n,
         _ => 0,
@@ -75,6 +74,6 @@ pub fn values(plan: &PlanFile, inputs: &[u8], wires: &mut [u64])
     for g in 0..plan.header.gates {
         let v = gate_value(plan, g, inputs, next, &wires[..g]);
         wires[g] = v;
-        next += inputs_taken(plan, g);
+        next += inputs_taken(plan, plan.gate(g));
     }
 }

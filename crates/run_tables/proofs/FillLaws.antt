@@ -125,7 +125,7 @@ pub record Filling (bs : List ℕ) (h : Header) (xs cs d₀ d : List ℕ) (i c g
   pub inputs : i ≡ length (flat_map (input_owners_at (plan_of bs)) (take g (plan_of bs).gates))
   pub coins : c ≡ length (flat_map (coin_owners_at (plan_of bs)) (take g (plan_of bs).gates))
   pub few_inputs : i ≤ 15 * g
-  pub few_coins : c ≤ 406 * g
+  pub few_coins : c ≤ 630 * g
   pub front : take (h.n * g) d ≡ rows_of (plan_of bs).points (before_gate (plan_of bs) xs cs [] g).env
   pub rest : drop (h.n * g) d ≡ drop (h.n * g) d₀
 
@@ -175,15 +175,15 @@ module _ (bs : List ℕ) (h : Header) (k : Planned bs h) (inputs coins : List �
       pub gate-room : h.n * h.gates ≤ length d
       gate-room = omega (arith, f.long)
 
-      pub fill_next : (a b : ℕ) (e : List ℕ) → Stepped plan h.n (gate_at bs g) g (drop i xs) (drop c cs) d e → length e ≡ length d
-          → a ≡ inputs_taken plan (gate_at bs g) → a ≤ 15 → b ≡ length (coin_owners_at plan (gate_at bs g)) → b ≤ 406
+      pub fill_next : (a b : ℕ) (x : Gate) (e : List ℕ) → Stepped plan h.n (gate_at bs g) g (drop i xs) (drop c cs) d e → length e ≡ length d
+          → x ≡ gate_at bs g → a ≡ inputs_taken plan x → a ≤ 15 → b ≡ length (coin_owners_at plan x) → b ≤ 630
           → Filling bs h xs cs d₀ e (i + a) (c + b) (g + 1)
       unfolding inputs_taken
-      fill_next a b e s kept ea la eb lb = record {
+      fill_next a b x e s kept ex ea la eb lb = record {
         within = omega arith;
         long = kept ∙ f.long;
-        inputs = taken_next (input_owners_at plan) bs h i g a k f.inputs l ea;
-        coins = taken_next (coin_owners_at plan) bs h c g b k f.coins l eb;
+        inputs = taken_next (input_owners_at plan) bs h i g a k f.inputs l (ea ∙ ap (λ (y : Gate). length (input_owners_at plan y)) ex);
+        coins = taken_next (coin_owners_at plan) bs h c g b k f.coins l (eb ∙ ap (λ (y : Gate). length (coin_owners_at plan y)) ex);
         few_inputs = omega (arith, f.few_inputs);
         few_coins = omega (arith, f.few_coins);
         front = s.next (before_gate plan xs cs [] g) holds ∙ ap (λ (q : Before). rows_of plan.points q.env) grows;

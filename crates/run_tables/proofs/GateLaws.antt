@@ -253,25 +253,27 @@ module _ (bs : List ℕ) (h : Header) (k : Planned bs h) (g : ℕ) (l : g < h.ga
 
     -- coins
     module _ (at : ℕ) (cs : List ℕ) (taking : Taking (plan_of bs) (gate_at bs g) at cs) where
-      coined_by : (c m : ℕ) → c * m ≡ length (coin_owners_at (plan_of bs) (gate_at bs g)) → Coined h.field.p c m at cs
-      coined_by c m q = record { room = rw (← q) at taking.room; below = rw (← q, plan_p k) at taking.below }
+      coined_by : (c m : ℕ) → c * m ≡ length (coin_owners_at (plan_of bs) read) → Coined h.field.p c m at cs
+      coined_by c m q =
+          let r : c * m ≡ length (coin_owners_at (plan_of bs) (gate_at bs g)) = q ∙ ap (λ (x : Gate). length (coin_owners_at (plan_of bs) x)) e in
+          record { room = rw (← r) at taking.room; below = rw (← r, plan_p k) at taking.below }
 
       module _ (p t : ℕ) (points ws : List ℕ) (fitted : Fitted bs h p t points ws) where
         pub input_coins : (i : ℕ) → read ≡ Input i → Coined p t 1 at cs
-        input_coins i is = rw (fitted.field, fitted.threshold) (coined_by h.t 1 (mul-one h.t ∙ coins_input bs h k g read e i is))
+        input_coins i is = rw (fitted.field, fitted.threshold) (coined_by h.t 1 (mul-one h.t ∙ coins_input bs h k read i is))
 
         pub random_coins : read ≡ Random → Coined p t (length points) at cs
-        random_coins is = rw (fitted.field, fitted.threshold, parties bs h p t points ws fitted k) (coined_by h.t h.n (coins_random bs h k g read e is))
+        random_coins is = rw (fitted.field, fitted.threshold, parties bs h p t points ws fitted k) (coined_by h.t h.n (coins_random bs h k read is))
 
         module _ (a b : ℕ) (is : read ≡ Multiply a b) (kept : Option Matrix) (ruling : Ruling h.rule p t points kept) where
           pub reduction_coins : kept ≡ None → Coined p t (length ws) at cs
           reduction_coins none =
               rw (fitted.field, fitted.threshold, weights-long bs h p t points ws fitted k (two a b is))
-              (coined_by h.t (h.t + h.t + 1) (coins_reduction bs h k g read e a b is (ruling.none none)))
+              (coined_by h.t (h.t + h.t + 1) (coins_reduction bs h k read a b is (ruling.none none)))
 
           pub truncation_coins : (m : Matrix) → kept ≡ Some m → Coined p (3 * t) (length points) at cs
           truncation_coins m some =
-              rw (fitted.field, fitted.threshold, parties bs h p t points ws fitted k) (coined_by (3 * h.t) h.n (coins_truncation bs h k g read e a b is (ruling.some m some)))
+              rw (fitted.field, fitted.threshold, parties bs h p t points ws fitted k) (coined_by (3 * h.t) h.n (coins_truncation bs h k read a b is (ruling.some m some)))
 
     -- rows
     module _ (xs cs row : List ℕ) where

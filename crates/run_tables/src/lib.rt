@@ -140,8 +140,9 @@ impl<'a> RunPlan<'a> {
         let mut at: usize = 0;
         for g in 0..self.plan.header.gates {
             self.step(g, inputs, i, coins, at, table);
-            i += run_ideal::inputs_taken(self.plan, g);
-            at += run_dealings::coins_taken(self.plan, g);
+            let gate = self.plan.gate(g);
+            i += run_ideal::inputs_taken(self.plan, gate);
+            at += run_dealings::coins_taken(self.plan, gate);
         }
     }
 }

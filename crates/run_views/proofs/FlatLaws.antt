@@ -2,10 +2,11 @@
 --     table_long, table_below                 how long the flat table is, and that its entries are elements
 --     share_flat, row_flat                    the flat table's entries and rows
 --     first_flat, outs_flat                   the mail of the first and the last step
+--     pieces_tab                              the pieces of dealings, by number
 --     multiply_flat, draws_flat, gate_flat, steps_flat     the mail of the gates' steps
 --     results_flat, view_flat                 the results and the view
 -- Assumes nothing.
-use mathlib.Core.Path.{◌≡◌, refl, sym, ap, ap₂, ◌∙◌}
+use mathlib.Core.Path.{◌≡◌, refl, sym, ap, ap₂, ◌∙◌, fun_ext}
 use mathlib.Core.Bool.{true}
 use mathlib.Core.List.{List, [], ◌∷◌, ◌++◌, map, flat_map, append-nil}
 use Prim.Native.Nat.{ℕ, zero, suc, ◌+◌, ◌-◌, ◌*◌, ◌<◌, ◌≤◌}
@@ -14,43 +15,44 @@ use native.Mathlib.Nat.{add-zero}
 use native.Mathlib.Omega.{arith}
 use borrow.Author.Tests.{ltb-true}
 use lib.Dec.{ltb}
-use lib.ListN.{length, get_or, take, drop, drop_of_length-le}
+use lib.ListN.{length, get_or, take, drop, replicate, length-replicate, drop_of_length-le}
 use lib.Seq.{get_or-take, length-take-le, drop-drop, drop-cons, take_all}
 use Rattle.numbers.specs.Tables.{tab}
 use Rattle.numbers.specs.Bytes.{all_below}
-use Rattle.numbers.proofs.Tables.{length-tab, get_or-tab, tab-ext}
+use Rattle.numbers.proofs.Tables.{length-tab, get_or-tab, tab-ext, tab-map}
 use Rattle.numbers.proofs.Truth.{both_true}
-use Rattle.field.specs.Mod.{mul}
+use Rattle.field.specs.Mod.{add, mul}
 use Rattle.field.proofs.Inverse.{pos}
 use Rattle.sharing_laws.specs.Poly.{eval}
-use Rattle.sharing_laws.specs.Interp.{All}
+use Rattle.sharing_laws.specs.Interp.{All, dot}
+use Rattle.sharing_laws.specs.Basis.{sum_all, row}
 use Rattle.sharing_laws.specs.Sharing.{opened}
 use Rattle.sharing_laws.proofs.Alls.{map-tab}
 use Rattle.sharing_laws.proofs.Lists.{length-map, map-all, flat_map-all, flat_map-append, flat_map-map, map-flat_map, all-every, all_map}
 use Rattle.plan.specs.declared.Gate.{Gate}
 use Rattle.plan.specs.declared.Gate.TheVariants.{Input, Add, Scale, Offset, Multiply, Random, Spend}
 use Rattle.plan.specs.declared.Rule.{Rule}
-use Rattle.plan.specs.declared.Rule.TheVariants.{Reduction}
-use Rattle.plan.specs.declared.Step.TheVariants.{DealInputs, DealProduct, DealDraws, SendOuts}
+use Rattle.plan.specs.declared.Rule.TheVariants.{Reduction, Truncation}
+use Rattle.plan.specs.declared.Step.TheVariants.{DealInputs, DealProduct, DealZero, DealMasked, SendTruncated, DealDraws, SendOuts}
 use Rattle.plan.specs.declared.Header.{Header}
 use Rattle.plan.specs.Plans.{Plan, party_count, parties, point_of, dealer_count, dealer_points, kind_of, is_kind, multiplying, is_input_of, input_wires, out_wires, input_owners_at, coin_owners_at, multiply_steps, steps_at, steps_from, steps}
 use Rattle.plan.specs.File.{gate_ok, plan_of}
 use Rattle.plan.specs.Planned.{Planned}
-use Rattle.plan.proofs.Planned.{plan_t, plan_p, plan_n, plan_dealers, plan_gates, plan_gate}
+use Rattle.plan.proofs.Planned.{plan_rule, plan_t, plan_p, plan_n, plan_dealers, plan_gates, plan_gate}
 use Rattle.plan.proofs.Parties.{parties_points, each-party}
-use Rattle.plan.proofs.Valid.{Valid, valid, plain}
-use Rattle.seat_messages.specs.Messages.{wires_by_party}
-use Rattle.run_protocol.specs.Shares.{Before, wire_at, product_of, multiply_dealt, pieces_at, share_table}
+use Rattle.plan.proofs.Valid.{Valid, valid}
+use Rattle.seat_messages.specs.Messages.{wires_by_party, from_each}
+use Rattle.run_protocol.specs.Shares.{Before, wire_at, product_of, zero_pieces, masked_at, multiply_dealt, pieces_at, truncated_at, share_table}
 use Rattle.run_protocol.specs.Tables.{before_gate, gate_in, table_mail, table_results, table_view_of}
 use Rattle.run_protocol.proofs.Table.{before-inputs, before-coins, before-wire, length-table}
 use Rattle.run_protocol.proofs.StepInputs.{wires-all}
 use Rattle.run_protocol.proofs.StepOuts.{out-wires-within}
-use Rattle.run_protocol.proofs.Dealt.{pieces-reduction, pieces-random}
+use Rattle.run_protocol.proofs.Dealt.{pieces-reduction, pieces-masked, pieces-random}
 use Rattle.run_ideal.proofs.IdealLaws.{no-spend, taken_next}
-use Rattle.run_dealings.specs.Rows.{rows_of, products_of, draws_of}
+use Rattle.run_dealings.specs.Rows.{rows_of, products_of, shared_by, draws_of, summed_at, masked_of}
 use Rattle.run_tables.proofs.GateLaws.{rows-length, rows_row, rows-entry}
 use Rattle.run_tables.proofs.FillLaws.{before_all, stands}
-use Rattle.run_views.specs.Flat.{share_in, row_in, first_in, outs_in, opened_in, pieces_of, pieces_in, gathered, mail_in, view_in}
+use Rattle.run_views.specs.Flat.{share_in, row_in, first_in, outs_in, opened_in, pieces_of, zeros_in, masked_in, truncated_in, multiply_in, pieces_in, gathered, mail_in, view_in}
 
 module _ (plan : Plan) (xs cs table : List ℕ) (is : table ≡ rows_of plan.points (share_table plan xs cs [])) where
   abbrev shares : List (ℕ → ℕ)
@@ -106,13 +108,15 @@ module _ (plan : Plan) (xs cs table : List ℕ) (is : table ≡ rows_of plan.poi
       ∙ ap (flat_map row) (sym (parties_points plan))
 
 -- ---- the pieces of dealings
--- their coins begin where a list does
-pieces_from : (p : ℕ) (vs : List ℕ) (t : ℕ) (cs : List ℕ) (from step x : ℕ)
+pub all_zero : (n k : ℕ) → get_or (replicate {A = ℕ} n 0) k 0 ≡ 0
+all_zero zero k = refl
+all_zero (suc n) zero = refl
+all_zero (suc n) (suc k) = all_zero n k
+
+pub pieces_tab : (p : ℕ) (vs : List ℕ) (t : ℕ) (cs : List ℕ) (from step x : ℕ)
     → pieces_of p vs t cs from step x ≡ tab (λ d. eval p (get_or vs d 0 ∷ take t (drop (step * d) (drop from cs))) x) (length vs)
-unfolding pieces_of
-pieces_from p vs t cs from step x =
-    tab-ext (λ d. eval p (get_or vs d 0 ∷ take t (drop (from + step * d) cs)) x) (λ d. eval p (get_or vs d 0 ∷ take t (drop (step * d) (drop from cs))) x) (length vs)
-    (λ d l. ap (λ (c : List ℕ). eval p (get_or vs d 0 ∷ take t c) x) (sym (drop-drop (step * d) from cs)))
+unfolding pieces_of shared_by
+pieces_tab p vs t cs from step x = tab-map (λ f. eval p f x) (λ d. get_or vs d 0 ∷ take t (drop (step * d) (drop from cs))) (length vs)
 
 -- ---- the mail of the gates' steps
 module _ {bs : List ℕ} {h : Header} (pl : Planned bs h) (xs cs table : List ℕ) (is : table ≡ rows_of (plan_of bs).points (share_table (plan_of bs) xs cs [])) where
@@ -124,9 +128,6 @@ module _ {bs : List ℕ} {h : Header} (pl : Planned bs h) (xs cs table : List �
 
   v : Valid plan
   v = valid bs pl.passes
-
-  by : plan.rule ≡ Reduction
-  by = (plain bs pl.passes).rule
 
   abbrev before : ℕ → Before
   before g = before_gate plan xs cs [] g
@@ -142,7 +143,7 @@ module _ {bs : List ℕ} {h : Header} (pl : Planned bs h) (xs cs table : List �
   pieces_flat : (g : ℕ) (vs : List ℕ) (t step x : ℕ)
       → pieces_of h.field.p vs t cs (coin_place g) step x ≡ tab (λ d. eval plan.p (get_or vs d 0 ∷ take t (drop (step * d) (before g).coins)) x) (length vs)
   pieces_flat g vs t step x =
-      pieces_from h.field.p vs t cs (coin_place g) step x
+      pieces_tab h.field.p vs t cs (coin_place g) step x
       ∙ ap₂ (λ (p : ℕ) (c : List ℕ). tab (λ d. eval p (get_or vs d 0 ∷ take t (drop (step * d) c)) x) (length vs)) (sym (plan_p pl)) (sym (before-coins plan xs cs [] g))
 
   module _ (g a b : ℕ) (l : g < length plan.gates) (e : get_or plan.gates g (Input 0) ≡ Multiply a b) where
@@ -164,36 +165,112 @@ module _ {bs : List ℕ} {h : Header} (pl : Planned bs h) (xs cs table : List �
         ∙ rows-entry plan.points (party_count plan) refl (share_table plan xs cs []) w j (omega (arith, length-table plan xs cs [])) lj
         ∙ ap (λ (f : ℕ → ℕ). f (get_or plan.points j 0)) (sym (before-wire plan xs cs [] g w (omega arith) lw))
 
-    -- what the dealers deal
-    products_flat : products_of h.field.p h.n (h.t + h.t + 1) a b table ≡ multiply_dealt plan Reduction (before g) a b
-    unfolding products_of multiply_dealt product_of dealer_points party_count
-    products_flat =
-        let m : ℕ = dealer_count plan in
-        let F : ℕ → ℕ = λ y. mul plan.p (wire_at (before g).env a y) (wire_at (before g).env b y) in
-        let long : length (take m plan.points) ≡ m = length-take-le m plan.points dealers_few in
-        ap (tab (λ j. mul h.field.p (get_or table (h.n * a + j) 0) (get_or table (h.n * b + j) 0))) (sym (plan_dealers pl))
-        ∙ tab-ext _ (λ j. F (get_or (take m plan.points) j 0)) m
+    -- the products of the first m parties
+    products_flat : (m : ℕ) → m ≤ party_count plan → products_of h.field.p h.n m a b table ≡ tab (λ j. product_of plan (before g).env a b (get_or plan.points j 0)) m
+    unfolding products_of product_of
+    products_flat m few =
+        tab-ext _ (λ j. product_of plan (before g).env a b (get_or plan.points j 0)) m
         (λ j k.
-        let q : j < party_count plan = omega (arith, dealers_few) in
-        rw (get_or-take m plan.points j 0 k, ← plan_p pl) (ap₂ (mul plan.p) (share_read a j reads.0 q) (share_read b j reads.1 q)))
+        let q : j < party_count plan = omega arith in
+        rw (← plan_p pl) (ap₂ (mul plan.p) (share_read a j reads.0 q) (share_read b j reads.1 q)))
+
+    -- what the dealers deal
+    dealt_flat : products_of h.field.p h.n (h.t + h.t + 1) a b table ≡ multiply_dealt plan Reduction (before g) a b
+    unfolding multiply_dealt dealer_points party_count
+    dealt_flat =
+        let m : ℕ = dealer_count plan in
+        let F : ℕ → ℕ = product_of plan (before g).env a b in
+        let long : length (take m plan.points) ≡ m = length-take-le m plan.points dealers_few in
+        ap (λ (k : ℕ). products_of h.field.p h.n k a b table) (sym (plan_dealers pl))
+        ∙ products_flat m dealers_few
+        ∙ tab-ext (λ j. F (get_or plan.points j 0)) (λ j. F (get_or (take m plan.points) j 0)) m (λ j k. ap F (sym (get_or-take m plan.points j 0 k)))
         ∙ sym (map-tab F (take m plan.points) ∙ ap (tab (λ j. F (get_or (take m plan.points) j 0))) long)
 
     dealt_count : length (multiply_dealt plan Reduction (before g) a b) ≡ dealer_count plan
     unfolding multiply_dealt dealer_points party_count
     dealt_count = length-map (product_of plan (before g).env a b) (take (dealer_count plan) plan.points) ∙ length-take-le (dealer_count plan) plan.points dealers_few
 
-    multiply_flat : (i from : ℕ) → pieces_in h table xs cs (point_of plan i) (Multiply a b) from (coin_place g) ≡ table_mail plan xs cs [] i (DealProduct g a b)
-    unfolding pieces_in table_mail gate_in
-    multiply_flat i from =
+    reduction_flat : (i : ℕ) → plan.rule ≡ Reduction → multiply_in Reduction h plan.points table cs (point_of plan i) a b (coin_place g) ≡ table_mail plan xs cs [] i (DealProduct g a b)
+    unfolding multiply_in table_mail gate_in
+    reduction_flat i by =
         let x : ℕ = point_of plan i in
         let s : Before = before g in
         let vs : List ℕ = multiply_dealt plan Reduction s a b in
-        ap₂ (λ (us : List ℕ) (t : ℕ). pieces_of h.field.p us t cs (coin_place g) t x) products_flat (sym (plan_t pl))
+        ap₂ (λ (us : List ℕ) (t : ℕ). pieces_of h.field.p us t cs (coin_place g) t x) dealt_flat (sym (plan_t pl))
         ∙ pieces_flat g vs plan.t plan.t x
         ∙ ap (tab (λ d. eval plan.p (get_or vs d 0 ∷ take plan.t (drop (plan.t * d) s.coins)) x)) dealt_count
         ∙ sym (ap (λ (y : Gate). pieces_at plan y s x) e ∙ pieces-reduction plan a b x s by)
 
-  draws_flat : (i g : ℕ) → get_or plan.gates g (Input 0) ≡ Random → pieces_in h table xs cs (point_of plan i) Random (input_place g) (coin_place g) ≡ table_mail plan xs cs [] i (DealDraws g)
+    -- ---- the pieces of zeros, of masked products, and of the truncated share
+    zeros_flat : (x : ℕ) → zeros_in h cs (coin_place g) x ≡ zero_pieces plan (before g).coins x
+    unfolding zeros_in zero_pieces
+    zeros_flat x =
+        ap₂ (λ (n t : ℕ). pieces_of h.field.p (replicate n 0) (t + t) cs (coin_place g) (3 * t) x) (sym (plan_n pl)) (sym (plan_t pl))
+        ∙ pieces_flat g (replicate (party_count plan) 0) (plan.t + plan.t) (3 * plan.t) x
+        ∙ ap (tab (λ d. eval plan.p (get_or (replicate (party_count plan) 0) d 0 ∷ take (plan.t + plan.t) (drop (3 * plan.t * d) (before g).coins)) x)) (length-replicate {A = ℕ} (party_count plan) 0)
+        ∙ tab-ext _ (λ d. eval plan.p (0 ∷ take (plan.t + plan.t) (drop (3 * plan.t * d) (before g).coins)) x) (party_count plan)
+        (λ d k. ap (λ (z : ℕ). eval plan.p (z ∷ take (plan.t + plan.t) (drop (3 * plan.t * d) (before g).coins)) x) (all_zero (party_count plan) d))
+
+    masked_flat : masked_of h.field.p h.t plan.points a b table (drop (coin_place g) cs) ≡ tab (λ d. masked_at plan (before g) a b (get_or plan.points d 0)) (party_count plan)
+    unfolding masked_of masked_at party_count summed_at zeros_in pieces_of
+    masked_flat =
+        let n : ℕ = length plan.points in
+        let P : ℕ → ℕ = λ d. product_of plan (before g).env a b (get_or plan.points d 0) in
+        let n_is : h.n ≡ n = sym (plan_n pl) in
+        let all : products_of h.field.p n n a b table ≡ tab P n = ap (λ (m : ℕ). products_of h.field.p m n a b table) (sym n_is) ∙ products_flat n (omega arith) in
+        tab-ext _ (λ d. masked_at plan (before g) a b (get_or plan.points d 0)) n
+        (λ d k.
+        ap (λ (p : ℕ). add p (get_or (products_of h.field.p n n a b table) d 0) (sum_all p (map (λ f. eval h.field.p f (get_or plan.points d 0)) (shared_by (h.t + h.t) (3 * h.t) (replicate n 0) (drop (coin_place g) cs))))) (sym (plan_p pl))
+        ∙ ap₂ (add plan.p)
+        (ap (λ (l : List ℕ). get_or l d 0) all ∙ get_or-tab P n d 0 k)
+        (ap (sum_all plan.p)
+        (ap (λ (m : ℕ). map (λ f. eval h.field.p f (get_or plan.points d 0)) (shared_by (h.t + h.t) (3 * h.t) (replicate m 0) (drop (coin_place g) cs))) (sym n_is)
+        ∙ zeros_flat (get_or plan.points d 0))))
+
+    masked_pieces_flat : (x : ℕ) → plan.rule ≡ Truncation
+        → masked_in h (masked_of h.field.p h.t plan.points a b table (drop (coin_place g) cs)) cs (coin_place g) x
+        ≡ from_each (party_count plan) 2 1 (pieces_at plan (gate_in plan g) (before g) x)
+    unfolding masked_in gate_in point_of
+    masked_pieces_flat x by =
+        let n : ℕ = party_count plan in
+        let s : Before = before g in
+        let M : ℕ → ℕ = λ d. masked_at plan s a b (get_or plan.points d 0) in
+        let t2 : ℕ = plan.t + plan.t in
+        ap (λ (vs : List ℕ). pieces_of h.field.p vs h.t cs (coin_place g + (h.t + h.t)) (3 * h.t) x) masked_flat
+        ∙ ap₂ (λ (p t : ℕ). pieces_of p (tab M n) t cs (coin_place g + (t + t)) (3 * t) x) (sym (plan_p pl)) (sym (plan_t pl))
+        ∙ pieces_tab plan.p (tab M n) plan.t cs (coin_place g + t2) (3 * plan.t) x
+        ∙ ap (tab (λ d. eval plan.p (get_or (tab M n) d 0 ∷ take plan.t (drop (3 * plan.t * d) (drop (coin_place g + t2) cs))) x)) (length-tab M n)
+        ∙ tab-ext _ (λ d. eval plan.p (masked_at plan s a b (get_or plan.points (suc d - 1) 0) ∷ take plan.t (drop (3 * plan.t * d + t2) s.coins)) x) n
+        (λ d k.
+        let q : d ≡ suc d - 1 = omega arith in
+        let j : coin_place g + t2 + 3 * plan.t * d ≡ coin_place g + (3 * plan.t * d + t2) = omega arith in
+        ap₂ (λ (v : ℕ) (l : List ℕ). eval plan.p (v ∷ take plan.t l) x) (get_or-tab M n d 0 k ∙ ap M q)
+        (drop-drop (3 * plan.t * d) (coin_place g + t2) cs ∙ ap (λ (m : ℕ). drop m cs) j
+        ∙ sym (drop-drop (3 * plan.t * d + t2) (coin_place g) cs) ∙ ap (drop (3 * plan.t * d + t2)) (sym (before-coins plan xs cs [] g))))
+        ∙ sym (ap (λ (y : Gate). from_each n 2 1 (pieces_at plan y s x)) e ∙ pieces-masked plan a b x s by)
+
+    truncated_flat : (x : ℕ) → plan.rule ≡ Truncation
+        → truncated_in h plan.points (masked_of h.field.p h.t plan.points a b table (drop (coin_place g) cs)) cs (coin_place g) x
+        ≡ map (truncated_at plan (gate_in plan g) (before g) x) plan.points
+    unfolding truncated_in truncated_at
+    truncated_flat x by =
+        ap₂ (λ (p t : ℕ). map (λ y. dot p (row p t plan.points x) (masked_in h (masked_of h.field.p h.t plan.points a b table (drop (coin_place g) cs)) cs (coin_place g) y)) plan.points) (sym (plan_p pl)) (sym (plan_t pl))
+        ∙ ap (λ (F : ℕ → ℕ). map F plan.points) (fun_ext (λ y. ap (dot plan.p (row plan.p plan.t plan.points x)) (masked_pieces_flat y by)))
+
+    truncation_flat : (i : ℕ) → plan.rule ≡ Truncation
+        → multiply_in Truncation h plan.points table cs (point_of plan i) a b (coin_place g)
+        ≡ flat_map (table_mail plan xs cs [] i) (DealZero g ∷ DealMasked g a b ∷ SendTruncated g ∷ [])
+    unfolding multiply_in table_mail flat_map
+    truncation_flat i by =
+        let x : ℕ = point_of plan i in
+        ap₂ ◌++◌ (zeros_flat x) (ap₂ ◌++◌ (masked_pieces_flat x by) (truncated_flat x by ∙ sym (append-nil (map (truncated_at plan (gate_in plan g) (before g) x) plan.points))))
+
+    multiply_flat : (i : ℕ) (r : Rule) → plan.rule ≡ r → multiply_in r h plan.points table cs (point_of plan i) a b (coin_place g) ≡ flat_map (table_mail plan xs cs [] i) (multiply_steps r g a b)
+    unfolding multiply_steps flat_map
+    multiply_flat i Reduction by = reduction_flat i by ∙ sym (append-nil (table_mail plan xs cs [] i (DealProduct g a b)))
+    multiply_flat i Truncation by = truncation_flat i by
+
+  draws_flat : (i g : ℕ) → get_or plan.gates g (Input 0) ≡ Random → pieces_in h plan.points table xs cs (point_of plan i) Random (input_place g) (coin_place g) ≡ table_mail plan xs cs [] i (DealDraws g)
   unfolding pieces_in table_mail gate_in draws_of
   draws_flat i g e =
       let x : ℕ = point_of plan i in
@@ -209,25 +286,24 @@ module _ {bs : List ℕ} {h : Header} (pl : Planned bs h) (xs cs table : List �
       ∙ sym (ap (λ (y : Gate). pieces_at plan y s x) e ∙ pieces-random plan x s)
 
   gate_flat : (i g : ℕ) (x : Gate) → g < length plan.gates → get_or plan.gates g (Input 0) ≡ x
-      → pieces_in h table xs cs (point_of plan i) x (input_place g) (coin_place g) ≡ flat_map (table_mail plan xs cs [] i) (steps_at plan.rule g x)
-  unfolding pieces_in steps_at multiply_steps flat_map
+      → pieces_in h plan.points table xs cs (point_of plan i) x (input_place g) (coin_place g) ≡ flat_map (table_mail plan xs cs [] i) (steps_at plan.rule g x)
+  unfolding pieces_in steps_at flat_map
   gate_flat i g (Input s) l e = refl
   gate_flat i g (Add a b) l e = refl
   gate_flat i g (Scale a c) l e = refl
   gate_flat i g (Offset a c) l e = refl
   gate_flat i g (Multiply a b) l e =
-      multiply_flat g a b l e i (input_place g)
-      ∙ sym (ap (λ (r : Rule). flat_map (table_mail plan xs cs [] i) (multiply_steps r g a b)) by ∙ append-nil (table_mail plan xs cs [] i (DealProduct g a b)))
+      multiply_flat g a b l e i h.rule (plan_rule pl) ∙ sym (ap (λ (r : Rule). flat_map (table_mail plan xs cs [] i) (multiply_steps r g a b)) (plan_rule pl))
   gate_flat i g Random l e = draws_flat i g e ∙ sym (append-nil (table_mail plan xs cs [] i (DealDraws g)))
   gate_flat i g (Spend a b) l e = let k : g < h.gates = omega (arith, plan_gates pl) in absurd (no-spend bs h pl g a b k (sym (plan_gate pl g k) ∙ e))
 
   steps_flat_from : (i m g : ℕ) → m + g ≡ length plan.gates
-      → gathered (pieces_in h table xs cs (point_of plan i)) plan (input_place g) (coin_place g) (drop g plan.gates) ≡ flat_map (table_mail plan xs cs [] i) (steps_from plan.rule g (drop g plan.gates))
+      → gathered (pieces_in h plan.points table xs cs (point_of plan i)) plan (input_place g) (coin_place g) (drop g plan.gates) ≡ flat_map (table_mail plan xs cs [] i) (steps_from plan.rule g (drop g plan.gates))
   unfolding gathered steps_from flat_map
   steps_flat_from i zero g e = rw (drop_of_length-le plan.gates {i = g} (omega arith))
   steps_flat_from i (suc m) g e =
       let l : g < length plan.gates = omega arith in
-      let f : Gate → ℕ → ℕ → List ℕ = pieces_in h table xs cs (point_of plan i) in
+      let f : Gate → ℕ → ℕ → List ℕ = pieces_in h plan.points table xs cs (point_of plan i) in
       let x : Gate = get_or plan.gates g (Input 0) in
       let gs : List Gate = drop (suc g) plan.gates in
       ap (gathered f plan (input_place g) (coin_place g)) (drop-cons plan.gates g (Input 0) l)
@@ -243,7 +319,7 @@ module _ {bs : List ℕ} {h : Header} (pl : Planned bs h) (xs cs table : List �
           taken_next owners bs h _ k (length (owners (get_or plan.gates k (Input 0)))) pl refl m (ap (λ (y : Gate). length (owners y)) (plan_gate pl k m))
           ∙ ap (λ (n : ℕ). length (flat_map owners (take n plan.gates))) (add-one k)
 
-  steps_flat : (i : ℕ) → gathered (pieces_in h table xs cs (point_of plan i)) plan 0 0 plan.gates ≡ flat_map (table_mail plan xs cs [] i) (steps_from plan.rule 0 plan.gates)
+  steps_flat : (i : ℕ) → gathered (pieces_in h plan.points table xs cs (point_of plan i)) plan 0 0 plan.gates ≡ flat_map (table_mail plan xs cs [] i) (steps_from plan.rule 0 plan.gates)
   unfolding flat_map
   steps_flat i = steps_flat_from i (length plan.gates) 0 (add-zero (length plan.gates))
 

@@ -42,7 +42,7 @@ use Rattle.run_views.proofs.FlatLaws.{table_long, table_below, view_flat}
 module _ (plan : Plan) (h : Header) (table xs cs : List ℕ) (i at : ℕ) (old : List ℕ) where
   pub mail_done :
       (a b next : ℕ) (da db new : List ℕ) → Wrote (first_in plan h.n table i) at old da a
-      → Wrote (gathered (pieces_in h table xs cs (point_of plan i)) plan 0 0 plan.gates) a da db b → Wrote (outs_in plan h.n table i) b db new next
+      → Wrote (gathered (pieces_in h plan.points table xs cs (point_of plan i)) plan 0 0 plan.gates) a da db b → Wrote (outs_in plan h.n table i) b db new next
       → Wrote (mail_in plan h table xs cs i) at old new next
   unfolding mail_in
   mail_done a b next da db new u v w = wrote_then _ _ at a next old da new u (wrote_then _ _ a b next da db new v w)

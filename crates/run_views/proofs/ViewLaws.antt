@@ -11,6 +11,7 @@
 --     dealing, Piecing, pieces         the pieces of dealings
 --     gate_pieces, stepping            the mail of the gates' steps
 -- Assumes nothing.
+use Rattle.std.proofs.Common.{Option, Some, None}
 use mathlib.Core.Path.{◌≡◌, refl, sym, ap, ap₂, ◌∙◌}
 use mathlib.Core.Bool.{Bool, true, false, cond}
 use mathlib.Core.List.{List, [], ◌∷◌, ◌++◌, map, flat_map}
@@ -27,20 +28,26 @@ use mir.Syntax.{w64}
 use mir.Val.{Fits}
 use Rattle.numbers.specs.Tables.{tab}
 use Rattle.numbers.specs.Bytes.{number_at, width, numbers, all_below}
-use Rattle.numbers.proofs.Tables.{length-tab, get_or-tab, take-tab, is-tab, row_room}
-use Rattle.numbers.proofs.Below.{all_below_at, at-all_below, all_below-take, all_below-drop}
+use Rattle.numbers.proofs.Tables.{length-tab, get_or-tab, take-tab, tab-ext, tab-replicate, is-tab, row_room}
+use Rattle.numbers.proofs.Below.{all_below_at, all_below-tab, all_below-take, all_below-drop}
 use Rattle.numbers.proofs.Bytes.{numbers-length}
 use Rattle.numbers.proofs.Truth.{both_true}
 use Rattle.field.specs.Mod.{mul}
+use Rattle.field.proofs.Inverse.{pos}
+use Rattle.field.proofs.Solve.{canon-lt, add_canon}
 use Rattle.field.specs.Field.{Below2, Is, kept, Ready}
 use Rattle.sharing_laws.specs.Poly.{eval}
 use Rattle.sharing_laws.specs.Interp.{dot}
+use Rattle.sharing_laws.specs.Basis.{row}
 use Rattle.sharing_laws.specs.Sharing.{opened}
 use Rattle.sharing_openings.specs.Openable.{Openable}
+use Rattle.sharing_matrix.specs.declared.Matrix.{Matrix}
+use Rattle.sharing_matrix.proofs.Ruling.{length-row, row_elements}
 use Rattle.sharing.proofs.Walks.{Pair}
 use Rattle.sharing.proofs.Coding.{entry_below, Summed, sum-none, sum_more, summing}
 use Rattle.plan.specs.declared.Gate.{Gate}
 use Rattle.plan.specs.declared.Gate.TheVariants.{Input, Add, Scale, Offset, Multiply, Random, Spend}
+use Rattle.plan.specs.declared.Rule.{Rule}
 use Rattle.plan.specs.declared.Rule.TheVariants.{Reduction, Truncation}
 use Rattle.plan.specs.declared.Output.{Output}
 use Rattle.plan.specs.declared.Header.{Header}
@@ -55,14 +62,15 @@ use Rattle.run_protocol.specs.Ideal.{inputs_taken}
 use Rattle.run_protocol.proofs.Owners.{own-append, own_same, own-other, blocks, length_blocks, own_block, own_each}
 use Rattle.run_protocol.proofs.Dealt.{input-owners, reduction-owners, truncation-owners, random-owners}
 use Rattle.run_ideal.proofs.IdealLaws.{taken_next}
-use Rattle.run_dealings.specs.Rows.{power, powers, products_of, draws_of, Rowed, Fitted}
+use Rattle.run_dealings.specs.Rows.{Coined, power, powers, products_of, shared_by, draws_of, masked_of, mixed_at, Rowed, Spaced, Fitted, Cutting, Ruling}
 use Rattle.run_dealings.proofs.RowLaws.{product_at}
-use Rattle.run_dealings.proofs.CoinLaws.{coins_reduction, coins_random, no_owners}
+use Rattle.run_dealings.proofs.CoinLaws.{coins_reduction, coins_truncation, coins_random, no_owners}
 use Rattle.run_tables.proofs.FillLaws.{taken_within}
-use Rattle.run_views.specs.Flat.{share_in, row_in, first_in, outs_in, opened_in, pieces_of, pieces_in, gathered, Running, Ran, PowerRow, Multiplies, Seen, Owns}
+use Rattle.run_views.specs.Flat.{share_in, row_in, first_in, outs_in, opened_in, pieces_of, zeros_in, masked_in, truncated_in, multiply_in, pieces_in, gathered, power_count, taken_by, Running, Ran, PowerRow, Stands, Multiplies, Seen, Owns}
 use Rattle.run_views.specs.Writing.{Wrote}
-use Rattle.run_dealings.proofs.PowerLaws.{powers_below, eval-powers}
-use Rattle.run_views.proofs.WriteLaws.{wrote_none, wrote_as, Left, left_all, left_as, left_then, left_end}
+use Rattle.run_dealings.proofs.PowerLaws.{length-powers, powers_below, eval-powers}
+use Rattle.run_views.proofs.WriteLaws.{wrote_none, wrote_as, wrote_then, Left, left_all, left_as, left_then, left_end}
+use Rattle.run_views.proofs.FlatLaws.{pieces_tab}
 
 -- ---- a gate by its kind
 pub input_of_as : (i : ℕ) (gate x : Gate) (r : Bool) → gate ≡ x → r ≡ is_input_of i x → r ≡ is_input_of i gate
@@ -103,13 +111,13 @@ placed_first bs = record { input = refl; coin = refl; near_input = omega arith; 
 
 module _ (bs : List ℕ) (h : Header) (i k g : ℕ) (s : Placed bs i k g) (pl : Planned bs h) (l : g < h.gates) where
   pub placed_next :
-      (a d : ℕ) → a ≡ inputs_taken (plan_of bs) (gate_at bs g) → a ≤ 15 → d ≡ length (coin_owners_at (plan_of bs) (gate_at bs g)) → d ≤ 630
+      (a d : ℕ) (gate : Gate) → gate ≡ gate_at bs g → a ≡ inputs_taken (plan_of bs) gate → a ≤ 15 → d ≡ length (coin_owners_at (plan_of bs) gate) → d ≤ 630
       → Placed bs (i + a) (k + d) (g + 1)
   unfolding inputs_taken
-  placed_next a d ea la ed ld =
+  placed_next a d gate is ea la ed ld =
       record {
-        input = taken_next (input_owners_at (plan_of bs)) bs h i g a pl s.input l ea;
-        coin = taken_next (coin_owners_at (plan_of bs)) bs h k g d pl s.coin l ed;
+        input = taken_next (input_owners_at (plan_of bs)) bs h i g a pl s.input l (ea ∙ ap (λ (x : Gate). length (input_owners_at (plan_of bs) x)) is);
+        coin = taken_next (coin_owners_at (plan_of bs)) bs h k g d pl s.coin l (ed ∙ ap (λ (x : Gate). length (coin_owners_at (plan_of bs) x)) is);
         near_input = omega (arith, s.near_input);
         near_coin = omega (arith, s.near_coin);
         within = omega (arith, pl.gates-high);
@@ -120,13 +128,17 @@ module _ (bs : List ℕ) (h : Header) (i k g : ℕ) (s : Placed bs i k g) (pl : 
       → m + length (owners (gate_at bs g)) ≤ length (flat_map owners (plan_of bs).gates)
   taken_room owners m e = omega (arith, taken_next owners bs h m g _ pl e l refl, taken_within owners (plan_of bs).gates (g + 1))
 
-  pub inputs_room : (inputs : List ℕ) → length (numbers inputs) ≡ input_count (plan_of bs) → i + length (input_owners_at (plan_of bs) (gate_at bs g)) ≤ length inputs / width
-  unfolding input_count input_owners
-  inputs_room inputs full = omega (arith, full, numbers-length inputs, taken_room (input_owners_at (plan_of bs)) i s.input)
+  module _ (gate : Gate) (is : gate ≡ gate_at bs g) where
+    pub inputs_room : (inputs : List ℕ) → length (numbers inputs) ≡ input_count (plan_of bs) → i + length (input_owners_at (plan_of bs) gate) ≤ length inputs / width
+    unfolding input_count input_owners
+    inputs_room inputs full = rw is (omega (arith, full, numbers-length inputs, taken_room (input_owners_at (plan_of bs)) i s.input))
 
-  pub coins_room : (coins : List ℕ) → length (numbers coins) ≡ coin_count (plan_of bs) → k + length (coin_owners_at (plan_of bs) (gate_at bs g)) ≤ length coins / width
-  unfolding coin_count coin_owners
-  coins_room coins full = omega (arith, full, numbers-length coins, taken_room (coin_owners_at (plan_of bs)) k s.coin)
+    pub coins_room : (coins : List ℕ) → length (numbers coins) ≡ coin_count (plan_of bs) → k + length (coin_owners_at (plan_of bs) gate) ≤ length coins / width
+    unfolding coin_count coin_owners
+    coins_room coins full = rw is (omega (arith, full, numbers-length coins, taken_room (coin_owners_at (plan_of bs)) k s.coin))
+
+    pub gate_stands : Stands bs h.gates gate
+    gate_stands = record { place = g; within = l; is = is }
 
 -- the invariant of what is put at gate g
 pub record Gathering (f : Gate → ℕ → ℕ → List ℕ) (bs : List ℕ) (at : ℕ) (old new : List ℕ) (next i k g : ℕ) : Type 0 where
@@ -137,18 +149,18 @@ gather_all f bs at old l = record { left = left_all _ at old _ refl l }
 
 module _ (f : Gate → ℕ → ℕ → List ℕ) (bs : List ℕ) (h : Header) (at : ℕ) (old new : List ℕ) (next i k g : ℕ) (s : Gathering f bs at old new next i k g) (pl : Planned bs h) where
   pub gather_next :
-      (a d : ℕ) (new' : List ℕ) (next' : ℕ) → g < h.gates → a ≡ inputs_taken (plan_of bs) (gate_at bs g) → d ≡ length (coin_owners_at (plan_of bs) (gate_at bs g))
-      → Wrote (f (gate_at bs g) i k) next new new' next' → Gathering f bs at old new' next' (i + a) (k + d) (g + 1)
+      (a d : ℕ) (new' : List ℕ) (next' : ℕ) (gate : Gate) → g < h.gates → gate ≡ gate_at bs g → a ≡ inputs_taken (plan_of bs) gate → d ≡ length (coin_owners_at (plan_of bs) gate)
+      → Wrote (f gate i k) next new new' next' → Gathering f bs at old new' next' (i + a) (k + d) (g + 1)
   unfolding gathered inputs_taken
-  gather_next a d new' next' l ea ed w =
-      record { left = left_then _ at old new next _ s.left (f (gate_at bs g) i k) _ new' next' (rw (gates_from pl g (gate_at bs g) l refl, ea, ed)) w }
+  gather_next a d new' next' gate l is ea ed w =
+      record { left = left_then _ at old new next _ s.left (f gate i k) _ new' next' (rw (gates_from pl g gate l is, ea, ed)) w }
 
   pub gather_end : h.gates ≤ g → Wrote (gathered f (plan_of bs) 0 0 (plan_of bs).gates) at old new next
   unfolding gathered
   gather_end l = left_end _ at old new next _ s.left (rw (gates_end pl g l))
 
 -- As it is: answers name this set, since the check leaves their goals open by `using` alone.
-pub ruleset gathering = (rules, placed_first, placed_next, inputs_room, coins_room, gather_all, gather_next, gather_end)
+pub ruleset gathering = (rules, placed_first, placed_next, inputs_room, coins_room, gate_stands, gather_all, gather_next, gather_end)
 
 -- ---- a share in the table
 module _ (h : Header) (table : List ℕ) (r : Running h table) (w : ℕ) (l : w < h.gates) where
@@ -380,8 +392,23 @@ module _ (t from j : ℕ) (list : List ℕ) (room : from + t ≤ length list / w
   pub part_fits : length list < 2 ^ 63 → Fits w64 (from + j)
   part_fits f = record { fits = omega arith }
 
+-- the invariant at entry k of a row
+abbrev pub Rowing : List ℕ → ℕ → List ℕ → List ℕ → ℕ → ℕ → Type 0
+Rowing row at old new next k = Left row at old new next (drop k row)
+
+module _ (row : List ℕ) (at : ℕ) (old : List ℕ) where
+  pub row_all : at ≤ length old / width → Rowing row at old old at 0
+  row_all l = left_all _ at old _ refl l
+
+  module _ (new : List ℕ) (next k : ℕ) (s : Rowing row at old new next k) where
+    pub row_put : (new' : List ℕ) (next' : ℕ) → k < length row → Wrote (get_or row k 0 ∷ []) next new new' next' → Rowing row at old new' next' (k + 1)
+    row_put new' next' l w = left_then _ at old new next _ s (get_or row k 0 ∷ []) _ new' next' (rw (add-one, drop-cons row k 0 l)) w
+
+    pub row_done : length row ≤ k → Wrote row at old new next
+    row_done l = left_end _ at old new next _ s (drop_of_length-le row {i = k} l)
+
 -- As it is: answers name this set, since the check leaves their goals open by `using` alone.
-pub ruleset copying = (rules, tab_all, tab_put, part_done, part_within, part_fits)
+pub ruleset copying = (rules, tab_all, tab_put, part_done, part_within, part_fits, row_all, row_put, row_done)
 
 -- ---- a party's own of what a gate takes
 no_draws : (plan : Plan) (x : Gate) → ((o : ℕ) → x ≡ Input o → ⊥) → (x ≡ Random → ⊥) → input_owners_at plan x ≡ []
@@ -497,42 +524,19 @@ module _ (bs : List ℕ) (h : Header) (pl : Planned bs h) (i : ℕ) where
 -- As it is: answers name this set, since the check leaves their goals open by `using` alone.
 pub ruleset owning = (rules, block_few, three_blocks_few, dealer_owns, no_dealer, truncation_owns, input_owns, draws_own, no_input, none_given, input_deals, input_other, multiply_deals, random_deals, none_deals)
 
-module _ (bs : List ℕ) (i next at count g : ℕ) (list : List ℕ) (gate : Gate) (is : gate ≡ gate_at bs g) where
-  module _ (owners : List ℕ) (d : Owns i owners at count) (room : next + length owners ≤ length list / width) where
-    own_room : next + at + count ≤ length list / width
-    own_room = omega (arith, d.room)
+module _ (i next at count : ℕ) (list owners : List ℕ) (d : Owns i owners at count) (room : next + length owners ≤ length list / width) where
+  pub own_room : next + at + count ≤ length list / width
+  own_room = omega (arith, d.room)
 
-    own_fits : length list < 2 ^ 63 → Fits w64 (next + at)
-    own_fits f = record { fits = omega (arith, d.room) }
+  pub own_fits : length list < 2 ^ 63 → Fits w64 (next + at)
+  own_fits f = record { fits = omega (arith, d.room) }
 
-    own_put : (o next' : ℕ) (old new : List ℕ) → Wrote (take count (drop (next + at) (numbers list))) o old new next' → Wrote (own_of i owners (drop next (numbers list))) o old new next'
-    own_put o next' old new w =
-        wrote_as _ _ o next' old new
-        (ap (take count) (sym (drop-drop at next (numbers list))) ∙ sym (d.own (drop next (numbers list)) (omega (arith, length-drop next (numbers list), numbers-length list)))) w
+  pub own_put : (o next' : ℕ) (old new : List ℕ) → Wrote (take count (drop (next + at) (numbers list))) o old new next' → Wrote (own_of i owners (drop next (numbers list))) o old new next'
+  own_put o next' old new w =
+      wrote_as _ _ o next' old new
+      (ap (take count) (sym (drop-drop at next (numbers list))) ∙ sym (d.own (drop next (numbers list)) (omega (arith, length-drop next (numbers list), numbers-length list)))) w
 
-  module _ (d : Owns i (input_owners_at (plan_of bs) gate) at count) (room : next + length (input_owners_at (plan_of bs) (gate_at bs g)) ≤ length list / width) where
-    pub input_room : next + at + count ≤ length list / width
-    input_room = own_room _ d (rw is room)
-
-    pub input_fits : length list < 2 ^ 63 → Fits w64 (next + at)
-    input_fits f = own_fits _ d (rw is room) f
-
-    pub input_put : (o next' : ℕ) (old new : List ℕ) → Wrote (take count (drop (next + at) (numbers list))) o old new next'
-        → Wrote (own_of i (input_owners_at (plan_of bs) (gate_at bs g)) (drop next (numbers list))) o old new next'
-    input_put o next' old new w = rw (← is) (own_put _ d (rw is room) o next' old new w)
-
-  module _ (d : Owns i (coin_owners_at (plan_of bs) gate) at count) (room : next + length (coin_owners_at (plan_of bs) (gate_at bs g)) ≤ length list / width) where
-    pub coin_room : next + at + count ≤ length list / width
-    coin_room = own_room _ d (rw is room)
-
-    pub coin_fits : length list < 2 ^ 63 → Fits w64 (next + at)
-    coin_fits f = own_fits _ d (rw is room) f
-
-    pub coin_put : (o next' : ℕ) (old new : List ℕ) → Wrote (take count (drop (next + at) (numbers list))) o old new next'
-        → Wrote (own_of i (coin_owners_at (plan_of bs) (gate_at bs g)) (drop next (numbers list))) o old new next'
-    coin_put o next' old new w = rw (← is) (own_put _ d (rw is room) o next' old new w)
-
-pub ruleset own_parts = (rules, input_room, input_fits, input_put, coin_room, coin_fits, coin_put)
+pub ruleset own_parts = (rules, own_room, own_fits, own_put)
 
 -- ---- a party's own, gate by gate
 unfoldable pub inputs_at : Plan → ℕ → List ℕ → Gate → ℕ → ℕ → List ℕ
@@ -582,6 +586,27 @@ pub ruleset own_gates = (rules, input_at, coin_at)
 -- ---- a piece
 pub nothing_low : (p : ℕ) → 0 ≤ 4294967296 * p
 nothing_low p = omega arith
+
+-- dealing d of those that are seen
+module _ (p k : ℕ) (vs : List ℕ) (t from step : ℕ) (coins : List ℕ) (s : Seen p k vs t from step (numbers coins)) where
+  pub seen_few : t < k
+  seen_few = s.few
+
+  pub seen_coins : all_below p (numbers coins) ≡ true
+  seen_coins = s.coins
+
+  module _ (d : ℕ) (l : d < length vs) where
+    pub piece_room : from + step * d + t ≤ length coins / width
+    piece_room = omega (arith, s.room, row_room step d (length vs) l, numbers-length coins)
+
+    pub piece_turn_fits : length coins < 2 ^ 64 → Fits w64 (step * d)
+    piece_turn_fits f = record { fits = omega (arith, piece_room) }
+
+    pub piece_place_fits : length coins < 2 ^ 64 → Fits w64 (from + step * d)
+    piece_place_fits f = record { fits = omega (arith, piece_room) }
+
+    pub value_below : get_or vs d 0 < p
+    value_below = all_below_at p vs d s.values l
 
 -- the polynomial of a dealing of s with t coins, and that it fits the first powers ws of a point
 module _ (h : Header) (x : ℕ) (ws : List ℕ) (row : PowerRow h x ws) (t : ℕ) (few : t < length ws) where
@@ -645,7 +670,7 @@ module _ (h : Header) (x : ℕ) (ws : List ℕ) (row : PowerRow h x ws) (t : ℕ
   front_end j l = omega (arith, front_long)
 
 -- As it is: answers name this set, since the check leaves their goals open by `using` alone.
-pub ruleset dealing = (summing, nothing_low, end_fits_in, end_within, front_below, front_long, front_short, power_within, front_end, piece_is, coefficients_below, dealt_first, next_pair, first_below, part_within, part_fits)
+pub ruleset dealing = (summing, nothing_low, seen_few, seen_coins, piece_room, piece_turn_fits, piece_place_fits, value_below, end_fits_in, end_within, front_below, front_long, front_short, power_within, front_end, piece_is, coefficients_below, dealt_first, next_pair, first_below, part_within, part_fits)
 
 -- ---- the pieces
 -- the invariant at dealing d
@@ -658,164 +683,364 @@ module _ (p : ℕ) (vs : List ℕ) (t : ℕ) (cs : List ℕ) (from step x at : �
 
   module _ (new : List ℕ) (next d : ℕ) (s : Piecing p vs t cs from step x at old new next d) where
     pub pieces_next :
-        (new' : List ℕ) (next' v y : ℕ) → d < length vs → y ≡ get_or vs d 0 → Is p (eval p (y ∷ take t (drop (from + step * d) cs)) x) v → Wrote (v ∷ []) next new new' next'
+        (new' : List ℕ) (next' v : ℕ) → d < length vs → Is p (eval p (get_or vs d 0 ∷ take t (drop (from + step * d) cs)) x) v → Wrote (v ∷ []) next new new' next'
         → Piecing p vs t cs from step x at old new' next' (d + 1)
-    pieces_next new' next' v y l e iv w =
-        record { tabbed = tab_put _ (length vs) at old new next d s.tabbed v new' next' l (iv.eq ∙ ap (λ (z : ℕ). eval p (z ∷ take t (drop (from + step * d) cs)) x) e) w }
+    pieces_next new' next' v l iv w = record { tabbed = tab_put _ (length vs) at old new next d s.tabbed v new' next' l iv.eq w }
 
     pub pieces_end : length vs ≤ d → Wrote (pieces_of p vs t cs from step x) at old new next
-    unfolding pieces_of
-    pieces_end l = tab_done _ (length vs) at old new next d s.tabbed l
-
-module _ (p k : ℕ) (vs : List ℕ) (t from step d : ℕ) (coins : List ℕ) (s : Seen p k vs t from step (length coins / width)) (l : d < length vs) where
-  pub piece_room : from + step * d + t ≤ length coins / width
-  piece_room = omega (arith, s.room, row_room step d (length vs) l)
-
-  pub piece_turn_fits : length coins < 2 ^ 63 → Fits w64 (step * d)
-  piece_turn_fits f = record { fits = omega (arith, piece_room) }
-
-  pub piece_place_fits : length coins < 2 ^ 63 → Fits w64 (from + step * d)
-  piece_place_fits f = record { fits = omega (arith, piece_room) }
-
-  pub value_below : get_or vs d 0 < p
-  value_below = all_below_at p vs d s.below l
+    pieces_end l =
+        wrote_as _ _ at next old new
+        (tab-ext (λ j. eval p (get_or vs j 0 ∷ take t (drop (from + step * j) cs)) x) (λ j. eval p (get_or vs j 0 ∷ take t (drop (step * j) (drop from cs))) x) (length vs)
+        (λ j k. ap (λ (c : List ℕ). eval p (get_or vs j 0 ∷ take t c) x) (sym (drop-drop (step * j) from cs)))
+        ∙ sym (pieces_tab p vs t cs from step x))
+        (tab_done _ (length vs) at old new next d s.tabbed l)
 
 -- As it is: answers name this set, since the check leaves their goals open by `using` alone.
-pub ruleset pieces = (rules, not-true, not-false, pieces_all, pieces_next, pieces_end, piece_room, piece_turn_fits, piece_place_fits, value_below)
+pub ruleset pieces = (rules, not-true, not-false, pieces_all, pieces_next, pieces_end)
 
--- ---- the mail of a gate's steps
-module _ (h : Header) (table xs cs : List ℕ) (x next from at : ℕ) (old new : List ℕ) (next' : ℕ) where
-  pub products_put : (a b : ℕ) (vs : List ℕ) → vs ≡ products_of h.field.p h.n (h.t + h.t + 1) a b table → Wrote (pieces_of h.field.p vs h.t cs from h.t x) at old new next'
-      → Wrote (pieces_in h table xs cs x (Multiply a b) 0 from) at old new next'
-  unfolding pieces_in
-  products_put a b vs e w = rw (← e) w
-
-  pub draws_put : (vs list : List ℕ) → vs ≡ draws_of h.n (numbers list) → numbers list ≡ drop next xs → Wrote (pieces_of h.field.p vs h.t cs from h.t x) at old new next'
-      → Wrote (pieces_in h table xs cs x Random next from) at old new next'
-  unfolding pieces_in
-  draws_put vs list e rest w = rw (← rest, ← e) w
-
-  module _ (bs : List ℕ) (g : ℕ) (gate : Gate) (is : gate ≡ gate_at bs g) where
-    pub multiply_pieces : (a b : ℕ) → gate ≡ Multiply a b → Wrote (pieces_in h table xs cs x (Multiply a b) 0 from) at old new next'
-        → Wrote (pieces_in h table xs cs x (gate_at bs g) next from) at old new next'
-    unfolding pieces_in
-    multiply_pieces a b e w = rw (← is, e) w
-
-    pub random_pieces : gate ≡ Random → Wrote (pieces_in h table xs cs x Random next from) at old new next' → Wrote (pieces_in h table xs cs x (gate_at bs g) next from) at old new next'
-    random_pieces e w = rw (← is, e) w
-
-none_seen : (h : Header) (table xs cs : List ℕ) (x next from : ℕ) (gate : Gate) → ((a b : ℕ) → gate ≡ Multiply a b → ⊥) → (gate ≡ Random → ⊥) → pieces_in h table xs cs x gate next from ≡ []
-unfolding pieces_in
-none_seen h table xs cs x next from (Input i) n r = refl
-none_seen h table xs cs x next from (Add a b) n r = refl
-none_seen h table xs cs x next from (Scale a c) n r = refl
-none_seen h table xs cs x next from (Offset a c) n r = refl
-none_seen h table xs cs x next from (Multiply a b) n r = absurd (n a b refl)
-none_seen h table xs cs x next from Random n r = absurd (r refl)
-none_seen h table xs cs x next from (Spend a b) n r = refl
-
-pub no_pieces : (bs : List ℕ) (h : Header) (table xs cs : List ℕ) (x next from g : ℕ) (gate : Gate) → gate ≡ gate_at bs g → ((a b : ℕ) → gate ≡ Multiply a b → ⊥) → (gate ≡ Random → ⊥)
-    → (at : ℕ) (old : List ℕ) → at ≤ length old / width → Wrote (pieces_in h table xs cs x (gate_at bs g) next from) at old old at
-no_pieces bs h table xs cs x next from g gate is n r at old l = rw (← is, none_seen h table xs cs x next from gate n r) (wrote_none at old l)
-
-module _ (bs : List ℕ) (h : Header) (g : ℕ) (gate : Gate) (pl : Planned bs h) (l : g < h.gates) (is : gate ≡ gate_at bs g) where
-  module _ (a b : ℕ) (e : gate ≡ Multiply a b) where
-    operands_kept : (a < g) × (b < g)
-    unfolding gate_ok
-    operands_kept =
-        let ok = both_true (ltb a g) (ltb b g) (rw e at (gate-kept bs h pl g gate l is)) in
-        (ltb-true a g ok.0, ltb-true b g ok.1)
-
-    pub gate_multiplies : (count : ℕ) (from : ℕ) → from + length (coin_owners_at (plan_of bs) (gate_at bs g)) ≤ count → Multiplies h a b from count
-    unfolding multiplying is_kind kind_of
-    gate_multiplies count from room =
-        record {
-          majority = gate_majority bs h pl g gate l is (ap multiplying e);
-          left = omega (arith, operands_kept.0);
-          right = omega (arith, operands_kept.1);
-          room = omega (arith, coins_reduction bs h pl g gate is a b e (sym (plan_rule pl) ∙ (plain bs pl.passes).rule));
-        }
-
-  pub gate_draws : gate ≡ Random → (count from : ℕ) → from + length (coin_owners_at (plan_of bs) (gate_at bs g)) ≤ count → from + h.t * h.n ≤ count
-  gate_draws e count from room = omega (arith, coins_random bs h pl g gate is e)
-
--- what the dealers of a product deal
+-- ---- the pieces of dealt products
 product_low : (p a b : ℕ) → Ready p → mul p a b < p
 unfolding mul
 product_low p a b r = mod-lt (a * b) (omega (arith, r.prime.above))
 
-module _ (h : Header) (table : List ℕ) (r : Running h table) (a b from count : ℕ) (m : Multiplies h a b from count) where
-  rowed_of : (w : ℕ) → w < h.gates → Rowed h.field.p h.n w table
+few_coins : (rule : Rule) (t k : ℕ) → power_count rule t ≤ k → t ≤ 14 → t < k
+unfolding power_count
+few_coins Reduction t k l m = omega arith
+few_coins Truncation t k l m = omega arith
+
+pub take_replicate : (n m : ℕ) → n ≤ m → take n (replicate {A = ℕ} m 0) ≡ replicate n 0
+take_replicate zero m l = refl
+take_replicate (suc n) zero l = absurd (omega arith)
+take_replicate (suc n) (suc m) l = ap (λ (xs : List ℕ). 0 ∷ xs) (take_replicate n m (omega arith))
+
+zeros_below : (p n : ℕ) → Ready p → all_below p (replicate n 0) ≡ true
+zeros_below p n r = rw (← tab-replicate {A = ℕ} 0 n) (all_below-tab p (λ i. 0) n (λ i l. omega (arith, r.prime.above)))
+
+-- the dealings of a run
+module _ (plan : Plan) (h : Header) (xs cs table : List ℕ) (ran : Ran plan h xs cs table) where
+  row_stands : (w : ℕ) → w < h.gates → Rowed h.field.p h.n w table
   unfolding row_in
-  rowed_of w l = record { room = row_within h table r w l; below = row_below h table r w l }
+  row_stands w l = record { room = row_within h table ran.running w l; below = row_below h table ran.running w l }
 
-  pub left_row : Rowed h.field.p h.n a table
-  left_row = rowed_of a m.left
+  pub left_row : (a b : ℕ) → Multiplies h a b → Rowed h.field.p h.n a table
+  left_row a b m = row_stands a m.left
 
-  pub right_row : Rowed h.field.p h.n b table
-  right_row = rowed_of b m.right
+  pub right_row : (a b : ℕ) → Multiplies h a b → Rowed h.field.p h.n b table
+  right_row a b m = row_stands b m.right
 
-  pub dealers_within : (h.t + h.t + 1 ≤ h.n) × (h.n ≤ 15)
-  dealers_within = (omega (arith, m.majority), r.few)
+  pub dealers_within : (a b : ℕ) → Multiplies h a b → (h.t + h.t + 1 ≤ h.n) × (h.n ≤ 15)
+  dealers_within a b m = (omega (arith, m.majority), ran.running.few)
 
-  module _ (row : List ℕ) (e : take (h.t + h.t + 1) row ≡ products_of h.field.p h.n (h.t + h.t + 1) a b table) where
-    products_small : all_below h.field.p (products_of h.field.p h.n (h.t + h.t + 1) a b table) ≡ true
-    unfolding products_of
-    products_small =
-        at-all_below h.field.p _
-        (λ i l.
-        rw (get_or-tab (product_at h.field.p h.n a b table) (h.t + h.t + 1) i 0 (rw length-tab at l))
-        (product_low h.field.p (get_or table (h.n * a + i) 0) (get_or table (h.n * b + i) 0) r.ready))
+  module _ (x : ℕ) (ws : List ℕ) (q : PowerRow h x ws) where
+    row_wide : h.t < length ws
+    row_wide = few_coins h.rule h.t (length ws) q.some (omega (arith, ran.running.threshold, ran.running.few))
 
-    pub products_seen : (x : ℕ) (ws : List ℕ) → PowerRow h x ws → Seen h.field.p (length ws) (take (h.t + h.t + 1) row) h.t from h.t count
-    unfolding products_of
-    products_seen x ws q =
+    pub products_seen :
+        (a b from : ℕ) (row : List ℕ) → Multiplies h a b → from + taken_by Reduction h ≤ length cs → take (h.t + h.t + 1) row ≡ products_of h.field.p h.n (h.t + h.t + 1) a b table
+        → Seen h.field.p (length ws) (take (h.t + h.t + 1) row) h.t from h.t cs
+    unfolding products_of taken_by
+    products_seen a b from row m room e =
+        let small : all_below h.field.p (products_of h.field.p h.n (h.t + h.t + 1) a b table) ≡ true =
+        all_below-tab h.field.p _ (h.t + h.t + 1) (λ i l. product_low h.field.p (get_or table (h.n * a + i) 0) (get_or table (h.n * b + i) 0) ran.running.ready) in
         record {
-          few = q.some;
-          below = rw e products_small;
-          room = rw (e, length-tab (product_at h.field.p h.n a b table) (h.t + h.t + 1)) (omega (arith, m.room));
+          few = row_wide;
+          values = rw e small;
+          coins = ran.below;
+          room = rw (e, length-tab (product_at h.field.p h.n a b table) (h.t + h.t + 1)) (omega arith);
         }
 
--- what all parties draw
-module _ (plan : Plan) (h : Header) (xs cs table : List ℕ) (ran : Ran plan h xs cs table) (next : ℕ) (list row : List ℕ) (rest : numbers list ≡ drop next xs) (e : take h.n row ≡ draws_of h.n (numbers list)) where
-  draws_small : all_below h.field.p (draws_of h.n (numbers list)) ≡ true
-  unfolding draws_of
-  draws_small =
-      at-all_below h.field.p _
-      (λ i l.
-      rw (get_or-tab (λ d. get_or (numbers list) d 0) h.n i 0 (rw length-tab at l))
-      (entry_below h.field.p (numbers list) i ran.running.ready (rw rest (all_below-drop h.field.p next xs ran.inputs_below))))
+    -- of the draws, those of the first k parties
+    pub draws_seen :
+        (next : ℕ) (list row : List ℕ) (from k : ℕ) → numbers list ≡ drop next xs → take h.n row ≡ draws_of h.n (numbers list) → from + h.t * h.n ≤ length cs → k ≤ h.n
+        → Seen h.field.p (length ws) (take k row) h.t from h.t cs
+    unfolding draws_of
+    draws_seen next list row from k rest e room l =
+        let long : length (take h.n row) ≡ h.n = ap length e ∙ length-tab (λ d. get_or (numbers list) d 0) h.n in
+        let first : take k (take h.n row) ≡ take k row = take-take k h.n row l in
+        let count_is : length (take k row) ≡ k = ap length (sym first) ∙ length-take-le k (take h.n row) (omega (arith, long)) in
+        let small : all_below h.field.p (draws_of h.n (numbers list)) ≡ true =
+        all_below-tab h.field.p _ h.n (λ i l. entry_below h.field.p (numbers list) i ran.running.ready (rw rest (all_below-drop h.field.p next xs ran.inputs_below))) in
+        record {
+          few = row_wide;
+          values = rw (← first) (all_below-take h.field.p k (take h.n row) (rw e small));
+          coins = ran.below;
+          room = omega (arith, ap (λ (m : ℕ). h.t * m) count_is, mul-le-mul_left {m = k} {n = h.n} h.t l);
+        }
 
-  -- those of the first k parties
-  pub draws_seen : (x : ℕ) (ws : List ℕ) → PowerRow h x ws → (from count k : ℕ) → from + h.t * h.n ≤ count → k ≤ h.n → Seen h.field.p (length ws) (take k row) h.t from h.t count
-  unfolding draws_of
-  draws_seen x ws q from count k room l =
-      let long : length (take h.n row) ≡ h.n = ap length e ∙ length-tab (λ d. get_or (numbers list) d 0) h.n in
-      let first : take k (take h.n row) ≡ take k row = take-take k h.n row l in
-      let count_is : length (take k row) ≡ k = ap length (sym first) ∙ length-take-le k (take h.n row) (omega (arith, long)) in
-      record {
-        few = q.some;
-        below = rw (← first) (all_below-take h.field.p k (take h.n row) (rw e draws_small));
-        room = omega (arith, ap (λ (m : ℕ). h.t * m) count_is, mul-le-mul_left {m = k} {n = h.n} h.t l);
-      }
+    module _ (a b from : ℕ) (m : Multiplies h a b) (truncates : h.rule ≡ Truncation) (room : from + taken_by Truncation h ≤ length cs) where
+      row_full : length ws ≡ 16
+      unfolding power_count
+      row_full = omega (arith, q.few, ap (λ (r : Rule). power_count r h.t) (sym truncates), q.some)
 
--- As it is: answers name this set, since the check leaves their goals open by `using` alone.
-pub ruleset gate_pieces = (rules, gate_multiplies, gate_draws, left_row, right_row, dealers_within, products_seen, draws_seen, products_put, draws_put, multiply_pieces, random_pieces, no_pieces)
+      pub zeros_seen : (row : List ℕ) → row ≡ replicate 15 0 → Seen h.field.p (length ws) (take h.n row) (h.t + h.t) from (3 * h.t) cs
+      unfolding taken_by
+      zeros_seen row e =
+          let is : take h.n row ≡ replicate h.n 0 = rw e (take_replicate h.n 15 ran.running.few) in
+          record {
+            few = omega (arith, row_full, m.majority, ran.running.few);
+            values = rw is (zeros_below h.field.p h.n ran.running.ready);
+            coins = ran.below;
+            room = rw (is, length-replicate {A = ℕ} h.n 0) (omega arith);
+          }
+
+      module _ (bs : List ℕ) (pl : Planned bs h) (p t : ℕ) (points us : List ℕ) (fitted : Fitted bs h p t points us) (row : List ℕ)
+          (e : take (length points) row ≡ masked_of p t points a b table (drop from cs)) where
+        count_is : length points ≡ h.n
+        count_is = ap length fitted.are ∙ plan_points_long bs h pl
+
+        pub masked_are : take h.n row ≡ masked_of h.field.p h.t (plan_of bs).points a b table (drop from cs)
+        masked_are =
+            ap (λ (n : ℕ). take n row) (sym count_is) ∙ e
+            ∙ ap (λ (ps : List ℕ). masked_of p t ps a b table (drop from cs)) fitted.are
+            ∙ ap₂ (λ (q s : ℕ). masked_of q s (plan_of bs).points a b table (drop from cs)) fitted.field fitted.threshold
+
+        masked_long : length (take h.n row) ≡ h.n
+        unfolding masked_of
+        masked_long = ap length masked_are ∙ length-tab _ (length (plan_of bs).points) ∙ plan_points_long bs h pl
+
+        pub masked_counted : length (take h.n row) ≡ h.n
+        masked_counted = masked_long
+
+        pub masked_seen : Seen h.field.p (length ws) (take h.n row) h.t (from + (h.t + h.t)) (3 * h.t) cs
+        unfolding taken_by masked_of
+        masked_seen =
+            record {
+              few = row_wide;
+              values = rw masked_are (all_below-tab h.field.p _ (length (plan_of bs).points) (λ i l. canon-lt (pos ran.running.ready.prime) (add_canon _ _)));
+              coins = ran.below;
+              room = omega (arith, ap (λ (n : ℕ). 3 * h.t * n) masked_long);
+            }
+
+module _ (h : Header) (points table cs : List ℕ) (x a b from at next : ℕ) (old new row : List ℕ) where
+  pub products_put : take (h.t + h.t + 1) row ≡ products_of h.field.p h.n (h.t + h.t + 1) a b table → Wrote (pieces_of h.field.p (take (h.t + h.t + 1) row) h.t cs from h.t x) at old new next
+      → Wrote (multiply_in Reduction h points table cs x a b from) at old new next
+  unfolding multiply_in
+  products_put e w = rw (← e) w
+
+pub ruleset product_pieces = (rules, left_row, right_row, dealers_within, products_seen, products_put)
+
+pub ruleset draw_pieces = (rules, draws_seen)
 
 -- ---- the powers of a party's point
 module _ (bs : List ℕ) (h : Header) (pl : Planned bs h) (p t : ℕ) (points ws : List ℕ) (fitted : Fitted bs h p t points ws) (i : ℕ) (low : 1 ≤ i) (high : i ≤ h.n) where
   pub point_there : i - 1 < length points
   point_there = omega (arith, ap length fitted.are, plan_points_long bs h pl)
 
-  pub powers_row : (row : List ℕ) → t < length row → length row ≤ 16 → row ≡ powers p (get_or points (i - 1) 0) (length row) → PowerRow h (point_of (plan_of bs) i) row
+  pub point_small : get_or points (i - 1) 0 < h.field.p
+  point_small = all_below_at h.field.p points (i - 1) (rw fitted.are (plan_points_below bs h pl)) point_there
+
+  row_of_powers : (row : List ℕ) → power_count h.rule h.t ≤ length row → length row ≤ 16 → row ≡ powers h.field.p (get_or points (i - 1) 0) (length row) → PowerRow h (point_of (plan_of bs) i) row
   unfolding point_of
-  powers_row row some few are =
+  row_of_powers row some few are =
       record {
-        some = omega (arith, fitted.threshold);
+        some = some;
         few = few;
-        are = are ∙ ap₂ (λ (q : ℕ) (ps : List ℕ). powers q (get_or ps (i - 1) 0) (length row)) fitted.field fitted.are;
-        below = rw (are, fitted.field) (powers_below h.field.p (get_or points (i - 1) 0) (length row) (planned-ready bs h pl));
+        are = are ∙ ap (λ (ps : List ℕ). powers h.field.p (get_or ps (i - 1) 0) (length row)) fitted.are;
+        below = rw are (powers_below h.field.p (get_or points (i - 1) 0) (length row) (planned-ready bs h pl));
       }
 
+  pub run_powers : (row : List ℕ) → h.rule ≡ Reduction → t < length row → length row ≤ 16 → row ≡ powers p (get_or points (i - 1) 0) (length row) → PowerRow h (point_of (plan_of bs) i) row
+  unfolding power_count
+  run_powers row c some few are =
+      row_of_powers row (rw c (omega (arith, fitted.threshold))) few (are ∙ ap (λ (q : ℕ). powers q (get_or points (i - 1) 0) (length row)) fitted.field)
+
+  pub all_powers : (old row : List ℕ) → h.rule ≡ Truncation → length old ≡ 16 → row ≡ powers h.field.p (get_or points (i - 1) 0) (length old) → PowerRow h (point_of (plan_of bs) i) row
+  unfolding power_count
+  all_powers old row c long are =
+      let count : length row ≡ length old = ap length are ∙ length-powers h.field.p (get_or points (i - 1) 0) (length old) in
+      row_of_powers row (rw c (omega (arith, count))) (omega (arith, count)) (are ∙ ap (powers h.field.p (get_or points (i - 1) 0)) (sym count))
+
 -- the mail of all gates' steps
-pub ruleset stepping = (rules, point_there, powers_row)
+pub ruleset stepping = (rules, point_there, point_small, run_powers, all_powers)
+
+-- ---- the pieces of the truncated share
+-- the matrix' row of a point
+module _ (p t : ℕ) (ps : List ℕ) (m : Matrix) (c : Cutting p t ps m) (i : ℕ) (ws : List ℕ) (is : ws ≡ row m.sums.field.p m.t m.points.now (get_or m.points.now (i - 1) 0)) where
+  pub row_is_of : ws ≡ row p t ps (get_or ps (i - 1) 0)
+  row_is_of = is ∙ ap₂ (λ (q s : ℕ). row q s m.points.now (get_or m.points.now (i - 1) 0)) c.field c.threshold ∙ ap (λ (xs : List ℕ). row p t xs (get_or xs (i - 1) 0)) c.are
+
+  pub matrix_row_long : length ws ≡ length ps
+  matrix_row_long = ap length row_is_of ∙ length-row p t ps (get_or ps (i - 1) 0)
+
+  pub row_within_points : length ws ≤ length ps
+  row_within_points = omega (arith, matrix_row_long)
+
+  pub row_small : Ready p → all_below p ws ≡ true
+  row_small r = rw row_is_of (row_elements p t ps (get_or ps (i - 1) 0) r)
+
+pub matrix_point : (p t : ℕ) (ps : List ℕ) (m : Matrix) (i : ℕ) → Cutting p t ps m → i < length ps → i < length m.points.now
+matrix_point p t ps m i c l = omega (arith, ap length c.are)
+
+pub seen_values : (p q k : ℕ) (vs : List ℕ) (t from step : ℕ) (cs : List ℕ) → q ≡ p → Seen p k vs t from step cs → all_below q vs ≡ true
+seen_values p q k vs t from step cs e s = rw e s.values
+
+pub seen_spaced : (p q k : ℕ) (vs : List ℕ) (t from step : ℕ) (cs : List ℕ) → q ≡ p → Seen p k vs t from step cs → Spaced q t step (length vs) from cs
+seen_spaced p q k vs t from step cs e s = record {
+  room = s.room;
+  below = λ d l. rw e (all_below-take p t (drop (from + step * d) cs) (all_below-drop p (from + step * d) cs s.coins));
+}
+
+module _ (bs : List ℕ) (h : Header) (pl : Planned bs h) (p t : ℕ) (points us : List ℕ) (fitted : Fitted bs h p t points us) where
+  points_count : length points ≡ h.n
+  points_count = ap length fitted.are ∙ plan_points_long bs h pl
+
+  -- the coins and the rows that the masked products take, in the words of the run's dealings
+  pub masked_coined : (from : ℕ) (cs : List ℕ) → all_below h.field.p cs ≡ true → from + taken_by Truncation h ≤ length cs → Coined p (3 * t) (length points) from cs
+  unfolding taken_by
+  masked_coined from cs b room = record {
+    room = rw (fitted.threshold, points_count) room;
+    below = rw (fitted.field) (all_below-take h.field.p (3 * t * length points) (drop from cs) (all_below-drop h.field.p from cs b));
+  }
+
+  pub rowed_as : (w : ℕ) (table : List ℕ) → Rowed h.field.p h.n w table → Rowed p (length points) w table
+  rowed_as w table r = rw (fitted.field, points_count) r
+
+  -- the products, likewise
+  pub rowed_in : (w : ℕ) (table : List ℕ) → Rowed h.field.p h.n w table → Rowed p h.n w table
+  rowed_in w table r = rw (fitted.field) r
+
+  pub products_are : (m a b : ℕ) (table row : List ℕ) → take m row ≡ products_of p h.n m a b table → take m row ≡ products_of h.field.p h.n m a b table
+  products_are m a b table row e = e ∙ ap (λ (q : ℕ). products_of q h.n m a b table) fitted.field
+
+  pub small_threshold : h.t < 8 → t < 8
+  small_threshold l = omega (arith, fitted.threshold)
+
+  pub same_threshold : (s : ℕ) → s ≡ h.t → s ≡ t
+  same_threshold s e = e ∙ sym fitted.threshold
+
+  pub counted_as_points : (k : ℕ) → k ≡ h.n → k ≡ length points
+  counted_as_points k e = e ∙ sym points_count
+
+  pub truncated_put :
+      (i : ℕ) (ws pieces : List ℕ) (fs : List (List ℕ)) (at next : ℕ) (old new : List ℕ) → ws ≡ row p t points (get_or points (i - 1) 0)
+      → take (length points) pieces ≡ map (mixed_at p ws fs) points → Wrote (take h.n pieces) at old new next
+      → Wrote (map (mixed_at h.field.p (row h.field.p h.t (plan_of bs).points (point_of (plan_of bs) i)) fs) (plan_of bs).points) at old new next
+  unfolding point_of
+  truncated_put i ws pieces fs at next old new ew ep w =
+      wrote_as _ _ at next old new
+      (ap (λ (n : ℕ). take n pieces) (sym points_count) ∙ ep
+      ∙ ap (λ (vs : List ℕ). map (mixed_at p vs fs) points) ew
+      ∙ ap (λ (qs : List ℕ). map (mixed_at p (row p t qs (get_or qs (i - 1) 0)) fs) qs) fitted.are
+      ∙ ap₂ (λ (q s : ℕ). map (mixed_at q (row q s (plan_of bs).points (get_or (plan_of bs).points (i - 1) 0)) fs) (plan_of bs).points) fitted.field fitted.threshold)
+      w
+
+pub counted_with : (a b c : ℕ) → a ≡ c → b ≡ c → a ≡ b
+counted_with a b c e f = e ∙ sym f
+
+-- As it is: answers name this set, since the check leaves their goals open by `using` alone.
+pub ruleset truncating = (rules, row_is_of, matrix_row_long, row_within_points, row_small, matrix_point, seen_values, seen_spaced, point_there, small_threshold, same_threshold, counted_as_points, counted_with, truncated_put)
+
+-- ---- the mail of a multiply gate by truncation
+module _ (h : Header) (points table cs : List ℕ) (x a b from : ℕ) (at n1 n2 next : ℕ) (old d1 d2 new none masked : List ℕ) where
+  pub truncation_put :
+      take h.n none ≡ replicate h.n 0 → take h.n masked ≡ masked_of h.field.p h.t points a b table (drop from cs)
+      → Wrote (pieces_of h.field.p (take h.n none) (h.t + h.t) cs from (3 * h.t) x) at old d1 n1
+      → Wrote (pieces_of h.field.p (take h.n masked) h.t cs (from + (h.t + h.t)) (3 * h.t) x) n1 d1 d2 n2
+      → Wrote (map (mixed_at h.field.p (row h.field.p h.t points x) (shared_by h.t (3 * h.t) (take h.n masked) (drop (from + (h.t + h.t)) cs))) points) n2 d2 new next
+      → Wrote (multiply_in Truncation h points table cs x a b from) at old new next
+  unfolding multiply_in zeros_in masked_in truncated_in mixed_at pieces_of
+  truncation_put ez em u v w =
+      wrote_then _ _ at n1 next old d1 new (rw ez at u)
+      (wrote_then _ _ n1 n2 next d1 d2 new (rw em at v) (rw em at w))
+
+-- where the masked products' coins begin
+pub masked_begin_fits : (h : Header) (from : ℕ) (coins : List ℕ) → h.t < 8 → from + taken_by Truncation h ≤ length (numbers coins) → length coins < 2 ^ 63 → Fits w64 (from + (h.t + h.t))
+unfolding taken_by
+masked_begin_fits h from coins few room lent = record { fits = omega (arith, room, numbers-length coins) }
+
+pub small_by_majority : (h : Header) (a b : ℕ) → Multiplies h a b → h.n ≤ 15 → h.t < 8
+small_by_majority h a b m l = omega (arith, m.majority)
+
+-- As it is: answers name this set, since the check leaves their goals open by `using` alone.
+pub ruleset truncation_pieces = (rules, left_row, right_row, small_by_majority, zeros_seen, masked_seen, masked_are, masked_counted, take_replicate, truncation_put)
+
+-- ---- the mail of a multiply gate, by the matrix that is kept
+module _ (h : Header) (p t : ℕ) (ps : List ℕ) (kept : Option Matrix) (ruled : Ruling h.rule p t ps kept) (count from : ℕ) (room : from + taken_by h.rule h ≤ count) where
+  module _ (e : kept ≡ None) where
+    pub reduction_room : from + taken_by Reduction h ≤ count
+    unfolding taken_by
+    reduction_room = rw (ruled.none e) at room
+
+  module _ (m : Matrix) (e : kept ≡ Some m) where
+    pub truncation_room : from + taken_by Truncation h ≤ count
+    unfolding taken_by
+    truncation_room = rw (ruled.some m e) at room
+
+module _ (h : Header) (p t : ℕ) (ps : List ℕ) (kept : Option Matrix) (ruled : Ruling h.rule p t ps kept) where
+  pub reduces : kept ≡ None → Reduction ≡ h.rule
+  reduces e = sym (ruled.none e)
+
+  module _ (m : Matrix) (e : kept ≡ Some m) where
+    pub truncates : h.rule ≡ Truncation
+    truncates = ruled.some m e
+
+    pub cuts_by : Cutting p t ps m
+    cuts_by = ruled.cuts m e
+
+pub multiply_by : (r q : Rule) (h : Header) (points table cs : List ℕ) (x a b from at next : ℕ) (old new : List ℕ) → r ≡ q → Wrote (multiply_in r h points table cs x a b from) at old new next
+    → Wrote (multiply_in q h points table cs x a b from) at old new next
+multiply_by r q h points table cs x a b from at next old new e w = rw e at w
+
+pub multiply_as : (r q : Rule) (h : Header) (points table cs : List ℕ) (x a b from at next : ℕ) (old new : List ℕ) → q ≡ r → Wrote (multiply_in r h points table cs x a b from) at old new next
+    → Wrote (multiply_in q h points table cs x a b from) at old new next
+multiply_as r q h points table cs x a b from at next old new e w = rw (← e) at w
+
+-- ---- the mail of a gate's steps
+module _ (h : Header) (points table xs cs : List ℕ) (x next from at : ℕ) (old new : List ℕ) (next' : ℕ) (gate : Gate) where
+  pub multiply_pieces : (a b : ℕ) → gate ≡ Multiply a b → Wrote (multiply_in h.rule h points table cs x a b from) at old new next'
+      → Wrote (pieces_in h points table xs cs x gate next from) at old new next'
+  unfolding pieces_in
+  multiply_pieces a b e w = rw e w
+
+  pub random_pieces : gate ≡ Random → Wrote (pieces_of h.field.p (draws_of h.n (drop next xs)) h.t cs from h.t x) at old new next' → Wrote (pieces_in h points table xs cs x gate next from) at old new next'
+  unfolding pieces_in
+  random_pieces e w = rw e w
+
+none_seen : (h : Header) (points table xs cs : List ℕ) (x next from : ℕ) (gate : Gate) → ((a b : ℕ) → gate ≡ Multiply a b → ⊥) → (gate ≡ Random → ⊥) → pieces_in h points table xs cs x gate next from ≡ []
+unfolding pieces_in
+none_seen h points table xs cs x next from (Input i) n r = refl
+none_seen h points table xs cs x next from (Add a b) n r = refl
+none_seen h points table xs cs x next from (Scale a c) n r = refl
+none_seen h points table xs cs x next from (Offset a c) n r = refl
+none_seen h points table xs cs x next from (Multiply a b) n r = absurd (n a b refl)
+none_seen h points table xs cs x next from Random n r = absurd (r refl)
+none_seen h points table xs cs x next from (Spend a b) n r = refl
+
+pub no_pieces : (h : Header) (points table xs cs : List ℕ) (x next from : ℕ) (gate : Gate) → ((a b : ℕ) → gate ≡ Multiply a b → ⊥) → (gate ≡ Random → ⊥)
+    → (at : ℕ) (old : List ℕ) → at ≤ length old / width → Wrote (pieces_in h points table xs cs x gate next from) at old old at
+no_pieces h points table xs cs x next from gate n r at old l = rw (none_seen h points table xs cs x next from gate n r) (wrote_none at old l)
+
+module _ (bs : List ℕ) (h : Header) (gate : Gate) (pl : Planned bs h) where
+  module _ (a b : ℕ) (e : gate ≡ Multiply a b) where
+    module _ (s : Stands bs h.gates gate) where
+      operands_kept : (a < s.place) × (b < s.place)
+      unfolding gate_ok
+      operands_kept =
+          let ok = both_true (ltb a s.place) (ltb b s.place) (rw e at (gate-kept bs h pl s.place gate s.within s.is)) in
+          (ltb-true a s.place ok.0, ltb-true b s.place ok.1)
+
+      pub gate_multiplies : Multiplies h a b
+      unfolding multiplying is_kind kind_of
+      gate_multiplies =
+          record {
+            majority = gate_majority bs h pl s.place gate s.within s.is (ap multiplying e);
+            left = omega (arith, operands_kept.0, s.within);
+            right = omega (arith, operands_kept.1, s.within);
+          }
+
+    gate_taken : taken_by h.rule h ≡ length (coin_owners_at (plan_of bs) gate)
+    unfolding taken_by
+    gate_taken = pick h.rule refl
+      where
+        pick : (r : Rule) → h.rule ≡ r → taken_by r h ≡ length (coin_owners_at (plan_of bs) gate)
+        pick Reduction q = coins_reduction bs h pl gate a b e q
+        pick Truncation q = coins_truncation bs h pl gate a b e q
+
+    pub gate_coins : (from : ℕ) (coins : List ℕ) → from + length (coin_owners_at (plan_of bs) gate) ≤ length coins / width → from + taken_by h.rule h ≤ length (numbers coins)
+    gate_coins from coins room = omega (arith, gate_taken, numbers-length coins)
+
+  pub gate_draws : gate ≡ Random → (from : ℕ) (coins : List ℕ) → from + length (coin_owners_at (plan_of bs) gate) ≤ length coins / width → from + h.t * h.n ≤ length (numbers coins)
+  gate_draws e from coins room = omega (arith, coins_random bs h pl gate e, numbers-length coins)
+
+-- As it is: answers name this set, since the check leaves their goals open by `using` alone.
+pub ruleset gate_pieces = (rules, reduction_room, truncation_room, reduces, truncates, cuts_by, multiply_by, multiply_as, gate_multiplies, gate_coins, gate_draws, multiply_pieces, random_pieces, no_pieces)

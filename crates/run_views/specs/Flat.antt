@@ -1,16 +1,21 @@
 -- The table of shares as the code holds it: flat, a row for each wire, in it a share for each party.
-use Rattle.std.specs.Prelude.{ℕ, ◌+◌, ◌-◌, ◌*◌, ◌<◌, ◌≤◌, ◌≡◌, true, length, take, drop, get_or}
+use Rattle.std.specs.Prelude.{ℕ, ◌+◌, ◌-◌, ◌*◌, ◌<◌, ◌≤◌, ◌≡◌, true, length, take, drop, get_or, replicate}
 use mathlib.Core.List.{List, [], ◌∷◌, ◌++◌, map, flat_map}
 use Rattle.numbers.specs.Tables.{tab}
 use Rattle.numbers.specs.Bytes.{all_below}
 use Rattle.sharing_laws.specs.Poly.{eval}
+use Rattle.sharing_laws.specs.Interp.{dot}
+use Rattle.sharing_laws.specs.Basis.{row}
 use Rattle.sharing_laws.specs.Sharing.{opened}
 use Rattle.field.specs.Field.{Ready}
 use Rattle.plan.specs.declared.Gate.{Gate}
 use Rattle.plan.specs.declared.Gate.TheVariants.{Input, Add, Scale, Offset, Multiply, Random, Spend}
+use Rattle.plan.specs.declared.Rule.{Rule}
+use Rattle.plan.specs.declared.Rule.TheVariants.{Reduction, Truncation}
 use Rattle.plan.specs.declared.Header.{Header}
 use Rattle.plan.specs.Plans.{Plan, parties, point_of, input_wires, out_wires, input_owners_at, coin_owners_at, input_count, coin_count, own_of, own_inputs, own_coins}
-use Rattle.run_dealings.specs.Rows.{powers, products_of, draws_of}
+use Rattle.plan.specs.File.{gate_at}
+use Rattle.run_dealings.specs.Rows.{powers, products_of, shared_by, draws_of, masked_of}
 
 -- party i's share of wire w, of n parties
 unfoldable pub share_in : ℕ → List ℕ → ℕ → ℕ → ℕ
@@ -34,18 +39,38 @@ opened_in plan h table w = opened h.field.p h.t plan.points (row_in h.n table w)
 
 -- the pieces at the point x of dealings of these values with t coins each; the first one's coins begin at `from`, each next one's `step` numbers later
 unfoldable pub pieces_of : ℕ → List ℕ → ℕ → List ℕ → ℕ → ℕ → ℕ → List ℕ
-pieces_of p vs t cs from step x = tab (λ d. eval p (get_or vs d 0 ∷ take t (drop (from + step * d) cs)) x) (length vs)
+pieces_of p vs t cs from step x = map (λ f. eval p f x) (shared_by t step vs (drop from cs))
+
+-- the pieces at x of the parties' dealings of 0 with 2t coins each, which stand before a party's other t
+unfoldable pub zeros_in : Header → List ℕ → ℕ → ℕ → List ℕ
+zeros_in h cs from x = pieces_of h.field.p (replicate h.n 0) (h.t + h.t) cs from (3 * h.t) x
+
+-- those of their dealings of these masked products
+unfoldable pub masked_in : Header → List ℕ → List ℕ → ℕ → ℕ → List ℕ
+masked_in h masked cs from x = pieces_of h.field.p masked h.t cs (from + (h.t + h.t)) (3 * h.t) x
+
+-- all parties' pieces of the truncated share at x
+unfoldable pub truncated_in : Header → List ℕ → List ℕ → List ℕ → ℕ → ℕ → List ℕ
+truncated_in h points masked cs from x = map (λ y. dot h.field.p (row h.field.p h.t points x) (masked_in h masked cs from y)) points
+
+-- the mail of a multiply gate's steps to the point x: pieces of products; or of zeros, of masked products, and of the truncated share
+unfoldable pub multiply_in : Rule → Header → List ℕ → List ℕ → List ℕ → ℕ → ℕ → ℕ → ℕ → List ℕ
+multiply_in Reduction h points table cs x a b from =
+    pieces_of h.field.p (products_of h.field.p h.n (h.t + h.t + 1) a b table) h.t cs from h.t x
+multiply_in Truncation h points table cs x a b from =
+    zeros_in h cs from x
+    ++ (masked_in h (masked_of h.field.p h.t points a b table (drop from cs)) cs from x
+    ++ truncated_in h points (masked_of h.field.p h.t points a b table (drop from cs)) cs from x)
 
 -- the mail of a gate's steps to the point x, when the gate's inputs begin at number i and its coins at `from`
-unfoldable pub pieces_in : Header → List ℕ → List ℕ → List ℕ → ℕ → Gate → ℕ → ℕ → List ℕ
-pieces_in h table xs cs x (Input s) i from = []
-pieces_in h table xs cs x (Add a b) i from = []
-pieces_in h table xs cs x (Scale a c) i from = []
-pieces_in h table xs cs x (Offset a c) i from = []
-pieces_in h table xs cs x (Multiply a b) i from =
-    pieces_of h.field.p (products_of h.field.p h.n (h.t + h.t + 1) a b table) h.t cs from h.t x
-pieces_in h table xs cs x Random i from = pieces_of h.field.p (draws_of h.n (drop i xs)) h.t cs from h.t x
-pieces_in h table xs cs x (Spend a b) i from = []
+unfoldable pub pieces_in : Header → List ℕ → List ℕ → List ℕ → List ℕ → ℕ → Gate → ℕ → ℕ → List ℕ
+pieces_in h points table xs cs x (Input s) i from = []
+pieces_in h points table xs cs x (Add a b) i from = []
+pieces_in h points table xs cs x (Scale a c) i from = []
+pieces_in h points table xs cs x (Offset a c) i from = []
+pieces_in h points table xs cs x (Multiply a b) i from = multiply_in h.rule h points table cs x a b from
+pieces_in h points table xs cs x Random i from = pieces_of h.field.p (draws_of h.n (drop i xs)) h.t cs from h.t x
+pieces_in h points table xs cs x (Spend a b) i from = []
 
 -- what each gate puts, by the places at which its inputs and its coins begin; those of the first gate begin at i and `from`
 unfoldable pub gathered : (Gate → ℕ → ℕ → List ℕ) → Plan → ℕ → ℕ → List Gate → List ℕ
@@ -67,9 +92,14 @@ pub record Running (h : Header) (table : List ℕ) : Type 0 where
   pub gates : h.gates ≤ 1024
   pub flat : Flat h.field.p h.n h.gates table
 
--- powers of the point x, t + 1 of them or more, and no more than there is room for
+-- how many powers of a point a rule's dealings take: t + 1, or as many as there is room for
+unfoldable pub power_count : Rule → ℕ → ℕ
+power_count Reduction t = t + 1
+power_count Truncation t = 16
+
+-- powers of the point x
 pub record PowerRow (h : Header) (x : ℕ) (ws : List ℕ) : Type 0 where
-  pub some : h.t < length ws
+  pub some : power_count h.rule h.t ≤ length ws
   pub few : length ws ≤ 16
   pub are : ws ≡ powers h.field.p x (length ws)
   pub below : all_below h.field.p ws ≡ true
@@ -82,18 +112,29 @@ pub record Ran (plan : Plan) (h : Header) (xs cs table : List ℕ) : Type 0 wher
   pub below : all_below h.field.p cs ≡ true
   pub running : Running h table
 
--- a gate of a plan with these contents that multiplies wires a and b: of `count` coins it has the 2t + 1 dealers' from number `from` on
-pub record Multiplies (h : Header) (a b from count : ℕ) : Type 0 where
+-- one of the gates of a plan file that has so many
+pub record Stands (bs : List ℕ) (gates : ℕ) (gate : Gate) : Type 0 where
+  pub place : ℕ
+  pub within : place < gates
+  pub is : gate ≡ gate_at bs place
+
+-- a gate of a plan with these contents that multiplies wires a and b
+pub record Multiplies (h : Header) (a b : ℕ) : Type 0 where
   pub majority : 2 * h.t < h.n
   pub left : a < h.gates
   pub right : b < h.gates
-  pub room : from + h.t * (h.t + h.t + 1) ≤ count
 
--- dealings of these values with t coins each, for a row of `row` powers: of `count` coins the first one's begin at `from`, each next one's `step` numbers later
-pub record Seen (p row : ℕ) (vs : List ℕ) (t from step count : ℕ) : Type 0 where
-  pub few : t < row
-  pub below : all_below p vs ≡ true
-  pub room : from + step * length vs + t ≤ count + step
+-- of `count` coins the gate has from number `from` on those of the 2t + 1 dealers, or each party's 3t
+unfoldable pub taken_by : Rule → Header → ℕ
+taken_by Reduction h = h.t * (h.t + h.t + 1)
+taken_by Truncation h = 3 * h.t * h.n
+
+-- dealings of these values with t coins each, for so many powers: the first one's coins begin at `from`, each next one's `step` numbers later
+pub record Seen (p powers : ℕ) (vs : List ℕ) (t from step : ℕ) (cs : List ℕ) : Type 0 where
+  pub few : t < powers
+  pub values : all_below p vs ≡ true
+  pub coins : all_below p cs ≡ true
+  pub room : from + step * length vs + t ≤ length cs + step
 
 -- of numbers with these owners, party i's own are `count` numbers from number `at` on
 pub record Owns (i : ℕ) (owners : List ℕ) (at count : ℕ) : Type 0 where
@@ -104,7 +145,7 @@ pub record Owns (i : ℕ) (owners : List ℕ) (at count : ℕ) : Type 0 where
 unfoldable pub mail_in : Plan → Header → List ℕ → List ℕ → List ℕ → ℕ → List ℕ
 mail_in plan h table xs cs i =
     first_in plan h.n table i
-    ++ (gathered (pieces_in h table xs cs (point_of plan i)) plan 0 0 plan.gates ++ outs_in plan h.n table i)
+    ++ (gathered (pieces_in h plan.points table xs cs (point_of plan i)) plan 0 0 plan.gates ++ outs_in plan h.n table i)
 
 -- party i's view
 unfoldable pub view_in : Plan → Header → List ℕ → List ℕ → List ℕ → ℕ → List ℕ

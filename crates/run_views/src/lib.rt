@@ -2,29 +2,32 @@
 // its results.
 #![tactic(auto)]
 
-ghost use Rattle.std.specs.Prelude.{ℕ, List, IfSome, IfNone, ◌≡◌, cond, ◌+◌, ◌-◌, ◌*◌, ◌/◌, ◌^◌, ◌<◌, ◌≤◌, length, take, drop};
+ghost use Rattle.std.specs.Prelude.{ℕ, List, IfSome, IfNone, ◌≡◌, cond, ◌+◌, ◌-◌, ◌*◌, ◌/◌, ◌^◌, ◌<◌, ◌≤◌, length, take, drop, get_or};
 ghost use mathlib.Core.List.{[], ◌∷◌, map, flat_map};
 ghost use Rattle.numbers.specs.Tables.{tab};
 ghost use Rattle.numbers.specs.Bytes.{width, numbers, bytes_of};
 ghost use Rattle.field.specs.Field.{Is, is_wide};
 ghost use Rattle.sharing_laws.specs.Poly.{eval};
+ghost use Rattle.sharing_laws.specs.Basis.{row};
 ghost use Rattle.plan.specs.Plans.{point_of, is_input_of, input_wires, out_wires, input_owners_at, coin_owners_at, own_of, own_inputs, own_coins};
 ghost use Rattle.plan.specs.declared.Gate.{Gate};
-ghost use Rattle.plan.specs.declared.Gate.TheVariants.{Multiply, Random};
+ghost use Rattle.plan.specs.declared.Gate.TheVariants.{Multiply};
+ghost use Rattle.plan.specs.declared.Rule.TheVariants.{Reduction, Truncation};
 ghost use Rattle.plan.specs.File.{plan_of, gate_place, gate_at};
 ghost use Rattle.plan_coalition.specs.Coalitions.{in_set, members};
 ghost use Rattle.run_protocol.specs.Rounds.{view_count};
 ghost use Rattle.run_protocol.specs.Shares.{share_table};
 ghost use Rattle.run_protocol.specs.Tables.{table_view_of};
-ghost use Rattle.run_dealings.specs.Rows.{rows_of, Fitted, Given};
-ghost use Rattle.run_views.specs.Flat.{share_in, first_in, outs_in, opened_in, pieces_of, pieces_in, mail_in, view_in, gathered, Multiplies, Seen, Owns, PowerRow, Ran};
+ghost use Rattle.run_dealings.specs.Rows.{rows_of, draws_of, shared_by, mixed_at, Fitted, Cutting, Ruling, Given};
+ghost use Rattle.run_views.specs.Flat.{share_in, first_in, outs_in, opened_in, pieces_of, multiply_in, pieces_in, mail_in, view_in, gathered, taken_by, Stands, Multiplies, Seen, Owns, PowerRow, Ran};
 ghost use Rattle.run_views.specs.Writing.{Put};
 
 use crate::writer::Writer;
 use field::Sums;
 use plan::{Gate, Gates, PlanFile, Rule};
-use run_dealings::Dealings;
+use run_dealings::{Dealings, Dealt, Way};
 use run_tables::RunPlan;
+use sharing_matrix::Matrix;
 
 mod writer;
 
@@ -53,6 +56,16 @@ impl Writer<'_> {
             self.put(numbers::number(list, from + j));
         }
     }
+
+    // Each number of a row.
+    #[tactic(auto, using(crate::proofs::ViewLaws::copying))]
+    fn put_row(&mut self, row: &[u64])
+        ensures { Put row.now self.old self.new }
+    {
+        for v in row {
+            self.put(*v);
+        }
+    }
 }
 
 // ---- the run
@@ -62,10 +75,12 @@ impl Writer<'_> {
 struct Run<'a> {
     plan: &'a PlanFile<'a>,
     dealings: &'a Dealings<'a>,
+    matrix: Option<Matrix<'a>>,
     inputs: &'a [u8],
     coins: &'a [u8],
     table: &'a [u64],
     ghost fitted: { Fitted plan.now.bytes.now plan.now.header dealings.now.sums.field.p dealings.now.t dealings.now.points.now dealings.now.weights.now },
+    ghost ruled: { Ruling plan.now.header.rule dealings.now.sums.field.p dealings.now.t dealings.now.points.now matrix },
     ghost ran: { Ran (plan_of plan.now.bytes.now) plan.now.header (numbers inputs.now) (numbers coins.now) table.now },
     ghost lent: { (length inputs.now < 2 ^ 63) × (length coins.now < 2 ^ 63) },
 }
@@ -140,17 +155,19 @@ impl Run<'_> {
 
     // What each gate puts, by the places at which its inputs and its coins begin.
     #[tactic(auto, using(crate::proofs::ViewLaws::gathering))]
-    fn put_gates<F: Fn(usize, usize, usize, &mut Writer)>(&self, put: F, out: &mut Writer)
-        requires { (g i from : ℕ) (w : _) → g < self.now.plan.now.header.gates → i + length (input_owners_at (plan_of self.now.plan.now.bytes.now) (gate_at self.now.plan.now.bytes.now g)) ≤ length self.now.inputs.now / width → from + length (coin_owners_at (plan_of self.now.plan.now.bytes.now) (gate_at self.now.plan.now.bytes.now g)) ≤ length self.now.coins.now / width → F.pre put g i from w }
-        ensures { (f : Gate → ℕ → ℕ → List ℕ) → ((g i from : ℕ) (w w' : _) → g < self.now.plan.now.header.gates → F.post put g i from w tt w' → Put (f (gate_at self.now.plan.now.bytes.now g) i from) w.now w'.now)
+    fn put_gates<F: Fn(Gate, usize, usize, &mut Writer)>(&self, put: F, out: &mut Writer)
+        requires { (gate : Gate) (i from : ℕ) (w : _) → Stands self.now.plan.now.bytes.now self.now.plan.now.header.gates gate → i + length (input_owners_at (plan_of self.now.plan.now.bytes.now) gate) ≤ length self.now.inputs.now / width → from + length (coin_owners_at (plan_of self.now.plan.now.bytes.now) gate) ≤ length self.now.coins.now / width → F.pre put gate i from w }
+        ensures { (f : Gate → ℕ → ℕ → List ℕ) → ((gate : Gate) (i from : ℕ) (w w' : _) → F.post put gate i from w tt w' → Put (f gate i from) w.now w'.now)
             → Put (gathered f (plan_of self.now.plan.now.bytes.now) 0 0 (plan_of self.now.plan.now.bytes.now).gates) out.old out.new }
     {
+        let gates = self.plan.gates();
         let mut i = 0;
         let mut from = 0;
         for g in 0..self.plan.header.gates {
-            put(g, i, from, out);
-            i += run_ideal::inputs_taken(self.plan, g);
-            from += run_dealings::coins_taken(self.plan, g);
+            let gate = gates.gate(g);
+            put(gate, i, from, out);
+            i += run_ideal::inputs_taken(self.plan, gate);
+            from += run_dealings::coins_taken(self.plan, gate);
         }
     }
 
@@ -170,67 +187,63 @@ impl Run<'_> {
 
 // ---- the pieces
 
-// Dealings of values with t coins each: the first one's coins begin at number `from`, each next one's `step` numbers later.
-#[derive(Clone, Copy)]
-struct Dealt<'a> {
-    values: &'a [u64],
-    t: usize,
-    from: usize,
-    step: usize,
-}
-
 // The mail of a run's gates to party i, with the powers of its point.
 #[derive(Clone, Copy)]
 struct Pieces<'a> {
     run: &'a Run<'a>,
     i: usize,
     powers: &'a [u64],
+    ghost among: { (1 ≤ i) × (i ≤ run.now.plan.now.header.n) },
     ghost row: { PowerRow run.now.plan.now.header (point_of (plan_of run.now.plan.now.bytes.now) i) powers.now },
 }
 
 impl Pieces<'_> {
-    // The piece of a dealing of s with t coins, which begin at number `from`.
+    // The piece of dealing d of these.
     // As it is: the sums are built here with the prime's range as a constant, as `column` of run_dealings builds them; no private function is seen by
     // both crates, and a public one of field would be there for these two.
     #[tactic(auto, using(crate::proofs::ViewLaws::dealing))]
-    fn piece<const WIDE: bool>(&self, s: u64, t: usize, from: usize) -> u64
+    fn piece<const WIDE: bool>(&self, dealt: &Dealt, d: usize) -> u64
         requires wide_value { WIDE ≡ is_wide self.now.run.now.plan.now.header.field.p }
-        requires s_lt_p { s < self.now.run.now.plan.now.header.field.p }
-        requires t_lt_powers { t < length self.now.powers.now }
-        requires t_in_bounds { from + t ≤ length self.now.run.now.coins.now / width }
-        ensures { Is self.now.run.now.plan.now.header.field.p (eval self.now.run.now.plan.now.header.field.p (s ∷ take t (drop from (numbers self.now.run.now.coins.now))) (point_of (plan_of self.now.run.now.plan.now.bytes.now) self.now.i)) result }
+        requires seen { Seen self.now.run.now.plan.now.header.field.p (length self.now.powers.now) dealt.now.values.now dealt.now.t dealt.now.at dealt.now.step (numbers dealt.now.coins.now) }
+        requires d_in_bounds { d < length dealt.now.values.now }
+        ensures { Is self.now.run.now.plan.now.header.field.p (eval self.now.run.now.plan.now.header.field.p (get_or dealt.now.values.now d 0 ∷ take dealt.now.t (drop (dealt.now.at + dealt.now.step * d) (numbers dealt.now.coins.now))) (point_of (plan_of self.now.run.now.plan.now.bytes.now) self.now.i)) result }
     {
         let sums = Sums {
             field: self.run.plan.header.field,
             wide: WIDE,
             reciprocal: self.run.dealings.sums.reciprocal,
         };
+        let t = dealt.t;
+        let from = dealt.at + dealt.step * d;
         let powers = &self.powers[..t + 1];
-        let mut sum = sums.add_product(0, powers[0], s);
+        let mut sum = sums.add_product(0, powers[0], dealt.values[d]);
         for j in 0..t {
-            let coin = numbers::number(self.run.coins, from + j);
+            let coin = numbers::number(dealt.coins, from + j);
             sum = sums.add_product(sum, powers[j + 1], coin);
         }
         sums.reduced(sum)
     }
 
-    // The pieces of dealings.
+    // The pieces of these dealings.
     #[tactic(auto, using(crate::proofs::ViewLaws::pieces))]
     fn put_by<const WIDE: bool>(&self, dealt: &Dealt, out: &mut Writer)
         requires wide_value { WIDE ≡ is_wide self.now.run.now.plan.now.header.field.p }
-        requires seen { Seen self.now.run.now.plan.now.header.field.p (length self.now.powers.now) dealt.now.values.now dealt.now.t dealt.now.from dealt.now.step (length self.now.run.now.coins.now / width) }
-        ensures { Put (pieces_of self.now.run.now.plan.now.header.field.p dealt.now.values.now dealt.now.t (numbers self.now.run.now.coins.now) dealt.now.from dealt.now.step (point_of (plan_of self.now.run.now.plan.now.bytes.now) self.now.i)) out.old out.new }
+        requires seen { Seen self.now.run.now.plan.now.header.field.p (length self.now.powers.now) dealt.now.values.now dealt.now.t dealt.now.at dealt.now.step (numbers dealt.now.coins.now) }
+        ensures { Put (pieces_of self.now.run.now.plan.now.header.field.p dealt.now.values.now dealt.now.t (numbers dealt.now.coins.now) dealt.now.at dealt.now.step (point_of (plan_of self.now.run.now.plan.now.bytes.now) self.now.i)) out.old out.new }
     {
-        for (d, value) in dealt.values.iter().enumerate() {
-            out.put(self.piece::<WIDE>(*value, dealt.t, dealt.from + dealt.step * d));
+        // (copies, which what is written cannot change: nothing is read anew for each piece)
+        let pieces = *self;
+        let dealt = *dealt;
+        for d in 0..dealt.values.len() {
+            out.put(pieces.piece::<WIDE>(&dealt, d));
         }
     }
 
     // The same; the prime's range is a constant in each call.
     #[tactic(auto, using(crate::proofs::ViewLaws::pieces))]
     fn put(&self, dealt: &Dealt, out: &mut Writer)
-        requires { Seen self.now.run.now.plan.now.header.field.p (length self.now.powers.now) dealt.now.values.now dealt.now.t dealt.now.from dealt.now.step (length self.now.run.now.coins.now / width) }
-        ensures { Put (pieces_of self.now.run.now.plan.now.header.field.p dealt.now.values.now dealt.now.t (numbers self.now.run.now.coins.now) dealt.now.from dealt.now.step (point_of (plan_of self.now.run.now.plan.now.bytes.now) self.now.i)) out.old out.new }
+        requires { Seen self.now.run.now.plan.now.header.field.p (length self.now.powers.now) dealt.now.values.now dealt.now.t dealt.now.at dealt.now.step (numbers dealt.now.coins.now) }
+        ensures { Put (pieces_of self.now.run.now.plan.now.header.field.p dealt.now.values.now dealt.now.t (numbers dealt.now.coins.now) dealt.now.at dealt.now.step (point_of (plan_of self.now.run.now.plan.now.bytes.now) self.now.i)) out.old out.new }
     {
         if self.run.dealings.sums.wide {
             self.put_by::<true>(dealt, out)
@@ -240,50 +253,120 @@ impl Pieces<'_> {
     }
 
     // The pieces of the dealers' products of their shares of two wires, when the first dealer's coins begin at number `from`.
-    #[tactic(auto, using(crate::proofs::ViewLaws::gate_pieces))]
+    #[tactic(auto, using(crate::proofs::ViewLaws::product_pieces))]
     fn put_products(&self, a: usize, b: usize, from: usize, out: &mut Writer)
-        requires { Multiplies self.now.run.now.plan.now.header a b from (length self.now.run.now.coins.now / width) }
-        ensures { Put (pieces_in self.now.run.now.plan.now.header self.now.run.now.table.now (numbers self.now.run.now.inputs.now) (numbers self.now.run.now.coins.now) (point_of (plan_of self.now.run.now.plan.now.bytes.now) self.now.i) (Multiply a b) 0 from) out.old out.new }
+        requires multiplies { Multiplies self.now.run.now.plan.now.header a b }
+        requires from_in_bounds { from + taken_by Reduction self.now.run.now.plan.now.header ≤ length (numbers self.now.run.now.coins.now) }
+        ensures { Put (multiply_in Reduction self.now.run.now.plan.now.header (plan_of self.now.run.now.plan.now.bytes.now).points self.now.run.now.table.now (numbers self.now.run.now.coins.now) (point_of (plan_of self.now.run.now.plan.now.bytes.now) self.now.i) a b from) out.old out.new }
     {
         let h = self.run.plan.header;
-        let t = h.t;
-        let m = t + t + 1;
-        let products = run_dealings::products(h.field, h.n, m, a, b, self.run.table);
+        let m = h.t + h.t + 1;
+        let products = run_dealings::products(self.run.dealings.sums, h.n, m, a, b, self.run.table);
         let dealt = Dealt {
             values: &products[..m],
-            t,
-            from,
-            step: t,
-        };
-        self.put(&dealt, out);
-    }
-
-    // The pieces of all draws, when the first one is number `next` of the inputs and its coins begin at number `from`.
-    #[tactic(auto, using(crate::proofs::ViewLaws::gate_pieces))]
-    fn put_draws(&self, next: usize, from: usize, out: &mut Writer)
-        requires { from + self.now.run.now.plan.now.header.t * self.now.run.now.plan.now.header.n ≤ length self.now.run.now.coins.now / width }
-        ensures { Put (pieces_in self.now.run.now.plan.now.header self.now.run.now.table.now (numbers self.now.run.now.inputs.now) (numbers self.now.run.now.coins.now) (point_of (plan_of self.now.run.now.plan.now.bytes.now) self.now.i) Random next from) out.old out.new }
-    {
-        let h = self.run.plan.header;
-        let draws = run_dealings::draws(h.n, numbers::rest(self.run.inputs, next));
-        let dealt = Dealt {
-            values: &draws[..h.n],
+            coins: self.run.coins,
             t: h.t,
-            from,
+            at: from,
             step: h.t,
         };
         self.put(&dealt, out);
     }
 
-    // The mail of gate g's steps, when the gate's inputs begin at number `next` and its coins at number `from`.
-    #[tactic(auto, using(crate::proofs::ViewLaws::gate_pieces))]
-    fn put_steps(&self, g: usize, next: usize, from: usize, out: &mut Writer)
-        requires g_lt_gates { g < self.now.run.now.plan.now.header.gates }
-        requires g_in_bounds { from + length (coin_owners_at (plan_of self.now.run.now.plan.now.bytes.now) (gate_at self.now.run.now.plan.now.bytes.now g)) ≤ length self.now.run.now.coins.now / width }
-        ensures { Put (pieces_in self.now.run.now.plan.now.header self.now.run.now.table.now (numbers self.now.run.now.inputs.now) (numbers self.now.run.now.coins.now) (point_of (plan_of self.now.run.now.plan.now.bytes.now) self.now.i) (gate_at self.now.run.now.plan.now.bytes.now g) next from) out.old out.new }
+    // All parties' pieces of the party's truncated share: the matrix' row weighs, for each party, its pieces of the masked products.
+    #[tactic(auto, using(crate::proofs::ViewLaws::truncating))]
+    fn put_truncated(&self, matrix: &Matrix, masked: &Dealt, out: &mut Writer)
+        requires cutting { Cutting self.now.run.now.dealings.now.sums.field.p self.now.run.now.dealings.now.t self.now.run.now.dealings.now.points.now matrix.now }
+        requires t_bound { self.now.run.now.plan.now.header.t < 8 }
+        requires t_value { masked.now.t ≡ self.now.run.now.plan.now.header.t }
+        requires masked_len { length masked.now.values.now ≡ self.now.run.now.plan.now.header.n }
+        requires seen { Seen self.now.run.now.plan.now.header.field.p (length self.now.powers.now) masked.now.values.now masked.now.t masked.now.at masked.now.step (numbers masked.now.coins.now) }
+        ensures { Put (map (mixed_at self.now.run.now.plan.now.header.field.p (row self.now.run.now.plan.now.header.field.p self.now.run.now.plan.now.header.t (plan_of self.now.run.now.plan.now.bytes.now).points (point_of (plan_of self.now.run.now.plan.now.bytes.now) self.now.i)) (shared_by masked.now.t masked.now.step masked.now.values.now (drop masked.now.at (numbers masked.now.coins.now)))) (plan_of self.now.run.now.plan.now.bytes.now).points) out.old out.new }
     {
-        match self.run.plan.gate(g) {
-            Gate::Multiply(a, b) => self.put_products(a, b, from, out),
+        let dealings = self.run.dealings;
+        let weighed = Dealings {
+            sums: dealings.sums,
+            way: Way::Sum,
+            t: dealings.t,
+            points: dealings.points,
+            rows: dealings.rows,
+            weights: matrix.row(self.i - 1),
+        };
+        let pieces = weighed.weighed_row(masked);
+        out.put_row(&pieces[..self.run.plan.header.n]);
+    }
+
+    // The pieces of zeros and of masked products, and those of the truncated share, when the first party's coins begin at number `from`.
+    #[tactic(auto, using(crate::proofs::ViewLaws::truncation_pieces))]
+    fn put_truncation(&self, matrix: &Matrix, a: usize, b: usize, from: usize, out: &mut Writer)
+        requires multiplies { Multiplies self.now.run.now.plan.now.header a b }
+        requires rule_value { self.now.run.now.plan.now.header.rule ≡ Truncation }
+        requires cutting { Cutting self.now.run.now.dealings.now.sums.field.p self.now.run.now.dealings.now.t self.now.run.now.dealings.now.points.now matrix.now }
+        requires from_in_bounds { from + taken_by Truncation self.now.run.now.plan.now.header ≤ length (numbers self.now.run.now.coins.now) }
+        ensures { Put (multiply_in Truncation self.now.run.now.plan.now.header (plan_of self.now.run.now.plan.now.bytes.now).points self.now.run.now.table.now (numbers self.now.run.now.coins.now) (point_of (plan_of self.now.run.now.plan.now.bytes.now) self.now.i) a b from) out.old out.new }
+    {
+        let h = self.run.plan.header;
+        let coins = self.run.coins;
+        let none = [0u64; 15];
+        let zeros = Dealt {
+            values: &none[..h.n],
+            coins,
+            t: h.t + h.t,
+            at: from,
+            step: 3 * h.t,
+        };
+        let products = self.run.dealings.masked(a, b, coins, from, self.run.table);
+        let masked = Dealt {
+            values: &products[..h.n],
+            coins,
+            t: h.t,
+            at: from + (h.t + h.t),
+            step: 3 * h.t,
+        };
+        self.put(&zeros, out);
+        self.put(&masked, out);
+        self.put_truncated(matrix, &masked, out);
+    }
+
+    // The mail of a multiply gate's steps, when the gate's coins begin at number `from`.
+    #[tactic(auto, using(crate::proofs::ViewLaws::gate_pieces))]
+    fn put_multiply(&self, a: usize, b: usize, from: usize, out: &mut Writer)
+        requires multiplies { Multiplies self.now.run.now.plan.now.header a b }
+        requires from_in_bounds { from + taken_by self.now.run.now.plan.now.header.rule self.now.run.now.plan.now.header ≤ length (numbers self.now.run.now.coins.now) }
+        ensures { Put (multiply_in self.now.run.now.plan.now.header.rule self.now.run.now.plan.now.header (plan_of self.now.run.now.plan.now.bytes.now).points self.now.run.now.table.now (numbers self.now.run.now.coins.now) (point_of (plan_of self.now.run.now.plan.now.bytes.now) self.now.i) a b from) out.old out.new }
+    {
+        match self.run.matrix {
+            None => self.put_products(a, b, from, out),
+            Some(matrix) => self.put_truncation(&matrix, a, b, from, out),
+        }
+    }
+
+    // The pieces of all draws, when the first one is number `next` of the inputs and its coins begin at number `from`.
+    #[tactic(auto, using(crate::proofs::ViewLaws::draw_pieces))]
+    fn put_draws(&self, next: usize, from: usize, out: &mut Writer)
+        requires { from + self.now.run.now.plan.now.header.t * self.now.run.now.plan.now.header.n ≤ length (numbers self.now.run.now.coins.now) }
+        ensures { Put (pieces_of self.now.run.now.plan.now.header.field.p (draws_of self.now.run.now.plan.now.header.n (drop next (numbers self.now.run.now.inputs.now))) self.now.run.now.plan.now.header.t (numbers self.now.run.now.coins.now) from self.now.run.now.plan.now.header.t (point_of (plan_of self.now.run.now.plan.now.bytes.now) self.now.i)) out.old out.new }
+    {
+        let h = self.run.plan.header;
+        let draws = run_dealings::draws(h.n, numbers::rest(self.run.inputs, next));
+        let dealt = Dealt {
+            values: &draws[..h.n],
+            coins: self.run.coins,
+            t: h.t,
+            at: from,
+            step: h.t,
+        };
+        self.put(&dealt, out);
+    }
+
+    // The mail of a gate's steps, when its inputs begin at number `next` and its coins at number `from`.
+    #[tactic(auto, using(crate::proofs::ViewLaws::gate_pieces))]
+    fn put_steps(&self, gate: Gate, next: usize, from: usize, out: &mut Writer)
+        requires stands { Stands self.now.run.now.plan.now.bytes.now self.now.run.now.plan.now.header.gates gate }
+        requires gate_in_bounds { from + length (coin_owners_at (plan_of self.now.run.now.plan.now.bytes.now) gate) ≤ length self.now.run.now.coins.now / width }
+        ensures { Put (pieces_in self.now.run.now.plan.now.header (plan_of self.now.run.now.plan.now.bytes.now).points self.now.run.now.table.now (numbers self.now.run.now.inputs.now) (numbers self.now.run.now.coins.now) (point_of (plan_of self.now.run.now.plan.now.bytes.now) self.now.i) gate next from) out.old out.new }
+    {
+        match gate {
+            Gate::Multiply(a, b) => self.put_multiply(a, b, from, out),
             Gate::Random => self.put_draws(next, from, out),
             _ => (),
         }
@@ -371,25 +454,23 @@ impl Member<'_> {
         }
     }
 
-    // The party's own of the inputs that gate g takes, which begin at number `next`.
+    // The party's own of the inputs that a gate takes, which begin at number `next`.
     #[tactic(auto, using(crate::proofs::ViewLaws::own_parts))]
-    fn put_inputs(&self, g: usize, next: usize, out: &mut Writer)
-        requires g_lt_gates { g < self.now.run.now.plan.now.header.gates }
-        requires g_in_bounds { next + length (input_owners_at (plan_of self.now.run.now.plan.now.bytes.now) (gate_at self.now.run.now.plan.now.bytes.now g)) ≤ length self.now.run.now.inputs.now / width }
-        ensures { Put (own_of self.now.i (input_owners_at (plan_of self.now.run.now.plan.now.bytes.now) (gate_at self.now.run.now.plan.now.bytes.now g)) (drop next (numbers self.now.run.now.inputs.now))) out.old out.new }
+    fn put_inputs(&self, gate: Gate, next: usize, out: &mut Writer)
+        requires { next + length (input_owners_at (plan_of self.now.run.now.plan.now.bytes.now) gate) ≤ length self.now.run.now.inputs.now / width }
+        ensures { Put (own_of self.now.i (input_owners_at (plan_of self.now.run.now.plan.now.bytes.now) gate) (drop next (numbers self.now.run.now.inputs.now))) out.old out.new }
     {
-        let own = self.own_inputs(self.run.plan.gate(g));
+        let own = self.own_inputs(gate);
         out.put_part(self.run.inputs, next + own.at, own.count);
     }
 
-    // The party's own of the coins that gate g takes, which begin at number `from`.
+    // The party's own of the coins that a gate takes, which begin at number `from`.
     #[tactic(auto, using(crate::proofs::ViewLaws::own_parts))]
-    fn put_coins(&self, g: usize, from: usize, out: &mut Writer)
-        requires g_lt_gates { g < self.now.run.now.plan.now.header.gates }
-        requires g_in_bounds { from + length (coin_owners_at (plan_of self.now.run.now.plan.now.bytes.now) (gate_at self.now.run.now.plan.now.bytes.now g)) ≤ length self.now.run.now.coins.now / width }
-        ensures { Put (own_of self.now.i (coin_owners_at (plan_of self.now.run.now.plan.now.bytes.now) (gate_at self.now.run.now.plan.now.bytes.now g)) (drop from (numbers self.now.run.now.coins.now))) out.old out.new }
+    fn put_coins(&self, gate: Gate, from: usize, out: &mut Writer)
+        requires { from + length (coin_owners_at (plan_of self.now.run.now.plan.now.bytes.now) gate) ≤ length self.now.run.now.coins.now / width }
+        ensures { Put (own_of self.now.i (coin_owners_at (plan_of self.now.run.now.plan.now.bytes.now) gate) (drop from (numbers self.now.run.now.coins.now))) out.old out.new }
     {
-        let own = self.own_coins(self.run.plan.gate(g));
+        let own = self.own_coins(gate);
         out.put_part(self.run.coins, from + own.at, own.count);
     }
 
@@ -398,8 +479,10 @@ impl Member<'_> {
     fn write_inputs(&self, out: &mut Writer)
         ensures { Put (own_inputs (plan_of self.now.run.now.plan.now.bytes.now) self.now.i (numbers self.now.run.now.inputs.now)) out.old out.new }
     {
-        self.run
-            .put_gates(|g, next, _from, out| self.put_inputs(g, next, out), out);
+        self.run.put_gates(
+            |gate, next, _from, out| self.put_inputs(gate, next, out),
+            out,
+        );
     }
 
     // The party's own coins.
@@ -407,8 +490,10 @@ impl Member<'_> {
     fn write_coins(&self, out: &mut Writer)
         ensures { Put (own_coins (plan_of self.now.run.now.plan.now.bytes.now) self.now.i (numbers self.now.run.now.coins.now)) out.old out.new }
     {
-        self.run
-            .put_gates(|g, _next, from, out| self.put_coins(g, from, out), out);
+        self.run.put_gates(
+            |gate, _next, from, out| self.put_coins(gate, from, out),
+            out,
+        );
     }
 
     // The mail of round 0: the party's shares of all inputs, by the party that gave them.
@@ -439,20 +524,38 @@ impl Member<'_> {
         self.run.put_outs(self.i, |w| self.run.opening(w), out);
     }
 
-    // The mail of all gates' steps.
+    // The mail of all gates' steps, by the powers of the party's point.
     #[tactic(auto, using(crate::proofs::ViewLaws::stepping))]
-    fn write_steps(&self, out: &mut Writer)
-        ensures { Put (gathered (pieces_in self.now.run.now.plan.now.header self.now.run.now.table.now (numbers self.now.run.now.inputs.now) (numbers self.now.run.now.coins.now) (point_of (plan_of self.now.run.now.plan.now.bytes.now) self.now.i)) (plan_of self.now.run.now.plan.now.bytes.now) 0 0 (plan_of self.now.run.now.plan.now.bytes.now).gates) out.old out.new }
+    fn put_pieces(&self, powers: &[u64], out: &mut Writer)
+        requires { PowerRow self.now.run.now.plan.now.header (point_of (plan_of self.now.run.now.plan.now.bytes.now) self.now.i) powers.now }
+        ensures { Put (gathered (pieces_in self.now.run.now.plan.now.header (plan_of self.now.run.now.plan.now.bytes.now).points self.now.run.now.table.now (numbers self.now.run.now.inputs.now) (numbers self.now.run.now.coins.now) (point_of (plan_of self.now.run.now.plan.now.bytes.now) self.now.i)) (plan_of self.now.run.now.plan.now.bytes.now) 0 0 (plan_of self.now.run.now.plan.now.bytes.now).gates) out.old out.new }
     {
         let pieces = Pieces {
             run: self.run,
             i: self.i,
-            powers: self.run.dealings.power_row(self.i - 1),
+            powers,
         };
         self.run.put_gates(
-            |g, next, from, out| pieces.put_steps(g, next, from, out),
+            |gate, next, from, out| pieces.put_steps(gate, next, from, out),
             out,
         );
+    }
+
+    // The mail of all gates' steps. Truncation has dealings with 2t coins, and takes more powers of the point than the run has.
+    #[tactic(auto, using(crate::proofs::ViewLaws::stepping))]
+    fn write_steps(&self, out: &mut Writer)
+        ensures { Put (gathered (pieces_in self.now.run.now.plan.now.header (plan_of self.now.run.now.plan.now.bytes.now).points self.now.run.now.table.now (numbers self.now.run.now.inputs.now) (numbers self.now.run.now.coins.now) (point_of (plan_of self.now.run.now.plan.now.bytes.now) self.now.i)) (plan_of self.now.run.now.plan.now.bytes.now) 0 0 (plan_of self.now.run.now.plan.now.bytes.now).gates) out.old out.new }
+    {
+        let dealings = self.run.dealings;
+        let j = self.i - 1;
+        match self.run.plan.header.rule {
+            Rule::Reduction => self.put_pieces(dealings.power_row(j), out),
+            Rule::Truncation => {
+                let mut row = [0u64; 16];
+                run_dealings::powers(self.run.plan.header.field, dealings.points[j], &mut row);
+                self.put_pieces(&row, out);
+            }
+        }
     }
 
     // All mail to the party.
@@ -498,6 +601,7 @@ pub fn write_views(
     let seen = Run {
         plan: run.plan,
         dealings: &run.dealings,
+        matrix: run.matrix,
         inputs,
         coins,
         table,

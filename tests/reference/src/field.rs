@@ -99,6 +99,34 @@ impl Field {
         points.iter().map(weight).collect()
     }
 
+    /// The basis polynomials of distinct points: row i has those coefficients, from that of X^0, of the polynomial
+    /// that is 1 at point i and 0 at the others.
+    pub fn basis(self, points: &[u32]) -> Vec<Vec<u32>> {
+        let row = |&i: &u32| {
+            let (mut row, mut below) = (vec![1], 1);
+            for &j in points.iter().filter(|&&j| j != i) {
+                // times X − j
+                row.push(0);
+                for k in (0..row.len()).rev() {
+                    let shifted = if k == 0 { 0 } else { row[k - 1] };
+                    row[k] = self.sub(shifted, self.mul(row[k], j));
+                }
+                below = self.mul(below, self.sub(i, j));
+            }
+            let inverse = self.inverse(below);
+            row.into_iter().map(|c| self.mul(c, inverse)).collect()
+        };
+        points.iter().map(row).collect()
+    }
+
+    /// The matrix that takes the values at these points of a polynomial of less degree than there are points to those of
+    /// the same polynomial without its coefficients above `X^t`.
+    pub fn cut_off(self, points: &[u32], t: usize) -> Vec<Vec<u32>> {
+        let basis = self.basis(points);
+        let low = |x: u32, of: &[u32]| of[..=t].iter().rev().fold(0, |sum, &c| self.add(self.mul(sum, x), c));
+        points.iter().map(|&x| basis.iter().map(|of| low(x, of)).collect()).collect()
+    }
+
     /// `X^1 .. X^t` at `x`, by which a dealing's coins are weighted.
     pub fn powers(self, x: u32, t: usize) -> Vec<u32> {
         std::iter::successors(Some(x % self.p), |&w| Some(self.mul(w, x))).take(t).collect()

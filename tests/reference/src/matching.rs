@@ -30,25 +30,33 @@ pub fn matching(
     Ok(())
 }
 
-/// Steps both runs side by side; each dealing by a non-member is moved by its change times δ.
-fn matched_coins(plan: &Plan, members: &[u16], figures: [&[u32]; 2], mut coins: Vec<u32>) -> Vec<u32> {
-    let field = plan.field;
+/// Both runs, stepped side by side: the first with the coins taken, the matched one with those given.
+struct Runs<'a> {
+    plan: &'a Plan,
+    members: &'a [u16],
+    tables: Tables,
+    /// The members' polynomial that is 1 at 0: its coefficients from that of X^0.
+    delta: Vec<u32>,
+    /// Version 4: the basis polynomials of the seats' points.
+    basis: Vec<Vec<u32>>,
+    coins: Vec<u32>,
+    place: usize,
+    shares: [Vec<Seats>; 2],
+}
+
+/// Moves each dealing by a non-member by its change times δ, and in version 4 the lowest one's zeros besides.
+fn matched_coins(plan: &Plan, members: &[u16], figures: [&[u32]; 2], coins: Vec<u32>) -> Vec<u32> {
     let points: Vec<u32> = members.iter().map(|&seat| plan.point(seat)).collect();
-    let delta = field.delta(&points, plan.t);
-    let tables = Tables::new(plan);
-    let mut shares: [Vec<Seats>; 2] = Default::default();
-    let mut place = 0;
-    let mut deal_both = |dealer: u16, values: [u32; 2]| -> [Seats; 2] {
-        let own = &mut coins[place..place + plan.t];
-        place += plan.t;
-        let before = tables.deal(plan, values[0], own);
-        if !members.contains(&dealer) {
-            let change = field.sub(values[1], values[0]);
-            for (coin, &coefficient) in own.iter_mut().zip(&delta[1..]) {
-                *coin = field.add(*coin, field.mul(change, coefficient));
-            }
-        }
-        [before, tables.deal(plan, values[1], own)]
+    let cuts_off = plan.cuts_off() && plan.multiplies > 0;
+    let mut runs = Runs {
+        plan,
+        members,
+        tables: Tables::new(plan),
+        delta: plan.field.delta(&points, plan.t),
+        basis: if cuts_off { plan.field.basis(&plan.points) } else { Vec::new() },
+        coins,
+        place: 0,
+        shares: Default::default(),
     };
     let mut next = 0;
     let mut figure = || {
@@ -57,27 +65,96 @@ fn matched_coins(plan: &Plan, members: &[u16], figures: [&[u32]; 2], mut coins: 
     };
     for &gate in &plan.gates {
         let made = match gate {
-            Gate::Input(seat) => deal_both(seat, figure()),
+            Gate::Input(seat) => runs.deal_both(seat, figure()),
             Gate::Random => {
                 let mut grids = [[[0; 15]; 15]; 2];
                 for seat in 0..usize::from(plan.n) {
-                    [grids[0][seat], grids[1][seat]] = deal_both(seat as u16 + 1, figure());
+                    [grids[0][seat], grids[1][seat]] = runs.deal_both(seat as u16 + 1, figure());
                 }
                 grids.map(|grid| total(plan, &grid[..usize::from(plan.n)]))
             }
-            Gate::Multiply(a, b) => {
-                let mut grids = [[[0; 15]; 15]; 2];
-                for dealer in 0..usize::from(plan.dealers()) {
-                    let products = [0, 1].map(|run: usize| field.mul(shares[run][a][dealer], shares[run][b][dealer]));
-                    [grids[0][dealer], grids[1][dealer]] = deal_both(dealer as u16 + 1, products);
-                }
-                grids.map(|grid| tables.reduce(plan, &grid[..usize::from(plan.dealers())]))
-            }
-            _ => [0, 1].map(|run: usize| work(plan, gate, &shares[run])),
+            Gate::Multiply(a, b) if plan.cuts_off() => runs.cut_off(a, b),
+            Gate::Multiply(a, b) => runs.reduce(a, b),
+            _ => [0, 1].map(|run: usize| work(plan, gate, &runs.shares[run])),
         };
-        for (run, wire) in shares.iter_mut().zip(made) {
+        for (run, wire) in runs.shares.iter_mut().zip(made) {
             run.push(wire);
         }
     }
-    coins
+    runs.coins
+}
+
+impl Runs<'_> {
+    /// The next dealing, of these values in the two runs.
+    fn deal_both(&mut self, dealer: u16, values: [u32; 2]) -> [Seats; 2] {
+        let field = self.plan.field;
+        let own = &mut self.coins[self.place..self.place + self.plan.t];
+        self.place += self.plan.t;
+        let before = self.tables.deal(self.plan, values[0], own);
+        if !self.members.contains(&dealer) {
+            let change = field.sub(values[1], values[0]);
+            for (coin, &coefficient) in own.iter_mut().zip(&self.delta[1..]) {
+                *coin = field.add(*coin, field.mul(change, coefficient));
+            }
+        }
+        [before, self.tables.deal(self.plan, values[1], own)]
+    }
+
+    /// Each seat's own product in the two runs.
+    fn products(&self, a: usize, b: usize) -> [Seats; 2] {
+        let product = |wires: &Vec<Seats>| std::array::from_fn(|i| self.plan.field.mul(wires[a][i], wires[b][i]));
+        [product(&self.shares[0]), product(&self.shares[1])]
+    }
+
+    fn reduce(&mut self, a: usize, b: usize) -> [Seats; 2] {
+        let (products, dealers) = (self.products(a, b), usize::from(self.plan.dealers()));
+        let mut grids = [[[0; 15]; 15]; 2];
+        for dealer in 0..dealers {
+            [grids[0][dealer], grids[1][dealer]] =
+                self.deal_both(dealer as u16 + 1, [products[0][dealer], products[1][dealer]]);
+        }
+        grids.map(|grid| self.tables.reduce(self.plan, &grid[..dealers]))
+    }
+
+    /// The coefficients, from that of X^0, of the polynomial through the products' changes at all points.
+    fn change(&self, products: &[Seats; 2]) -> Vec<u32> {
+        let field = self.plan.field;
+        let mut change = vec![0; self.basis.len()];
+        for (seat, basis) in self.basis.iter().enumerate() {
+            let d = field.sub(products[1][seat], products[0][seat]);
+            change.iter_mut().zip(basis).for_each(|(sum, &c)| *sum = field.add(*sum, field.mul(d, c)));
+        }
+        change
+    }
+
+    /// Version 4. The lowest non-member's zeros take up the products' change but for its value times δ, which the masked
+    /// products' dealings then move by.
+    fn cut_off(&mut self, a: usize, b: usize) -> [Seats; 2] {
+        let (plan, field, seats) = (self.plan, self.plan.field, usize::from(self.plan.n));
+        let (start, two) = (self.place, 2 * plan.t);
+        let products = self.products(a, b);
+        let change = self.change(&products);
+        let lowest = (1..=plan.n).find(|seat| !self.members.contains(seat)).expect("a set has at most t seats");
+        let mut masked = products;
+        for seat in 0..seats {
+            let own = &mut self.coins[start + seat * 3 * plan.t..][..two];
+            let before = self.tables.deal(plan, 0, own);
+            if seat + 1 == usize::from(lowest) {
+                for (j, coin) in (1..).zip(own.iter_mut()) {
+                    let kept = field.mul(change[0], self.delta.get(j).copied().unwrap_or(0));
+                    *coin = field.add(*coin, field.sub(kept, change[j]));
+                }
+            }
+            let after = self.tables.deal(plan, 0, own);
+            for (run, zeros) in masked.iter_mut().zip([before, after]) {
+                run.iter_mut().zip(zeros).for_each(|(x, zero)| *x = field.add(*x, zero));
+            }
+        }
+        let mut grids = [[[0; 15]; 15]; 2];
+        for seat in 0..seats {
+            self.place = start + seat * 3 * plan.t + two;
+            [grids[0][seat], grids[1][seat]] = self.deal_both(seat as u16 + 1, [masked[0][seat], masked[1][seat]]);
+        }
+        grids.map(|grid| self.tables.reduce(plan, &self.tables.cut_off(plan, &grid[..seats])[..seats]))
+    }
 }

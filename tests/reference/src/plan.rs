@@ -42,13 +42,23 @@ pub enum Round {
     Product(usize),
     /// The pieces of a draw, of each seat.
     Draw(usize),
+    /// Version 4: the pieces of a zero, of each seat; those of its masked product; and its part of each seat's share of
+    /// the polynomial that is cut off.
+    Zero(usize),
+    Masked(usize),
+    Truncated(usize),
 }
 
 impl Round {
     pub fn gate(self) -> usize {
         match self {
-            Round::Product(g) | Round::Draw(g) => g,
+            Round::Product(g) | Round::Draw(g) | Round::Zero(g) | Round::Masked(g) | Round::Truncated(g) => g,
         }
+    }
+
+    /// Whether its mail gives the gate's wire.
+    pub fn last(self) -> bool {
+        !matches!(self, Round::Zero(_) | Round::Masked(_))
     }
 }
 
@@ -203,7 +213,7 @@ type Sizes = (u16, usize, Field, Vec<u32>);
 /// The plan check, refusals 1 to 8, 25 and 26; it hands every gate and out it has read to `take`.
 fn check(bytes: &[u8], mut take: impl FnMut(Result<Gate, Out>)) -> Result<Sizes, Refusal> {
     require(bytes.len() >= 18 && &bytes[..4] == b"POOL", 1, 0)?;
-    require((1..=3).contains(&bytes[4]), 2, 0)?;
+    require((1..=4).contains(&bytes[4]), 2, 0)?;
     let layout = Layout::of(bytes[4]);
     let (n, t) = (u16::from(bytes[5]), usize::from(bytes[6]));
     require((1..=15).contains(&n), 3, 0)?;
@@ -246,6 +256,9 @@ impl Plan {
                     inputs.push((wire, seat));
                     figures.push((wire, seat));
                 }
+                Gate::Multiply(..) if bytes[4] == 4 => {
+                    rounds.extend([Round::Zero(wire), Round::Masked(wire), Round::Truncated(wire)]);
+                }
                 Gate::Multiply(..) => rounds.push(Round::Product(wire)),
                 Gate::Random => {
                     rounds.push(Round::Draw(wire));
@@ -273,18 +286,51 @@ impl Plan {
         self.points[usize::from(seat) - 1]
     }
 
+    /// Version 4: the matrix by which the pieces of the masked products are weighted, one row a seat.
+    pub fn matrix(&self) -> Vec<Vec<u32>> {
+        self.field.cut_off(&self.points, self.t)
+    }
+
+    /// The weights at 0 of seats 1 to t+1.
+    pub fn opening_weights(&self) -> Vec<u32> {
+        self.field.weights(&self.points[..self.t + 1], 0)
+    }
+
     /// The weights at 0 by which each seat sums the dealers' pieces.
     pub fn product_weights(&self) -> Vec<u32> {
         self.field.weights(&self.points[..usize::from(self.dealers())], 0)
     }
 
-    /// The number of seats that deal products: 2t+1, or none where nothing is multiplied.
+    /// Whether products are masked and cut off.
+    pub fn cuts_off(&self) -> bool {
+        self.version == 4
+    }
+
+    /// The number of seats that deal products: 2t+1, in version 4 all, or none where nothing is multiplied.
     pub fn dealers(&self) -> u16 {
-        if self.multiplies == 0 {
-            0
-        } else {
-            2 * self.t as u16 + 1
+        match self.multiplies {
+            0 => 0,
+            _ if self.cuts_off() => self.n,
+            _ => 2 * self.t as u16 + 1,
         }
+    }
+
+    /// How many rounds a product takes, and how many coins of each of its dealers.
+    fn product_rounds(&self) -> usize {
+        if self.cuts_off() {
+            3
+        } else {
+            1
+        }
+    }
+
+    fn product_coins(&self) -> usize {
+        self.t * self.product_rounds()
+    }
+
+    /// How many elements each seat receives for products.
+    fn product_mail(&self) -> usize {
+        self.multiplies * self.product_rounds() * usize::from(self.dealers())
     }
 
     /// The number of a seat's last call: two more than there are rounds for gates.
@@ -296,7 +342,7 @@ impl Plan {
     pub fn sends(&self, seat: u16, round: Round) -> bool {
         match round {
             Round::Product(_) => seat <= self.dealers(),
-            Round::Draw(_) => true,
+            _ => true,
         }
     }
 
@@ -307,16 +353,11 @@ impl Plan {
 
     /// How many coins the seat takes at a gate.
     pub fn coins_at(&self, gate: usize, seat: u16) -> usize {
-        let deals = match self.gates[gate] {
-            Gate::Input(owner) => owner == seat,
-            Gate::Multiply(..) => seat <= self.dealers(),
-            Gate::Random => true,
-            _ => false,
-        };
-        if deals {
-            self.t
-        } else {
-            0
+        match self.gates[gate] {
+            Gate::Input(owner) if owner == seat => self.t,
+            Gate::Multiply(..) if seat <= self.dealers() => self.product_coins(),
+            Gate::Random => self.t,
+            _ => 0,
         }
     }
 
@@ -337,7 +378,7 @@ impl Plan {
 
     /// The count of the whole setting of coins.
     pub fn coins(&self) -> usize {
-        self.t * (self.figures.len() + self.multiplies * usize::from(self.dealers()))
+        self.t * self.figures.len() + self.multiplies * usize::from(self.dealers()) * self.product_coins()
     }
 
     /// The seat's own outs, in plan order.
@@ -375,11 +416,10 @@ impl Plan {
         }
     }
 
-    /// n·(inputs + M·(2t+1) + R·n + O), with R the random wires.
+    /// n·(inputs + M·(2t+1) + R·n + O), with R the random wires; in version 4 3n stands for 2t+1.
     pub fn sent(&self) -> usize {
         let n = usize::from(self.n);
-        let products = self.multiplies * usize::from(self.dealers());
-        n * (self.inputs.len() + products + self.draws() * n + self.outs.len())
+        n * (self.inputs.len() + self.product_mail() + self.draws() * n + self.outs.len())
     }
 
     /// The seat, unless it isn't 1 to n.
@@ -397,9 +437,8 @@ impl Plan {
     /// The length of what the seat alone holds and receives.
     pub fn view_of(&self, seat: u16) -> usize {
         let n = usize::from(self.n);
-        let products = self.multiplies * usize::from(self.dealers());
         let held = self.figures_of(seat) + self.coins_of(seat);
-        held + self.inputs.len() + products + self.draws() * n + (n + 1) * self.outs_of(seat).count()
+        held + self.inputs.len() + self.product_mail() + self.draws() * n + (n + 1) * self.outs_of(seat).count()
     }
 
     /// The length of the set's view.

@@ -231,10 +231,11 @@ pub fn large_plan(random: &mut Random, most: usize) -> Vec<u8> {
 }
 
 /// How many settings the coins of the seats outside a set have, at most `u32::MAX`: p for each coin.
-pub fn settings(n: u16, t: usize, p: u32, set: u16, gates: &[Gate]) -> u32 {
+pub fn settings(version: u8, (n, t, p): (u16, usize, u32), set: u16, gates: &[Gate]) -> u32 {
     let other = |seat: u16| u32::from(set >> (seat - 1) & 1 == 0);
     let dealings = |gate: &Gate| match *gate {
         Gate::Input(seat) => other(seat),
+        Gate::Multiply(..) if version == 4 => 3 * (1..=n).map(other).sum::<u32>(),
         Gate::Multiply(..) => (1..=n.min(2 * t as u16 + 1)).map(other).sum(),
         _ => 0,
     };
@@ -242,13 +243,19 @@ pub fn settings(n: u16, t: usize, p: u32, set: u16, gates: &[Gate]) -> u32 {
 }
 
 /// Gates with more than one and at most `most` settings for a set, once in eight with one; none if they are not found soon.
-fn tiny_gates(random: &mut Random, (n, t, p): (u16, usize, u32), set: u16, most: u32) -> Option<Vec<Gate>> {
+fn tiny_gates(
+    random: &mut Random,
+    version: u8,
+    (n, t, p): (u16, usize, u32),
+    set: u16,
+    most: u32,
+) -> Option<Vec<Gate>> {
     let least = if t == 0 || random.once_in(8) { 1 } else { 2 };
     let multiplies = if 2 * t < usize::from(n) { 2 } else { 0 };
     (0..20).find_map(|_| {
         let count = random.range(1, 6);
         let gates = gates(random, n, p, count, multiplies);
-        (least..=most).contains(&settings(n, t, p, set, &gates)).then_some(gates)
+        (least..=most).contains(&settings(version, (n, t, p), set, &gates)).then_some(gates)
     })
 }
 
@@ -264,7 +271,7 @@ pub fn tiny_plan(random: &mut Random, most: u32) -> (Vec<u8>, u16) {
         };
         let members = if random.once_in(3) { t } else { random.below(t + 1) };
         let set = set(random, n, members);
-        let Some(gates) = tiny_gates(random, (n, t, p), set, most) else { continue };
+        let Some(gates) = tiny_gates(random, 1, (n, t, p), set, most) else { continue };
         let version = if p > 65_535 { 3 } else { random.range(1, 3) as u8 };
         let count = random.range(1, 3);
         let outs = outs(random, n, gates.len(), count);
@@ -319,4 +326,40 @@ pub fn drawn_plan(random: &mut Random, most: usize) -> Vec<u8> {
     let count = if random.once_in(12) { 64 } else { random.range(1, 6) };
     let outs = outs(random, n, gates.len(), count);
     file(version, (n as u8, t as u8, p), &gates, &outs, &points)
+}
+
+/// A random plan file of version 4, of at most `most` gates, that passes: often with multiplies, now and then with random wires.
+pub fn plan_1988(random: &mut Random, most: usize) -> Vec<u8> {
+    let (n, t, p, points) = any_size(random, 4);
+    let count = random.range(1, most);
+    let multiplies = if 2 * t < usize::from(n) { count } else { 0 };
+    let drawn = random.once_in(3);
+    let make = if drawn { drawn_gates } else { gates };
+    let mut gates = make(random, n, p, count, multiplies);
+    if multiplies > 0 && !drawn && random.once_in(2) {
+        for gate in &mut gates {
+            if let Gate::Add(a, b) = *gate {
+                *gate = Gate::Multiply(a, b);
+            }
+        }
+    }
+    let count = if random.once_in(12) { 64 } else { random.range(1, 6) };
+    let outs = outs(random, n, gates.len(), count);
+    file(4, (n as u8, t as u8, p), &gates, &outs, &points)
+}
+
+/// A random plan file of version 4 with few gates, and a set for which there are at most `most` settings.
+pub fn tiny_plan_1988(random: &mut Random, most: u32) -> (Vec<u8>, u16) {
+    loop {
+        let n = random.range(1, 5) as u16;
+        let t = random.below((usize::from(n)).div_ceil(2));
+        let p = PRIMES.iter().copied().find(|&p| p > u32::from(n)).expect("a prime above n");
+        let members = if random.once_in(3) { random.below(t + 1) } else { t };
+        let set = set(random, n, members);
+        let Some(gates) = tiny_gates(random, 4, (n, t, p), set, most) else { continue };
+        let count = random.range(1, 3);
+        let outs = outs(random, n, gates.len(), count);
+        let points = points(random, n, p);
+        return (file(4, (n as u8, t as u8, p), &gates, &outs, &points), set);
+    }
 }

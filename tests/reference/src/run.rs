@@ -113,21 +113,25 @@ pub fn view(plan: &Plan, members: &[u16], figures: &[u32], coins: &[u32], run: &
 /// One number for each seat, seat 1 first.
 pub type Seats = [u32; 15];
 
-/// The tables of a plan's dealings and products.
+/// The tables of a plan's dealings and products; the matrix in version 4 alone.
 pub struct Tables {
     powers: Vec<Vec<u32>>,
     weights: Vec<u32>,
+    matrix: Vec<Vec<u32>>,
 }
 
 impl Tables {
     pub fn new(plan: &Plan) -> Tables {
+        let cuts_off = plan.cuts_off() && plan.multiplies > 0;
+        let most = if cuts_off { 2 * plan.t } else { plan.t };
         Tables {
-            powers: plan.points.iter().map(|&point| plan.field.powers(point, plan.t)).collect(),
-            weights: plan.product_weights(),
+            powers: plan.points.iter().map(|&point| plan.field.powers(point, most)).collect(),
+            weights: if cuts_off { plan.opening_weights() } else { plan.product_weights() },
+            matrix: if cuts_off { plan.matrix() } else { Vec::new() },
         }
     }
 
-    /// A dealing: each seat's piece.
+    /// A dealing of as many coins as there are: each seat's piece.
     pub fn deal(&self, plan: &Plan, value: u32, coins: &[u32]) -> Seats {
         let mut pieces = [0; 15];
         for (piece, powers) in pieces.iter_mut().zip(&self.powers) {
@@ -136,7 +140,21 @@ impl Tables {
         pieces
     }
 
-    /// The shares of a multiply's wire, from its grid of pieces, one row a dealer.
+    /// Version 4: from the grid of the masked products' pieces, one row a dealer, that of the truncated shares' parts, one
+    /// row a sender. `reduce` interpolates these.
+    pub fn cut_off(&self, plan: &Plan, grid: &[Seats]) -> [Seats; 15] {
+        let mut parts = [[0; 15]; 15];
+        for (sender, row) in parts[..grid.len()].iter_mut().enumerate() {
+            let mut pieces = [0; 15];
+            pieces.iter_mut().zip(grid).for_each(|(piece, dealt)| *piece = dealt[sender]);
+            for (part, weights) in row.iter_mut().zip(&self.matrix) {
+                *part = plan.field.dot(0, weights, &pieces);
+            }
+        }
+        parts
+    }
+
+    /// The shares of a multiply's wire, from its grid of pieces, one row a dealer or sender.
     pub fn reduce(&self, plan: &Plan, grid: &[Seats]) -> Seats {
         let sums = if plan.field.wide() { self.sums::<true>(plan, grid) } else { self.sums::<false>(plan, grid) };
         sums.map(|sum| plan.field.reduce(sum))
@@ -174,19 +192,37 @@ pub fn shares(plan: &Plan, figures: &[u32], coins: &[u32], mut seen: impl FnMut(
     let tables = Tables::new(plan);
     let mut shares: Vec<Seats> = Vec::with_capacity(plan.gates.len());
     let (mut figures, mut coins) = (figures.iter(), coins);
-    let mut take = || {
-        let (taken, rest) = coins.split_at(plan.t);
+    let mut take = |count: usize| {
+        let (taken, rest) = coins.split_at(count);
         coins = rest;
         taken
     };
     let mut grid = [[0; 15]; 15];
     for &gate in &plan.gates {
         shares.push(match gate {
-            Gate::Input(_) => tables.deal(plan, *figures.next().expect("one figure per input gate"), take()),
+            Gate::Input(_) => tables.deal(plan, *figures.next().expect("one figure per input gate"), take(plan.t)),
+            Gate::Multiply(a, b) if plan.cuts_off() => {
+                let seats = usize::from(plan.n);
+                let mut masked: Seats = std::array::from_fn(|i| plan.field.mul(shares[a][i], shares[b][i]));
+                let own: Vec<&[u32]> = (0..seats).map(|_| take(3 * plan.t)).collect();
+                for (row, coins) in grid.iter_mut().zip(&own) {
+                    *row = tables.deal(plan, 0, &coins[..2 * plan.t]);
+                }
+                seen(&grid[..seats]);
+                let zeros = total(plan, &grid[..seats]);
+                masked.iter_mut().zip(zeros).for_each(|(x, zero)| *x = plan.field.add(*x, zero));
+                for ((row, coins), &x) in grid.iter_mut().zip(&own).zip(&masked) {
+                    *row = tables.deal(plan, x, &coins[2 * plan.t..]);
+                }
+                seen(&grid[..seats]);
+                let parts = tables.cut_off(plan, &grid[..seats]);
+                seen(&parts[..seats]);
+                tables.reduce(plan, &parts[..seats])
+            }
             Gate::Multiply(a, b) => {
                 let grid = &mut grid[..usize::from(plan.dealers())];
                 for (dealer, row) in grid.iter_mut().enumerate() {
-                    *row = tables.deal(plan, plan.field.mul(shares[a][dealer], shares[b][dealer]), take());
+                    *row = tables.deal(plan, plan.field.mul(shares[a][dealer], shares[b][dealer]), take(plan.t));
                 }
                 seen(grid);
                 tables.reduce(plan, grid)
@@ -194,7 +230,7 @@ pub fn shares(plan: &Plan, figures: &[u32], coins: &[u32], mut seen: impl FnMut(
             Gate::Random => {
                 let grid = &mut grid[..usize::from(plan.n)];
                 for row in grid.iter_mut() {
-                    *row = tables.deal(plan, *figures.next().expect("a draw of each seat"), take());
+                    *row = tables.deal(plan, *figures.next().expect("a draw of each seat"), take(plan.t));
                 }
                 seen(grid);
                 total(plan, grid)

@@ -37,7 +37,7 @@ pub fn seat_call(
         learn(&plan, call, &mail, &mut shares);
         work(&plan, call, &mut shares);
         match plan.rounds.get(call - 1) {
-            Some(&round) => send(&plan, seat, round, &shares, figures, coins),
+            Some(&round) => send(&plan, seat, round, &shares, figures, coins, &mail),
             None => (1..=plan.n).flat_map(|receiver| plan.outs_of(receiver)).map(|out| shares[out.wire]).collect(),
         }
     };
@@ -73,21 +73,30 @@ fn deal_inputs(plan: &Plan, seat: u16, figures: List, coins: List) -> Vec<u32> {
     (1..=plan.n).flat_map(|receiver| dealt.iter().map(move |(s, coins)| piece(plan, *s, coins, receiver))).collect()
 }
 
-/// A gate's round: the pieces of what the seat deals in it, if it deals.
-fn send(plan: &Plan, seat: u16, round: Round, shares: &[u32], figures: List, coins: List) -> Vec<u32> {
-    if !plan.sends(seat, round) {
-        return Vec::new();
-    }
-    let gate = round.gate();
-    let dealt = match plan.gates[gate] {
-        Gate::Multiply(a, b) => plan.field.mul(shares[a], shares[b]),
-        _ => own_figure(plan, seat, gate, figures),
+/// A gate's round: the pieces of what the seat deals in it, if it deals; in a product's third round of version 4 the
+/// seat's part of each seat's share.
+fn send(plan: &Plan, seat: u16, round: Round, shares: &[u32], figures: List, coins: List, mail: &[u32]) -> Vec<u32> {
+    let (field, gate) = (plan.field, round.gate());
+    let product = || match plan.gates[gate] {
+        Gate::Multiply(a, b) => field.mul(shares[a], shares[b]),
+        _ => unreachable!("a round of products"),
     };
-    let coins = own_coins(plan, seat, gate, coins);
-    (1..=plan.n).map(|receiver| piece(plan, dealt, &coins, receiver)).collect()
+    let coins = || own_coins(plan, seat, gate, coins);
+    let deal = |value: u32, coins: &[u32]| (1..=plan.n).map(|receiver| piece(plan, value, coins, receiver)).collect();
+    match round {
+        _ if !plan.sends(seat, round) => Vec::new(),
+        Round::Draw(_) => deal(own_figure(plan, seat, gate, figures), &coins()),
+        Round::Product(_) => deal(product(), &coins()),
+        Round::Zero(_) => deal(0, &coins()[..2 * plan.t]),
+        Round::Masked(_) => {
+            let masked = mail.iter().fold(product(), |sum, &zero| field.add(sum, zero));
+            deal(masked, &coins()[2 * plan.t..])
+        }
+        Round::Truncated(_) => plan.matrix().iter().map(|row| field.dot(0, row, mail)).collect(),
+    }
 }
 
-/// Call 1 learns the input wires, each later one the wire of the round before it.
+/// Call 1 learns the input wires, each later one the wire of the round before it, if that is its gate's last.
 fn learn(plan: &Plan, call: usize, mail: &[u32], shares: &mut [u32]) {
     if call == 1 {
         let by_sender = (1..=plan.n).flat_map(|sender| plan.inputs.iter().filter(move |input| input.1 == sender));
@@ -99,12 +108,15 @@ fn learn(plan: &Plan, call: usize, mail: &[u32], shares: &mut [u32]) {
     match plan.rounds[call - 2] {
         Round::Product(g) => shares[g] = plan.field.dot(0, &plan.product_weights(), mail),
         Round::Draw(g) => shares[g] = mail.iter().fold(0, |sum, &piece| plan.field.add(sum, piece)),
+        Round::Zero(_) | Round::Masked(_) => {}
+        Round::Truncated(g) => shares[g] = plan.field.dot(0, &plan.opening_weights(), &mail[..plan.t + 1]),
     }
 }
 
 /// Works each add, scale and offset from the gate just learnt to the next that has a round.
 fn work(plan: &Plan, call: usize, shares: &mut [u32]) {
-    let start = if call == 1 { 0 } else { plan.rounds[call - 2].gate() + 1 };
+    let before = call.checked_sub(2).map(|round| plan.rounds[round]);
+    let start = before.map_or(0, |round| round.gate() + usize::from(round.last()));
     let end = plan.rounds.get(call - 1).map_or(plan.gates.len(), |round| round.gate());
     for wire in start..end {
         match plan.gates[wire] {

@@ -4,7 +4,7 @@
 //! `case K FOLDER` writes plan K with its figures and coins, `case long FOLDER` a plan of 15 seats, all of them dealers, with 120
 //! multiplies in turn, `case wide FOLDER` one in which a seat's mail has many shares from one sender, `case late FOLDER` one with a seat that
 //! deals nothing, `case large FOLDER` one of version 3 over the largest prime, and `case drawn FOLDER` one with random wires: seat 1 gets the first
-//! of them, and seat 2 that and its own figure added.
+//! of them, and seat 2 that and its own figure added. `case masked FOLDER` writes one of version 4 with 5 seats, products in turn and a random wire.
 
 use reference::field::MOST;
 use reference::plan::{bytes_of, file, plan_file, Gate, Layout, Out, Plan};
@@ -75,6 +75,15 @@ fn drawn() -> Vec<u8> {
     plan_file(5, 2, 65521, &gates, &outs)
 }
 
+/// 5 seats with points of their choosing; four products, of which the last two wait for a random wire.
+fn masked() -> Vec<u8> {
+    let mut gates: Vec<Gate> = (1..=5).map(Gate::Input).collect();
+    gates.extend([Gate::Multiply(0, 1), Gate::Multiply(5, 5), Gate::Add(6, 2), Gate::Random]);
+    gates.extend([Gate::Multiply(7, 8), Gate::Offset(9, MOST - 1), Gate::Multiply(10, 3), Gate::Scale(11, 3)]);
+    let outs: Vec<Out> = (1..=5).map(|seat| Out { seat, wire: 13 - usize::from(seat) }).collect();
+    file(4, (5, 2, MOST), &gates, &outs, &[5, 70_000, 3, 1, MOST - 1])
+}
+
 fn main() {
     let args: Vec<String> = std::env::args().collect();
     let (seed, folder) = (&args[1], &args[2]);
@@ -90,6 +99,7 @@ fn main() {
         "late" => late(),
         "large" => large(),
         "drawn" => drawn(),
+        "masked" => masked(),
         _ => plan(&mut random, 24),
     };
     let plan = Plan::read(&file).expect("a plan that passes");

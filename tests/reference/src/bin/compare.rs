@@ -11,7 +11,7 @@ use reference::plan::{bytes, bytes_of, file, long, plan_file, Gate, Layout, Out,
 use reference::primes::prime;
 use reference::program::program;
 use reference::random::{self, Random};
-use reference::run::{ideal, run_by_calls, Step};
+use reference::run::{granted, ideal, run_by_calls, Step};
 use reference::sheet::{formula_value, Name, Sheet};
 use reference::texts::{self, Text};
 use std::fmt::Write as _;
@@ -359,10 +359,13 @@ struct Tally {
     /// Matchings that changed a coin.
     moved: usize,
     /// Plans lent, and plans refused 6, by version.
-    versions: [usize; 4],
-    layouts: [usize; 4],
-    /// Random plans that have a random wire.
+    versions: [usize; 5],
+    layouts: [usize; 5],
+    /// Random plans that have a random wire, and random plans of version 4.
     drawn: usize,
+    masked: usize,
+    /// Plans whose runs under both multiply rules were compared.
+    twins: usize,
     /// Runs of a sheet's plan whose result was compared with the formula's value.
     values: usize,
     /// Inputs of the bench program.
@@ -375,8 +378,9 @@ impl Tally {
     /// Every counter, in a fixed order.
     fn counters(&mut self) -> Vec<&mut usize> {
         let lists = [&mut self.parts[..], self.met.as_flattened_mut(), &mut self.versions, &mut self.layouts];
-        let single = [&mut self.moved, &mut self.drawn, &mut self.values, &mut self.inputs];
-        lists.into_iter().flatten().chain(single).chain([&mut self.passed, &mut self.differences]).collect()
+        let plans = [&mut self.drawn, &mut self.masked, &mut self.twins];
+        let single = [&mut self.moved, &mut self.values, &mut self.inputs, &mut self.passed, &mut self.differences];
+        lists.into_iter().flatten().chain(plans).chain(single).collect()
     }
 
     /// The counters as text, a line each.
@@ -404,7 +408,7 @@ impl Tally {
         let library = lent.make(&LIBRARY);
         let refusal = (reference.0 & 255) as usize;
         self.met[case.kind()][refusal] += 1;
-        if let Some(&mut version @ 1..=3) = lent.lent_plan().and_then(|plan| plan.get_mut(4)) {
+        if let Some(&mut version @ 1..=4) = lent.lent_plan().and_then(|plan| plan.get_mut(4)) {
             self.versions[usize::from(version)] += 1;
             self.layouts[usize::from(version)] += usize::from(refusal == 6);
         }
@@ -628,7 +632,7 @@ fn damage_plan(random: &mut Random, file: &mut Vec<u8>, plan: &Plan, refusal: u8
         2 => file[4] = random.pick(&[0, 5, 6, 129, 255]),
         3 => file[5] = random.pick(&[0, 16, 17, 128, 255]),
         4 => file[6] = random.pick(&[n as u8 + 1, n as u8, 127, 128, 255]),
-        5 if plan.version == 3 && random.once_in(2) => put_field(file, plan, 0, no_prime(random)),
+        5 if plan.version > 2 && random.once_in(2) => put_field(file, plan, 0, no_prime(random)),
         5 => {
             let composite = loop {
                 let x = random.below(65536) as u32;
@@ -1742,7 +1746,7 @@ fn large_layouts(tally: &mut Tally) {
     for version in 0..=255 {
         let mut plan = file(3, (3, 1, MOST), &[Gate::Input(1)], &out[..1], &[1, 2, 3]);
         plan[4] = version;
-        let expected = (version == 0 || version > 3).then_some(2);
+        let expected = (version == 0 || version > 4).then_some(2);
         let converted = if matches!(version, 1 | 2) { None } else { Some(2) };
         tally.compare(&Case::Check { plan: plan.clone() }, expected);
         tally.compare(&Case::ConvertSize { plan: plan.clone() }, converted);
@@ -1761,9 +1765,9 @@ fn large_plans(random: &mut Random, tally: &mut Tally) {
     }
 }
 
-/// Conversions of a world's plan: refused 2 where it is of version 3.
+/// Conversions of a world's plan: refused 2 where it is of version 3 or 4.
 fn conversions(random: &mut Random, tally: &mut Tally, world: &World) {
-    let expected = if world.plan.version == 3 { 2 } else { 0 };
+    let expected = if world.plan.version > 2 { 2 } else { 0 };
     let size = Case::ConvertSize { plan: world.file.clone() };
     let room = 32 + 10 * world.plan.gates.len() + 3 * world.plan.outs.len() + 4 * usize::from(world.plan.n);
     let whole = Case::Convert { plan: world.file.clone(), out: filler(random, room) };
@@ -2036,7 +2040,7 @@ fn all_records(tally: &mut Tally) {
 fn counts(random: &mut Random, tally: &mut Tally, file: Vec<u8>, set: u16, often: usize) {
     let plan = Plan::read(&file).expect("a plan that passes");
     let (p, t) = (plan.field.p(), plan.t);
-    let settings = random::settings(plan.n, t, p, set, &plan.gates);
+    let settings = random::settings(plan.version, (plan.n, t, p), set, &plan.gates);
     let few = settings <= 65_536 && !plan.gates.contains(&Gate::Random);
     let (order, expected): (&[u8], u8) = if few { (&COUNT_ORDER, 0) } else { (&SETTINGS_ORDER, 30) };
     let own = plan.coin_seats().iter().filter(|&&seat| set >> (seat - 1) & 1 == 1).count();
@@ -2205,6 +2209,120 @@ fn drawn_plans(tally: &mut Tally) {
     programs(&mut random, tally, 150, random::drawn_plan);
 }
 
+/// Each seat's results in the library's record of a run.
+fn results(file: &[u8], figures: &[u32], coins: &[u32]) -> Option<Vec<Vec<u32>>> {
+    let plan = Plan::read(file).expect("a plan that passes");
+    let mut record = vec![0; ((LIBRARY.record_size)(file) >> 8) as usize];
+    let written = (LIBRARY.record)(file, &bytes(figures), &bytes(coins), &mut record) == 0;
+    written.then(|| {
+        let mut end = 8 * usize::from(plan.n);
+        let of = |seat: u16| {
+            end += 4 * plan.view_of(seat);
+            let count = plan.outs_of(seat).count();
+            (0..count).map(|i| long(&record, end - 4 * (count - i))).collect()
+        };
+        (1..=plan.n).map(of).collect()
+    })
+}
+
+/// The plan of a version 4 file under both multiply rules, on the same figures: the results are the plan's own arithmetic.
+fn both_rules(random: &mut Random, tally: &mut Tally, file: &[u8]) {
+    let mut third = file.to_vec();
+    third[4] = 3;
+    let plans = [file, &third].map(|file| Plan::read(file).expect("a plan that passes"));
+    let p = plans[0].field.p();
+    let figures = random.elements(plans[0].figures.len(), p);
+    let wanted = granted(&plans[0], &figures);
+    tally.twins += 1;
+    for (file, plan) in [file, &third].into_iter().zip(&plans) {
+        let coins = random.elements(plan.coins(), p);
+        let got = results(file, &figures, &coins);
+        if got.as_ref() != Some(&wanted) {
+            tally.differences += 1;
+            if tally.differences <= 20 {
+                println!("DIFFERENCE: results {got:?}, not {wanted:?}, of the plan {}", hex(file));
+                println!("  figures {figures:?}\n  coins {coins:?}");
+            }
+        }
+    }
+}
+
+/// Plans of version 4 at the ends: the most products, the largest primes, random wires, no coins, no majority.
+fn extremes_1988(random: &mut Random) -> Vec<Vec<u8>> {
+    let square = |n: u16| [Gate::Input(n), Gate::Multiply(0, 0)];
+    let first = |n: u32| (1..=n).collect::<Vec<u32>>();
+    let mut files = vec![
+        file(4, (1, 0, 2), &square(1), &[Out { seat: 1, wire: 1 }], &[1]),
+        file(4, (3, 1, 5), &square(3), &[Out { seat: 2, wire: 1 }; 64], &[4, 2, 1]),
+        file(4, (15, 7, 17), &square(8), &[Out { seat: 15, wire: 1 }], &first(15)),
+        file(4, (15, 0, MOST), &square(8), &[Out { seat: 15, wire: 1 }], &first(15)),
+        file(4, (15, 14, MOST), &[Gate::Random], &[Out { seat: 15, wire: 0 }], &first(15)),
+    ];
+    for (n, t, p, gates, multiplies) in [
+        (15, 7, MOST, 1024, 1023),
+        (15, 7, 65521, 200, 200),
+        (15, 7, 17, 200, 200),
+        (14, 6, 32771, 300, 100),
+        (9, 4, 2_147_483_629, 100, 100),
+        (15, 14, MOST, 1024, 0),
+        (1, 0, MOST, 1024, 1023),
+    ] {
+        let gates = random::gates(random, n, p, gates, multiplies);
+        let outs = random::outs(random, n, gates.len(), 64);
+        let points: Vec<u32> = if random.once_in(2) {
+            (0..u32::from(n)).map(|seat| p - 1 - seat).collect()
+        } else {
+            random::points(random, n, p)
+        };
+        files.push(file(4, (n as u8, t, p), &gates, &outs, &points));
+    }
+    files
+}
+
+/// Plans of version 4.
+fn plans_1988(tally: &mut Tally) {
+    let mut random = Random(20_270_107);
+    for file in extremes_1988(&mut random) {
+        both_rules(&mut random, tally, &file);
+        whole_world(&mut random, tally, file, 8);
+    }
+    for most in [2, 4, 6, 9, 14, 20].repeat(35) {
+        let file = random::plan_1988(&mut random, most);
+        tally.masked += 1;
+        both_rules(&mut random, tally, &file);
+        whole_world(&mut random, tally, file, 6);
+    }
+    for most in [2, 3, 5, 8, 12].repeat(2000) {
+        let file = random::plan_1988(&mut random, most);
+        tally.masked += 1;
+        both_rules(&mut random, tally, &file);
+        glance(&mut random, tally, file);
+    }
+    programs(&mut random, tally, 150, random::plan_1988);
+}
+
+/// Counted views of tiny plans of version 4: a product takes three times as many coins, so few have one.
+fn counts_1988(tally: &mut Tally) {
+    let mut random = Random(20_270_113);
+    for _ in 0..600 {
+        let (file, set) = random::tiny_plan_1988(&mut random, 1000);
+        counts(&mut random, tally, file, set, 2);
+    }
+    let gates = |seat| [Gate::Input(seat), Gate::Multiply(0, 0), Gate::Offset(1, 2)];
+    for (seat, points) in [(1, [1, 2, 3]), (2, [4, 2, 1]), (3, [3, 1, 4])] {
+        for set in [1 << (seat - 1), 0] {
+            let plan = file(4, (3, 1, 5), &gates(seat), &[Out { seat: 1, wire: 2 }, Out { seat, wire: 1 }], &points);
+            counts(&mut random, tally, plan, set, 2);
+        }
+    }
+    for most in [3, 12].repeat(60) {
+        let file = random::plan_1988(&mut random, most);
+        let Plan { n, t, .. } = Plan::read(&file).expect("a plan that passes");
+        let set = random::set(&mut random, n, t);
+        counts(&mut random, tally, file, set, 3);
+    }
+}
+
 /// The bench program on the other plans.
 fn other_programs(tally: &mut Tally) {
     programs(&mut Random(20_260_305), tally, 100, random::wide_plan);
@@ -2217,7 +2335,7 @@ fn other_programs(tally: &mut Tally) {
 type Part = &'static [fn(&mut Tally)];
 
 /// The streams in parts; each may be worked in a process of its own.
-const PARTS: [Part; 4] = [
+const PARTS: [Part; 5] = [
     &[
         first_plans,
         |tally| sheets(&mut Random(20_260_205), tally),
@@ -2235,6 +2353,7 @@ const PARTS: [Part; 4] = [
     ],
     &[all_counts],
     &[drawn_plans],
+    &[plans_1988, counts_1988],
 ];
 
 /// Works a part, counted from 0.
@@ -2271,10 +2390,11 @@ fn report(tally: &Tally) -> bool {
     println!("library: {}", if LINKED { "libpool.a" } else { "none linked, the reference stands in" });
     let scarce = refusals(tally);
     println!("{} of the matchings changed a coin", tally.moved);
-    for version in 1..=3 {
+    for version in 1..=4 {
         println!("{} plans of version {version}, {} refused 6", tally.versions[version], tally.layouts[version]);
     }
-    println!("{} random plans with random wires", tally.drawn);
+    println!("{} random plans with random wires, {} of version 4", tally.drawn, tally.masked);
+    println!("{} plans run under both multiply rules", tally.twins);
     let [texts, sheets, bills] = [IMPORT, SHEET, CHARGE].map(|kind| tally.met[kind].iter().sum::<usize>());
     let records = [RECORD, READ_ALL, READ_SEAT].map(|kind| tally.met[kind].iter().sum::<usize>());
     println!("{texts} texts imported or refused");
@@ -2292,7 +2412,7 @@ fn report(tally: &Tally) -> bool {
         && tally.cases() >= 100_000
         && tally.versions[1..].iter().all(|&lent| lent >= 10_000)
         && tally.layouts[1..].iter().all(|&refused| refused >= 200)
-        && tally.drawn >= 10_000
+        && tally.drawn.min(tally.masked).min(tally.twins) >= 10_000
         && texts.min(sheets) >= 20_000
         && bills >= 5_000
         && records.iter().sum::<usize>() >= 10_000

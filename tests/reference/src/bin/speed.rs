@@ -158,6 +158,12 @@ fn products(n: u16, t: u32, p: u32, multiplies: usize) -> Vec<u8> {
     made_file(u32::from(n), t, p, &gates, &outs).expect("a plan that passes")
 }
 
+/// The same plan in version 4, with points 1 to n.
+fn masked(file: &[u8]) -> Vec<u8> {
+    let plan = Plan::read(file).expect("a plan that passes");
+    plan.file_of(4, &plan.outs, &plan.points)
+}
+
 /// A plan with its figures and coins.
 struct World {
     file: Vec<u8>,
@@ -183,7 +189,8 @@ impl World {
         }
         let (figures, coins) = (bytes(&self.figures), bytes(&self.coins));
         let len = 4 * self.plan.view(set).expect("a set that passes");
-        let mut candidates = writers(name, len, |with, view| (with.bench)(&self.file, set, &figures, &coins, view));
+        let call = |with: &Calls, view: &mut [u8]| (with.bench)(&self.file, set, &figures, &coins, view);
+        let mut candidates = writers(name, len, call);
         if set == 0 {
             candidates.flint = self.flint(name);
         }
@@ -357,6 +364,11 @@ fn main() {
             }
         }
     }
+    println!("p = {P}, n=15 t=7, version 4, 1,000 multiplies:");
+    let world = World::new(masked(&products(15, 7, P, 1000)));
+    world.bench(&mut results, "bench-15-7-v4", "bench with the view of 7", 127);
+    world.seat(&mut results, "seat-15-7-v4", "one seat's whole run");
+    world.matching(&mut results, "match-15-7-v4", "matching");
     println!("counted views:");
     counts(&mut results);
     println!("p = {P}, n=15 t=7, the view of 7, by multiplies:");

@@ -22,8 +22,23 @@ multiply-requires-clause-lent c = search moving_gate
 pub returns-in-Input : goal.returns-in-Input
 returns-in-Input c = search moving_gate
 
-pub returns-in-Multiply : goal.returns-in-Multiply
-returns-in-Multiply c = search moving_gate
+pub truncated-requires-clause-t_bound : goal.truncated-requires-clause-t_bound
+truncated-requires-clause-t_bound c = search moving_gate
+
+pub truncated-requires-clause-rowed : goal.truncated-requires-clause-rowed
+truncated-requires-clause-rowed c = search moving_gate
+
+pub truncated-requires-clause-rowed_2 : goal.truncated-requires-clause-rowed_2
+truncated-requires-clause-rowed_2 c = search moving_gate
+
+pub truncated-requires-clause-lent : goal.truncated-requires-clause-lent
+truncated-requires-clause-lent c = search moving_gate
+
+pub returns-in-Reduction : goal.returns-in-Reduction
+returns-in-Reduction c = search moving_gate
+
+pub returns-in-Truncation : goal.returns-in-Truncation
+returns-in-Truncation c = search moving_gate
 
 pub returns-in_default : goal.returns-in_default
 returns-in_default c = search moving_gate

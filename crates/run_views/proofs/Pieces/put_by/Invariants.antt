@@ -8,5 +8,5 @@ use Rattle.run_views.proofs.Pieces.put_by.Given as goal
 abbrev pub invariant-loop-d : goal.invariant-loop-d
 invariant-loop-d g l = record {
   same : l.out.out.ghost_name ≡ l.initial.out.out.ghost_name;
-  put : Piecing l.self.run.now.plan.now.header.field.p l.dealt.values.now l.dealt.t (numbers l.self.run.now.coins.now) l.dealt.from l.dealt.step (point_of (plan_of l.self.run.now.plan.now.bytes.now) l.self.i) l.initial.out.at l.initial.out.out.now l.out.out.now l.out.at l.d;
+  put : Piecing l.self.run.now.plan.now.header.field.p l.dealt.values.now l.dealt.t (numbers l.dealt.coins.now) l.dealt.at l.dealt.step (point_of (plan_of l.self.run.now.plan.now.bytes.now) l.self.i) l.initial.out.at l.initial.out.out.now l.out.out.now l.out.at l.d;
 }

@@ -1,5 +1,5 @@
 use Rattle.count_call.proofs.CallLaws.{rooming}
-use Rattle.count_call.proofs.checking.Given.fill_rows.Goals as goal
+use Rattle.count_call.proofs.checking.Given.fill_rows_by.Goals as goal
 
 pub owners-requires : goal.owners-requires
 owners-requires c = search rooming
