@@ -1703,6 +1703,18 @@ fn points(random: &mut Random, tally: &mut Tally, world: &World) {
     }
 }
 
+/// A plan of this version with so many gates and multiplies, its points random or the largest.
+fn of_size(random: &mut Random, version: u8, (n, t, p): (u16, u8, u32), gates: usize, multiplies: usize) -> Vec<u8> {
+    let gates = random::gates(random, n, p, gates, multiplies);
+    let outs = random::outs(random, n, gates.len(), 64);
+    let points: Vec<u32> = if random.once_in(2) {
+        (0..u32::from(n)).map(|seat| p - 1 - seat).collect()
+    } else {
+        random::points(random, n, p)
+    };
+    file(version, (n as u8, t, p), &gates, &outs, &points)
+}
+
 /// Plans of version 3 at the ends: the layout, the primes, and the most gates, outs and points.
 fn large_extremes(random: &mut Random) -> Vec<Vec<u8>> {
     let mut files = Vec::new();
@@ -1717,14 +1729,7 @@ fn large_extremes(random: &mut Random) -> Vec<Vec<u8>> {
         (15, 7, 17, 30, 20),
         (3, 1, MOST, 4, 2),
     ] {
-        let gates = random::gates(random, n, p, gates, multiplies);
-        let outs = random::outs(random, n, gates.len(), 64);
-        let points: Vec<u32> = if random.once_in(2) {
-            (0..u32::from(n)).map(|seat| p - 1 - seat).collect()
-        } else {
-            random::points(random, n, p)
-        };
-        files.push(file(3, (n as u8, t, p), &gates, &outs, &points));
+        files.push(of_size(random, 3, (n, t, p), gates, multiplies));
     }
     files
 }
@@ -2267,14 +2272,7 @@ fn extremes_1988(random: &mut Random) -> Vec<Vec<u8>> {
         (15, 14, MOST, 1024, 0),
         (1, 0, MOST, 1024, 1023),
     ] {
-        let gates = random::gates(random, n, p, gates, multiplies);
-        let outs = random::outs(random, n, gates.len(), 64);
-        let points: Vec<u32> = if random.once_in(2) {
-            (0..u32::from(n)).map(|seat| p - 1 - seat).collect()
-        } else {
-            random::points(random, n, p)
-        };
-        files.push(file(4, (n as u8, t, p), &gates, &outs, &points));
+        files.push(of_size(random, 4, (n, t, p), gates, multiplies));
     }
     files
 }
