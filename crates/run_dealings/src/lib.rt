@@ -269,17 +269,11 @@ impl Product<'_> {
     // by both crates, and a public one of field would be there for these two.
     #[inline(always)]
     #[tactic(auto, using(crate::proofs::ColumnLaws::columning))]
-    fn column<const WIDE: bool, const N: usize>(
-        &self,
-        powers: &[u64],
-        j: usize,
-        grid: &mut [[u64; N]; N],
-    ) -> u64
+    fn column<const WIDE: bool>(&self, powers: &[u64], j: usize, grid: &mut [[u64; 15]; 15]) -> u64
         requires wide_value { WIDE ≡ self.now.dealings.now.sums.wide }
-        requires weights_in_bounds { length self.now.dealings.now.weights.now ≤ N }
         requires powers_len { length powers.now ≡ terms self.now.dealings.now.t }
         requires powers_value { all_below self.now.dealings.now.sums.field.p powers.now ≡ true }
-        requires j_bound { j < N }
+        requires j_bound { j < 15 }
         ensures is { Is self.now.dealings.now.sums.field.p (column_sum self.now.dealings.now.sums.field.p self.now.dealings.now.weights.now (pieces_by self.now.dealings.now.sums.field.p (length powers.now) powers.now self.now.polynomials.now (length self.now.dealings.now.weights.now))) result }
         ensures grid_after { grid.new ≡ with_column j (pieces_by self.now.dealings.now.sums.field.p (length powers.now) powers.now self.now.polynomials.now (length self.now.dealings.now.weights.now)) grid.old }
     {
@@ -301,16 +295,12 @@ impl Product<'_> {
         sums.reduced(sum)
     }
 
-    // The columns of all receivers, N at most, by their power rows of K powers each, and every column's sum.
+    // The columns of all receivers, by their power rows of K powers each, and every column's sum.
     #[inline(always)]
     #[tactic(auto, using(crate::proofs::ColumnLaws::gridding))]
-    fn columns<const WIDE: bool, const K: usize, const N: usize>(
-        &self,
-        grid: &mut [[u64; N]; N],
-    ) -> [u64; 15]
+    fn columns<const WIDE: bool, const K: usize>(&self, grid: &mut [[u64; 15]; 15]) -> [u64; 15]
         requires wide_value { WIDE ≡ self.now.dealings.now.sums.wide }
         requires k_value { K ≡ terms self.now.dealings.now.t }
-        requires points_in_bounds { length self.now.dealings.now.points.now ≤ N }
         ensures result_value { take (length self.now.dealings.now.points.now) result ≡ map (share_at self.now.dealings.now.sums.field.p K self.now.dealings.now.weights.now self.now.polynomials.now) self.now.dealings.now.points.now }
         ensures grid_after { grid.new ≡ with_columns (column_at self.now.dealings.now.sums.field.p K self.now.dealings.now.points.now self.now.polynomials.now (length self.now.dealings.now.weights.now)) (length self.now.dealings.now.points.now) grid.old }
     {
@@ -319,27 +309,24 @@ impl Product<'_> {
         let mut sums = [0u64; 15];
         for j in 0..points.len() {
             let at = K * j;
-            sums[j] = self.column::<WIDE, N>(&rows[at..at + K], j, grid);
+            sums[j] = self.column::<WIDE>(&rows[at..at + K], j, grid);
         }
         sums
     }
 
-    // Every receiver's share: the polynomials are dealt into the grid, and each receiver's column is weighed and summed there. The prime's range,
-    // the count of coefficients and the grid's room are constants in each call: the room of 15 parties is as much to clear as a product of 3 is work.
+    // Every receiver's share: the polynomials are dealt into the grid, and each receiver's column is weighed and summed there. The prime's range and
+    // the count of coefficients are constants in each call.
     #[inline(never)]
     #[tactic(auto, using(crate::proofs::DealingLaws::sharing_by))]
     fn gridded(&self) -> [u64; 15]
         ensures { take (length self.now.dealings.now.points.now) result ≡ map (share_at self.now.dealings.now.sums.field.p (terms self.now.dealings.now.t) self.now.dealings.now.weights.now self.now.polynomials.now) self.now.dealings.now.points.now }
     {
-        let wide = self.dealings.sums.wide;
-        let few = self.dealings.points.len() <= 5;
-        match (wide, self.dealings.t < 4, few) {
-            (true, true, true) => self.columns::<true, 4, 5>(&mut [[0; 5]; 5]),
-            (true, true, false) => self.columns::<true, 4, 15>(&mut [[0; 15]; 15]),
-            (true, false, _) => self.columns::<true, 8, 15>(&mut [[0; 15]; 15]),
-            (false, true, true) => self.columns::<false, 4, 5>(&mut [[0; 5]; 5]),
-            (false, true, false) => self.columns::<false, 4, 15>(&mut [[0; 15]; 15]),
-            (false, false, _) => self.columns::<false, 8, 15>(&mut [[0; 15]; 15]),
+        let mut grid = [[0u64; 15]; 15];
+        match (self.dealings.sums.wide, self.dealings.t < 4) {
+            (true, true) => self.columns::<true, 4>(&mut grid),
+            (true, false) => self.columns::<true, 8>(&mut grid),
+            (false, true) => self.columns::<false, 4>(&mut grid),
+            (false, false) => self.columns::<false, 8>(&mut grid),
         }
     }
 

@@ -231,7 +231,7 @@ impl Pieces<'_> {
         requires seen { Seen self.now.run.now.plan.now.header.field.p (length self.now.powers.now) dealt.now.values.now dealt.now.t dealt.now.at dealt.now.step (numbers dealt.now.coins.now) }
         ensures { Put (pieces_of self.now.run.now.plan.now.header.field.p dealt.now.values.now dealt.now.t (numbers dealt.now.coins.now) dealt.now.at dealt.now.step (point_of (plan_of self.now.run.now.plan.now.bytes.now) self.now.i)) out.old out.new }
     {
-        // (copies, which what is written cannot change: nothing is read anew for each piece)
+        // By copies: what is written to `out` cannot change them, so nothing is read anew for each piece.
         let pieces = *self;
         let dealt = *dealt;
         for d in 0..dealt.values.len() {
