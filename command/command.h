@@ -20,7 +20,7 @@ struct command {
 };
 
 extern const struct command check_command, show_command, run_command, match_command, import_command, sheet_command, convert_command, charge_command,
-    record_command, read_command, count_command;
+    record_command, read_command, count_command, prepare_command, triples_command;
 
 /* The subcommand that runs; null before it is known. */
 extern const struct command *current;

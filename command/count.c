@@ -439,7 +439,7 @@ const struct command count_command = {
             "view is a line of the table: for each seat of the set its figures, its coins, each round's\n"
             "mail with a column for each number received, its results. With a second list of figures both\n"
             "lists' counts stand side by side: where the lists agree at the set's own figures and results,\n"
-            "they are the same. More than 65536 settings are refused, and plans with random wires.\n"
+            "they are the same. More than 65536 settings are refused, as are plans with random wires or triples.\n"
             "\n"
             "  --set SEATS          the seats that put their views together, as 1,3; at most the threshold\n"
             "  --figures FILE|LIST  all figures, in the plan's order\n"

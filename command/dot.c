@@ -36,6 +36,9 @@ static void draw_gate(FILE *to, const struct plan *plan, size_t wire)
     case MULTIPLY:
         fprintf(to, "times");
         break;
+    case SPEND:
+        fprintf(to, "times, by a triple");
+        break;
     case RANDOM:
         fprintf(to, "random");
         break;
@@ -51,7 +54,7 @@ static void draw_edges(FILE *to, const struct plan *plan, size_t wire)
     if (g.kind == INPUT || g.kind == RANDOM)
         return;
     fprintf(to, "    w%u -> w%zu;\n", g.a, wire);
-    if (g.kind == ADD || g.kind == MULTIPLY)
+    if (g.kind == ADD || g.kind == MULTIPLY || g.kind == SPEND)
         fprintf(to, "    w%u -> w%zu;\n", g.b, wire);
 }
 

@@ -15,7 +15,7 @@ struct layout {
     bool masks;                                   /* a product takes three rounds: zeros, the masked product, parts of its shares */
 };
 
-enum { VERSION_AT = 4, SEATS_AT = 5, THRESHOLD_AT = 6, GATE_HEAD = 2, OUT_HEAD = 1 };
+enum { VERSION_AT = 4, SEATS_AT = 5, THRESHOLD_AT = 6, GATE_HEAD = 2, OUT_HEAD = 1, MADE_BY = 3 }; /* the last: the gates that make a triple */
 
 static const struct layout layouts[] = {
     [1] = {.prime = 8, .gates_at = 10, .gates = 12, .outs_at = 14, .outs = 16, .width = 2, .out_wire = 2},
@@ -51,7 +51,7 @@ static void add_figures(struct plan *plan, size_t g)
 /* How many rounds of its own a gate has. */
 static unsigned rounds_of(const struct plan *plan, struct gate gate)
 {
-    return gate.kind == RANDOM ? 1 : gate.kind != MULTIPLY ? 0 : layouts[plan->version].masks ? 3 : 1;
+    return gate.kind == RANDOM || gate.kind == SPEND ? 1 : gate.kind != MULTIPLY ? 0 : layouts[plan->version].masks ? 3 : 1;
 }
 
 /* Gates stand one after the other: the kind, a zero byte, a and b. The wire of a product, or of draws, waits for rounds of its own; a gate that a
@@ -70,6 +70,7 @@ static void read_gates(struct plan *plan, const struct layout *l)
         gate->b = field(plan, at + GATE_HEAD + l->width, l->width);
         rounds += rounds_of(plan, *gate);
         gate->round = gate->kind == INPUT ? 0 : rounds;
+        plan->triple_count += gate->kind == SPEND;
         add_figures(plan, g);
     }
 }
@@ -211,6 +212,52 @@ struct bytes figures_of(const struct plan *plan, unsigned seat, struct bytes inp
     return all;
 }
 
+/* ---- preparing plans */
+
+/* The gate in place g of a preparing plan. */
+static struct gate preparing_gate(size_t g)
+{
+    uint32_t first = (uint32_t)(g / MADE_BY * MADE_BY);
+    return g % MADE_BY < 2 ? (struct gate){.kind = RANDOM} : (struct gate){.kind = MULTIPLY, .a = first, .b = first + 1};
+}
+
+bool prepares(const struct plan *plan)
+{
+    bool shape = plan->out_count == 0 && plan->gate_count % MADE_BY == 0;
+    for (size_t g = 0; shape && g < plan->gate_count; g++) {
+        struct gate is = plan->gates[g], want = preparing_gate(g);
+        shape = is.kind == want.kind && is.a == want.a && is.b == want.b;
+    }
+    return shape;
+}
+
+/* The plan's head, with other counts and places; its points, where it has them, stand after the gates, as there are no outs. */
+struct bytes preparing_file(const struct plan *plan)
+{
+    const struct layout *l = layouts + plan->version;
+    size_t head = field(plan, l->gates_at, l->width), gates = MADE_BY * plan->triple_count, gate = GATE_HEAD + 2 * l->width;
+    size_t end = head + gate * gates, points = plan->chosen ? l->width * plan->seats : 0;
+    if (!gates)
+        return fresh_bytes(0);
+    struct bytes file = fresh_bytes(end + points);
+    memcpy(file.at, plan->file.at, head);
+    put_bytes(file.at + l->gates, l->width, gates);
+    put_bytes(file.at + l->outs_at, l->width, end);
+    put_bytes(file.at + l->outs, l->width, 0);
+    for (size_t g = 0; g < gates; g++) {
+        struct gate made = preparing_gate(g);
+        uint8_t *at = file.at + head + gate * g;
+        at[0] = (uint8_t)made.kind;
+        put_bytes(at + GATE_HEAD, l->width, made.a);
+        put_bytes(at + GATE_HEAD + l->width, l->width, made.b);
+    }
+    if (points) {
+        put_bytes(file.at + l->points_at, l->width, end);
+        memcpy(file.at + end, plan->file.at + plan->file.len - points, points);
+    }
+    return file;
+}
+
 /* ---- words */
 
 int digits_of(const struct plan *plan)
@@ -221,8 +268,10 @@ int digits_of(const struct plan *plan)
 void print_counts(FILE *to, const struct plan *plan)
 {
     fprintf(to, "version %u, %u seat%s, threshold %u, prime %u, ", plan->version, plan->seats, plural(plan->seats), plan->threshold, plan->prime);
-    fprintf(to, "%zu gate%s, %zu out%s, %u calls a seat.\n", plan->gate_count, plural(plan->gate_count), plan->out_count, plural(plan->out_count),
-            plan->calls);
+    fprintf(to, "%zu gate%s, %zu out%s, %u calls", plan->gate_count, plural(plan->gate_count), plan->out_count, plural(plan->out_count), plan->calls);
+    if (plan->triple_count)
+        fprintf(to, " and %zu triple%s", plan->triple_count, plural(plan->triple_count));
+    fprintf(to, " a seat.\n");
 }
 
 void write_plan(const char *path, struct bytes file)
@@ -243,6 +292,15 @@ static size_t figure_of(const struct plan *plan, size_t wire)
     while (plan->figures[k].wire != wire)
         k++;
     return k;
+}
+
+/* The triple that a gate spends. */
+static size_t triple_of(const struct plan *plan, size_t wire)
+{
+    size_t count = 0;
+    for (size_t g = 0; g < wire; g++)
+        count += plan->gates[g].kind == SPEND;
+    return count;
 }
 
 void print_gate(FILE *to, const struct plan *plan, size_t wire)
@@ -267,6 +325,9 @@ void print_gate(FILE *to, const struct plan *plan, size_t wire)
             fprintf(to, "s %u to", g.round + 1 - rounds_of(plan, g));
         fprintf(to, " %u", g.round);
         break;
+    case SPEND:
+        fprintf(to, "wire %u times wire %u, by triple %zu, in round %u", g.a, g.b, triple_of(plan, wire), g.round);
+        break;
     case RANDOM:
         fprintf(to, "figure%s %zu", plural(plan->seats), figure_of(plan, wire));
         if (plan->seats > 1)
@@ -287,7 +348,7 @@ enum carried carried_in(const struct plan *plan, unsigned round, size_t *wire)
         if (!rounds || round > gate.round || round + rounds <= gate.round)
             continue;
         *wire = g;
-        return gate.kind == RANDOM ? DRAWS : rounds == 1 ? PRODUCT : of_masked[gate.round - round];
+        return gate.kind == RANDOM ? DRAWS : gate.kind == SPEND ? OPENINGS : rounds == 1 ? PRODUCT : of_masked[gate.round - round];
     }
     return round ? OUTS : INPUTS;
 }
@@ -295,7 +356,7 @@ enum carried carried_in(const struct plan *plan, unsigned round, size_t *wire)
 void round_words(const struct plan *plan, unsigned round, char *words, size_t room)
 {
     static const char *const names[] = {[INPUTS] = "inputs", [OUTS] = "outs", [PRODUCT] = "wire", [DRAWS] = "wire", [ZEROS] = "zeros",
-        [MASKED] = "masked", [PARTS] = "wire"};
+        [MASKED] = "masked", [PARTS] = "wire", [OPENINGS] = "openings"};
     size_t wire;
     enum carried what = carried_in(plan, round, &wire);
     if (what == INPUTS || what == OUTS)

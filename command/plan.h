@@ -8,7 +8,7 @@
 
 #include "lists.h"
 
-enum gate_kind { INPUT = 1, ADD = 2, SCALE = 3, OFFSET = 4, MULTIPLY = 5, RANDOM = 6 };
+enum gate_kind { INPUT = 1, ADD = 2, SCALE = 3, OFFSET = 4, MULTIPLY = 5, RANDOM = 6, SPEND = 7 };
 
 /* Gate g makes wire g. */
 struct gate {
@@ -34,7 +34,7 @@ struct plan {
     uint32_t prime;
     uint32_t points[15]; /* by seat */
     bool chosen;         /* the points stand in the file; else they are 1 to n */
-    size_t gate_count, out_count, figure_count;
+    size_t gate_count, out_count, figure_count, triple_count; /* the last: gates that spend a triple */
     struct gate *gates;
     struct out *outs;
     struct figure *figures;
@@ -53,7 +53,7 @@ void close_plan(struct plan *plan);
  * prime of up to 31 bits: so who needs no sizes asks for none. */
 void ask_sizes(struct plan *plan);
 
-/* The bytes of a seat's list, as the library says (POOL_SEAT_FIGURES, POOL_SEAT_COINS, POOL_SEAT_STATE). */
+/* The bytes of a seat's list, as the library says (POOL_SEAT_FIGURES, POOL_SEAT_COINS, POOL_SEAT_STATE, POOL_SEAT_TRIPLES). */
 size_t seat_size(const struct plan *plan, unsigned seat, unsigned what);
 
 /* The bytes of the mail that a seat's call takes, and of what it writes. */
@@ -74,6 +74,12 @@ size_t inputs_of(const struct plan *plan, unsigned seat);
 /* A seat's figures, or with seat 0 all, in the plan's order: inputs and draws, each of which stand in this order in a list of their own. */
 struct bytes figures_of(const struct plan *plan, unsigned seat, struct bytes inputs, struct bytes draws);
 
+/* Whether a plan has the shape of one that prepares triples: for each of them two random wires and their product, and no outs. */
+bool prepares(const struct plan *plan);
+
+/* The file of the plan that prepares a plan's triples, in the plan's version; empty where the plan spends none. */
+struct bytes preparing_file(const struct plan *plan);
+
 /* The digits of the largest number below the prime: those of a column. */
 int digits_of(const struct plan *plan);
 
@@ -87,8 +93,8 @@ void write_plan(const char *path, struct bytes file);
 void print_gate(FILE *to, const struct plan *plan, size_t wire);
 
 /* What a round carries: the inputs, the outs, or what a wire waits for: pieces of a product, of draws, and in version 4, for a product, of the zeros
- * that mask it, of the masked product, and the parts of its shares. */
-enum carried { INPUTS, OUTS, PRODUCT, DRAWS, ZEROS, MASKED, PARTS };
+ * that mask it, of the masked product, and the parts of its shares; or, for a product by a triple, what the seats open. */
+enum carried { INPUTS, OUTS, PRODUCT, DRAWS, ZEROS, MASKED, PARTS, OPENINGS };
 
 enum carried carried_in(const struct plan *plan, unsigned round, size_t *wire);
 

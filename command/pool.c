@@ -20,6 +20,8 @@ static const struct command *const commands[] = {
     &record_command,
     &read_command,
     &count_command,
+    &prepare_command,
+    &triples_command,
 };
 
 enum { COMMANDS = sizeof commands / sizeof *commands };

@@ -63,6 +63,13 @@ static void show_draws(FILE *to, const struct plan *plan, unsigned seat)
     end(&w);
 }
 
+static void show_spends(FILE *to, const struct plan *plan)
+{
+    struct words w = begin(to, "spends");
+    say(&w, "%zu triple%s", plan->triple_count, plural(plan->triple_count));
+    end(&w);
+}
+
 /* Calls in which a seat sends equally much stand together. */
 static void show_sends(FILE *to, const struct plan *plan, unsigned seat)
 {
@@ -112,7 +119,7 @@ static void show_words(FILE *to, const struct plan *plan)
         print_gate(to, plan, g);
         fputc('\n', to);
     }
-    fprintf(to, "\n out  goes to  value of\n");
+    fprintf(to, plan->out_count ? "\n out  goes to  value of\n" : "\nno outs\n");
     for (size_t o = 0; o < plan->out_count; o++)
         fprintf(to, "%4zu  seat %-2u  wire %u\n", o, plan->outs[o].seat, plan->outs[o].wire);
     for (unsigned seat = 1; seat <= plan->seats; seat++) {
@@ -121,6 +128,8 @@ static void show_words(FILE *to, const struct plan *plan)
             fprintf(to, "  point  %u\n", plan->points[seat - 1]);
         show_gives(to, plan, seat);
         show_draws(to, plan, seat);
+        if (plan->triple_count)
+            show_spends(to, plan);
         show_sends(to, plan, seat);
         show_gets(to, plan, seat);
     }
@@ -150,8 +159,8 @@ const struct command show_command = {
     .usage = "[--dot] [--output FILE] PLAN",
     .help = "Prints the plan in words: its seats, threshold and prime; the gate that makes each wire; to\n"
             "whom each out goes; and for each seat which figures it gives, how many coins it draws, and\n"
-            "which figures of random wires, how many numbers it sends in which call, and which outs it\n"
-            "gets.\n"
+            "which figures of random wires, how many triples it spends, how many numbers it sends in\n"
+            "which call, and which outs it gets.\n"
             "\n"
             "  --dot               print a picture instead, for Graphviz (dot -Tsvg): inputs and outs in\n"
             "                      the colour of their seat, and a rank for each round\n"

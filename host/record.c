@@ -13,7 +13,10 @@
 
 static const char *home;
 static int home_fd;
-static const char first_line[] = "pool seat record 1\n";
+static const char first_line[] = "pool seat record 2\n";
+
+/* So much of it do the records of all versions share. */
+enum { FAMILY = sizeof "pool seat record " - 1 };
 
 /* ---- files */
 
@@ -25,7 +28,7 @@ void take_home(const char *folder)
         fail(NOT_POSSIBLE, "cannot open the folder %s: %s", folder, strerror(errno));
     if (flock(home_fd, LOCK_EX | LOCK_NB))
         refuse("another seat is at work in %s", folder);
-    const char *const left[] = {"record.new", "record.old", "results.new", "results.old"}; /* by a seat killed while it replaced a file */
+    const char *const left[] = {"record.new", "record.old", "results.new", "results.old", "triples.old"}; /* by a seat killed while it replaced a file */
     for (size_t i = 0; i < sizeof left / sizeof *left; i++)
         wipe_file(left[i]);
 }
@@ -57,20 +60,42 @@ void wipe_file(const char *name)
     free(zeros.at);
 }
 
+/* The file's new bytes, beside it. */
+static void write_new(const char *name, struct bytes all)
+{
+    char new[64];
+    snprintf(new, sizeof new, "%s.new", name);
+    int fd = openat(home_fd, new, O_WRONLY | O_CREAT | O_TRUNC | O_CLOEXEC, 0600);
+    if (fd < 0 || !write_all(fd, all) || fsync(fd) || close(fd))
+        cannot_write(new);
+}
+
+void lay_beside(const char *name, struct bytes all)
+{
+    write_new(name, all);
+    if (fsync(home_fd))
+        cannot_write(name);
+}
+
 /* The old file gets a second name before the new one takes its place, so that it can be overwritten, after a crash too. */
-void replace_file(const char *name, struct bytes all)
+void put_in_place(const char *name)
 {
     char new[64], old[64];
     snprintf(new, sizeof new, "%s.new", name);
     snprintf(old, sizeof old, "%s.old", name);
-    int fd = openat(home_fd, new, O_WRONLY | O_CREAT | O_TRUNC | O_CLOEXEC, 0600);
-    if (fd < 0 || !write_all(fd, all) || fsync(fd) || close(fd))
-        cannot_write(new);
+    if (faccessat(home_fd, new, F_OK, 0) && errno == ENOENT)
+        return;
     if (linkat(home_fd, name, home_fd, old, 0) && errno != ENOENT)
         cannot_write(old);
     if (renameat(home_fd, new, home_fd, name) || fsync(home_fd))
         cannot_write(name);
     wipe_file(old);
+}
+
+void replace_file(const char *name, struct bytes all)
+{
+    write_new(name, all);
+    put_in_place(name);
 }
 
 void wipe_bytes(struct bytes list)
@@ -141,6 +166,7 @@ void keep_record(const struct record *r)
         {(uint8_t *)(uintptr_t)r->tokens, sizeof r->tokens},
         r->figures,
         r->coins,
+        r->triples,
         r->state,
     };
     const size_t count = sizeof parts / sizeof *parts, line = sizeof first_line - 1;
@@ -208,6 +234,7 @@ static void read_parts(struct record *r, struct bytes all)
     memcpy(r->tokens, tokens.at, tokens.len);
     r->figures = copy_of(next_part(all, &at));
     r->coins = copy_of(next_part(all, &at));
+    r->triples = copy_of(next_part(all, &at));
     r->state = copy_of(next_part(all, &at));
     for (unsigned call = 0; call < sent_calls(r); call++)
         r->sent[call] = copy_of(next_part(all, &at));
@@ -226,6 +253,8 @@ bool open_record(struct record *r)
         return false;
     }
     struct bytes body = {all.at, all.len - DIGEST};
+    if (all.len >= sizeof first_line - 1 && memcmp(all.at, first_line, sizeof first_line - 1) && !memcmp(all.at, first_line, FAMILY))
+        refuse("%s is by another version of this program: let that one end this run", in_home("record"));
     if (all.len < sizeof first_line - 1 + DIGEST || memcmp(all.at, first_line, sizeof first_line - 1))
         damaged();
     digest_of(digest, body);
@@ -246,6 +275,7 @@ void forget_secrets(struct record *r)
 {
     forget(&r->figures);
     forget(&r->coins);
+    forget(&r->triples);
     forget(&r->state);
     for (unsigned call = 0; call < sent_calls(r); call++)
         forget(&r->sent[call]);

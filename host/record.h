@@ -30,7 +30,8 @@ struct record {
     uint16_t finished;                     /* bit i - 1: seat i has its results */
     uint16_t told;                         /* bit i - 1: seat i knows that all seats have theirs */
     uint8_t tokens[MOST_SEATS + 1][TOKEN]; /* drawn by each seat when it began this run; 0 where it is not known yet */
-    struct bytes figures, coins, state;    /* of this seat, its draws among the figures; empty once all seats have their results */
+    struct bytes figures, coins;           /* of this seat, its draws among the figures; empty once all seats have their results */
+    struct bytes triples, state;           /* as the last call left them, likewise: what is spent is zero in the record that has what it was spent for */
     struct bytes *sent;                    /* what each call sent, for all seats that may still ask for it */
 };
 
@@ -54,6 +55,11 @@ void wipe_bytes(struct bytes list);
 
 /* Replaces a file as a whole. */
 void replace_file(const char *name, struct bytes all);
+
+/* The same in two steps: the file is on the disk beside the one that it is to replace, until it takes its place. The second step does nothing where
+ * the first was not made. */
+void lay_beside(const char *name, struct bytes all);
+void put_in_place(const char *name);
 
 /* Overwrites a file with zeros and removes it; nothing where there is none. */
 void wipe_file(const char *name);

@@ -2,7 +2,10 @@
  *
  * A seat that was killed goes on where it was when it is started again. Its record is on the disk before anybody can fetch the mail of its
  * last call, so that at most a call is repeated that nobody saw. It makes a call as soon as all mail for it is there; a seat that sends it
- * nothing in a round is not asked. It keeps what it sent until all seats have their results: only then is nobody behind who may ask. */
+ * nothing in a round is not asked. It keeps what it sent until all seats have their results: only then is nobody behind who may ask.
+ *
+ * The triples that a plan spends stand in the record beside the state, so that they are spent or unspent together with it. Those that a preparing run
+ * has made are in its record alone until all seats have finished; then they leave it for the file `triples`, and at no moment are they in both. */
 #include <errno.h>
 #include <openssl/rand.h>
 #include <poll.h>
@@ -41,7 +44,9 @@ static const char help[] =
     "             certificate's fingerprint says\n"
     "HOME         a folder for this seat and this run alone. Put its figures there, decimal, in the\n"
     "             file `figures`; its results will stand in the file `results`. Its coins, and its\n"
-    "             draws for random wires, are drawn from the operating system\n"
+    "             draws for random wires, are drawn from the operating system. Of a plan that prepares\n"
+    "             triples they stand in the file `triples` in the end; for a plan that spends them, move\n"
+    "             that file to the folder of this run before the start\n"
     "--listen     where to take calls, if not at this seat's address and port in the description\n"
     "\n"
     "Exit status: 0 done; 1 refused; 2 the words, the description or a list are not understood;\n"
@@ -167,6 +172,18 @@ bool know_token(unsigned of, const uint8_t *token)
     return same;
 }
 
+/* A preparing run has ended: the numbers of the finished state after the first are this seat's triples. They wait beside their place until the record
+ * has them no more. */
+static void lay_triples(void)
+{
+    struct bytes state = record.state;
+    if (!prepares(&plan) || !state.len)
+        return;
+    struct bytes text = text_of((struct bytes){state.at + bytes_of(1), state.len - bytes_of(1)});
+    lay_beside("triples", text);
+    wipe_bytes(text);
+}
+
 /* Takes up what is known of the end, and keeps it. Once all seats have their results nobody wants mail any more: the secrets go. */
 static void keep_end(unsigned finished, unsigned told)
 {
@@ -174,9 +191,13 @@ static void keep_end(unsigned finished, unsigned told)
         return;
     record.finished |= (uint16_t)finished;
     record.told |= (uint16_t)told;
-    if (record.finished == all_seats())
+    if (record.finished == all_seats()) {
+        lay_triples();
         forget_secrets(&record);
+    }
     keep_record(&record);
+    if (record.finished == all_seats())
+        put_in_place("triples");
     pthread_cond_broadcast(&changed);
 }
 
@@ -241,16 +262,16 @@ static void make_call(void)
     unsigned call = record.next;
     struct bytes mail = call ? gather(call - 1) : fresh_bytes(0);
     struct bytes out = fresh_bytes(written_size(&plan, record.seat, call));
-    struct bytes state = fresh_bytes(record.state.len);
-    memcpy(state.at, record.state.at, state.len);
+    struct bytes state = copy_of(record.state), triples = copy_of(record.triples);
     value(pool_seat_call(plan.file.at, plan.file.len, (uint16_t)record.seat, record.figures.at, record.figures.len, record.coins.at,
-                         record.coins.len, state.at, state.len, mail.at, mail.len, out.at, out.len));
+                         record.coins.len, triples.at, triples.len, state.at, state.len, mail.at, mail.len, out.at, out.len));
     bool last = call + 1 == record.calls;
     if (last)
         keep_results(out);
     pthread_mutex_lock(&lock);
-    struct bytes before = record.state;
+    struct bytes before = record.state, unspent = record.triples;
     record.state = state;
+    record.triples = triples;
     record.next = call + 1;
     if (last)
         keep_end(bit(record.seat), 0);
@@ -263,6 +284,7 @@ static void make_call(void)
     if (last)
         wipe_bytes(out);
     wipe_bytes(before);
+    wipe_bytes(unspent);
     wipe_bytes(mail);
 }
 
@@ -376,12 +398,25 @@ static struct bytes own_figures(void)
     return all;
 }
 
+/* This seat's triples, where the plan spends any: those in the file `triples`. */
+static struct bytes own_triples(void)
+{
+    if (!plan.triple_count)
+        return fresh_bytes(0);
+    struct bytes list = list_in("triples");
+    if (!list.len)
+        fail(NOT_POSSIBLE, "there are no triples in %s: move the file `triples` there from this seat's folder of the run that prepared them",
+             in_home("triples"));
+    return list;
+}
+
 /* A run begins: its coins and the draws of random wires are drawn, or taken from the files `coins` and `draws`, and are this run's from the first
  * record on. That is call 0's, which takes no mail; before it nobody has seen anything. */
 static void begin(void)
 {
     record.figures = own_figures();
     record.coins = drawn_list("coins", numbers_in(seat_size(&plan, record.seat, POOL_SEAT_COINS)));
+    record.triples = own_triples();
     record.state = fresh_bytes(seat_size(&plan, record.seat, POOL_SEAT_STATE));
     if (RAND_bytes(record.tokens[record.seat], TOKEN) != 1)
         fail(NOT_POSSIBLE, "no random numbers");
@@ -428,12 +463,19 @@ static void take_part(const char *description, const char *key, const char *home
     record.seat = open_tls(&run, key);
     open_mail(&run, record.tokens[record.seat]);
     take_home(home);
-    if (open_record(&record))
+    bool begun = open_record(&record);
+    if (begun && record.finished == all_seats())
+        put_in_place("triples"); /* the seat was killed before it did so */
+    else
+        wipe_file("triples.new");
+    if (begun)
         go_on();
     else
         begin();
     wipe_file("coins");
     wipe_file("draws");
+    if (plan.triple_count)
+        wipe_file("triples");
     answer_calls(listen_at(address ? address : run.places[record.seat].address, port ? port : run.places[record.seat].port));
     while (record.next < record.calls)
         make_call();

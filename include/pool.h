@@ -69,11 +69,45 @@
  * so call numbers go on: ask pool_calls. Plans without random wires are as before.
  *
  * A plan may be of version 4. A multiply gate has three rounds there, so a party
- * makes 3M + R + 3 calls; each party, those above 2t + 1 too, takes 3t coins for
+ * makes 3M + R + S + 3 calls; each party, those above 2t + 1 too, takes 3t coins for
  * it, 2t to deal 0 and then t to deal its masked product, and sends 3n numbers. The
  * calls in the middle of a multiply leave its wire's number in the state as it is,
  * and the mail of the third round is not checked. A host that asks pool_calls,
  * pool_seat_size and pool_run_size for its sizes needs no change.
+ *
+ * pool_seat_call, pool_bench and pool_record take triples after the coins, a
+ * pointer that is not const and a length. Where a plan spends none, which is
+ * every plan that was there before, a host lends the address of any byte and the
+ * length 0. A plan may have no outs.
+ *
+ *
+ * Triples
+ * -------
+ *
+ * A gate of kind 7 multiplies two wires x and y by spending a triple: work done
+ * before the shift. A plan has at most 341 of them. The triples of such a plan are
+ * made by a run of another one, its preparing plan, which has the plan's n, t, p
+ * and points, in any version that holds them, no outs, and for the k-th gate of
+ * kind 7 (k from 0) three gates: a random wire, a random wire, and the product
+ * (kind 5) of wires 3k and 3k + 1. `pool prepare` writes it.
+ *
+ * When a party has finished its preparing run, the numbers of its state after the
+ * first are its triples: three for each gate of kind 7, in gate order, shares of
+ * a, b and ab. They are the list that pool_seat_size tells the size of
+ * (POOL_SEAT_TRIPLES), and they are secret. The list of all triples has them party
+ * by party.
+ *
+ * In the round of the k-th gate of kind 7 a party sends its shares of x - a and
+ * y - b to all, and the call that learns the wire makes zeros of the three numbers:
+ * they are spent. A triple must never be spent twice, as a coin must not be dealt
+ * twice: two openings by one triple tell what two wires differ by. So a host keeps
+ * the triples as it keeps the state, and both together: each call takes them as the
+ * call before left them, and after a kill both are as before a call or both as after
+ * it. In a run the triples of all parties come from one preparing run, and no other
+ * run has any of them. pool_bench and pool_record spend all that they are lent.
+ *
+ * With triples that belong to no preparing run the shares of an out may lie on no
+ * polynomial: then refusal 20 falls on the bench, too.
  *
  *
  * Answers
@@ -83,7 +117,9 @@
  * where there is none. Bits 8 to 39 are the refusal's place, 0 unless its
  * sentence names one; places count from 0, but for a seat's, which is its
  * number. Of several faults the first in checking order is answered, and of
- * several places the lowest. A refused call has written nothing.
+ * several places the lowest; a place past 4,294,967,295, which only a list of
+ * triples that is far too long has, is told modulo 4,294,967,296. A refused call
+ * has written nothing.
  *
  * What each number says stands in pool_refusals.h, one row a number in checking
  * order, with what its place is; pool_refusal_sentence below gives the sentence.
@@ -96,9 +132,10 @@
  *
  * A call takes at most so many bytes of its thread's stack: pool_bench and
  * pool_record POOL_STACK_BENCH, pool_count POOL_STACK_COUNT, pool_match
- * POOL_STACK_MATCH, pool_import and pool_import_size POOL_STACK_IMPORT,
- * pool_sheet and pool_sheet_size POOL_STACK_SHEET, every other function
- * POOL_STACK_SEAT. A thread's own start takes some more (PTHREAD_STACK_MIN).
+ * POOL_STACK_MATCH, pool_match_prepared POOL_STACK_PREPARED, pool_import and
+ * pool_import_size POOL_STACK_IMPORT, pool_sheet and pool_sheet_size
+ * POOL_STACK_SHEET, every other function POOL_STACK_SEAT. A thread's own start
+ * takes some more (PTHREAD_STACK_MIN).
  */
 #ifndef POOL_H
 #define POOL_H
@@ -122,6 +159,7 @@ extern "C" {
 #define POOL_STACK_BENCH 139264
 #define POOL_STACK_COUNT 212992
 #define POOL_STACK_MATCH 262144
+#define POOL_STACK_PREPARED 409600
 #define POOL_STACK_IMPORT 81920
 #define POOL_STACK_SHEET 40960
 
@@ -265,9 +303,9 @@ uint64_t pool_convert(const uint8_t *plan, size_t plan_len, uint8_t *out,
     size_t out_len);
 
 /*
- * How many calls each party makes: M + R + 3, numbered 0 to M + R + 2, with M
- * the multiply gates and R the random wires; for a plan of version 4 3M stands for
- * M.
+ * How many calls each party makes: M + R + S + 3, numbered from 0 on, with M the
+ * multiply gates of kind 5, R the random wires and S the gates that spend a triple;
+ * for a plan of version 4 3M stands for M.
  *
  * Answers the count as its value, or the first of refusals 1 to 8, 25 and 26.
  */
@@ -279,7 +317,8 @@ enum {
     POOL_SEAT_COINS = 1,   /* its own coins */
     POOL_SEAT_STATE = 2,   /* its state */
     POOL_SEAT_MAIL = 3,    /* the mail that a call takes */
-    POOL_SEAT_OUT = 4      /* what a call writes */
+    POOL_SEAT_OUT = 4,     /* what a call writes */
+    POOL_SEAT_TRIPLES = 5  /* its own triples */
 };
 
 /*
@@ -304,6 +343,10 @@ uint64_t pool_seat_size(const uint8_t *plan, size_t plan_len, uint16_t seat,
  * figures, figures_len: its own inputs and draws, in the plan's order.
  * coins, coins_len:     its own coins, in the plan's order: fresh, uniform
  *                       below p and secret, the same in every call of a run.
+ * triples, triples_len: its own triples, those of its preparing run before call
+ *                       0, then as the call before left them: a call that learns
+ *                       the wire of a gate of kind 7 makes zeros of that gate's
+ *                       three numbers, and all else stays.
  * state, state_len:     its state: all 0 before call 0, then as the call
  *                       before left it. Its first number is the next call's.
  * mail, mail_len:       what all parties sent to this one in the call before,
@@ -317,8 +360,10 @@ uint64_t pool_seat_size(const uint8_t *plan, size_t plan_len, uint16_t seat,
  * call but one party i's part has a share for each of its outs; of each call
  * before it all parts have the same size.
  *
- * Answers 0 and has written state and out, or answers the first of refusals 1
- * to 8, 25, 26 and 9 to 20 and has written nothing.
+ * Answers 0 and has written triples, state and out, or answers the first of
+ * refusals 1 to 8, 25, 26, 9 to 13, 29 and 14 to 20 and has written nothing. 13
+ * looks at the coins, then at the triples, and its place is counted within the
+ * list; it comes before 29, the triples' count.
  *
  * Refusal 20 speaks of the first of the party's outs that breaks. Its place is
  * a party's number, t + 2 to n: the shares of all parties before it lie on one
@@ -328,6 +373,7 @@ uint64_t pool_seat_size(const uint8_t *plan, size_t plan_len, uint16_t seat,
 uint64_t pool_seat_call(const uint8_t *plan, size_t plan_len, uint16_t seat,
     const uint8_t *figures, size_t figures_len,
     const uint8_t *coins, size_t coins_len,
+    uint8_t *triples, size_t triples_len,
     uint8_t *state, size_t state_len,
     const uint8_t *mail, size_t mail_len,
     uint8_t *out, size_t out_len);
@@ -336,7 +382,8 @@ uint64_t pool_seat_call(const uint8_t *plan, size_t plan_len, uint16_t seat,
 enum {
     POOL_RUN_FIGURES = 0, /* all inputs and draws */
     POOL_RUN_COINS = 1,   /* all coins */
-    POOL_RUN_VIEW = 2     /* the view of a coalition */
+    POOL_RUN_VIEW = 2,    /* the view of a coalition */
+    POOL_RUN_TRIPLES = 3  /* all triples */
 };
 
 /*
@@ -358,16 +405,25 @@ uint64_t pool_run_size(const uint8_t *plan, size_t plan_len, uint16_t set,
  *                       party i.
  * figures, figures_len: all inputs, in the plan's order.
  * coins, coins_len:     all coins, in the plan's order.
+ * triples, triples_len: all triples, party by party; written: zeros, since the run
+ *                       spends them all.
  * view, view_len:       written: what the coalition held and received in the
  *                       run, for each member ascending: its inputs, its coins,
- *                       each round's mail, its results.
+ *                       each round's mail, its results. Triples are not in it.
  *
- * Answers the elements sent as its value and has written view, or answers the
- * first of refusals 1 to 8, 25, 26, 9 to 13 and 19 and has written nothing.
+ * Answers the elements sent as its value and has written triples and view, or
+ * answers the first of refusals 1 to 8, 25, 26, 9 to 13, 29, 19 and 20 and has
+ * written nothing. 13 looks at the coins, then at the triples, and its place is
+ * counted within the list.
+ *
+ * Refusal 20 may fall where the triples belong to no preparing run, whatever the
+ * coalition is. It speaks of the first out in the plan's order that breaks, and its
+ * place is a party's number as in pool_seat_call.
  */
 uint64_t pool_bench(const uint8_t *plan, size_t plan_len, uint16_t set,
     const uint8_t *figures, size_t figures_len,
     const uint8_t *coins, size_t coins_len,
+    uint8_t *triples, size_t triples_len,
     uint8_t *view, size_t view_len);
 
 /*
@@ -380,10 +436,50 @@ uint64_t pool_bench(const uint8_t *plan, size_t plan_len, uint16_t set,
  * matched, matched_len:   written: all coins with which a run on the second
  *                         list gives the coalition the same view.
  *
+ * A plan that spends triples is not matched alone (29): pool_match_prepared
+ * matches it with its preparing plan.
+ *
  * Answers 0 and has written matched, or answers the first of refusals 1 to 8,
- * 25, 26, 9 to 13, 19, 21 and 22 and has written nothing.
+ * 25, 26, 9 to 13, 29, 19, 21 and 22 and has written nothing.
  */
 uint64_t pool_match(const uint8_t *plan, size_t plan_len, uint16_t set,
+    const uint8_t *first, size_t first_len,
+    const uint8_t *second, size_t second_len,
+    const uint8_t *coins, size_t coins_len,
+    uint8_t *matched, size_t matched_len);
+
+/*
+ * The matching over two runs: a preparing run, and the run that spends its triples.
+ *
+ * preparing, preparing_len: the preparing plan.
+ * plan, plan_len:           the main plan, of the triples that it makes.
+ * set:                      a coalition of at most t parties.
+ * first, second:            two lists of all the main plan's inputs and draws that
+ *                           agree at the members' own and give the members the
+ *                           same results.
+ * coins, coins_len:         all that the parties draw in both runs, in one list: all
+ *                           the preparing plan's draws, all its coins, then all the
+ *                           main plan's coins.
+ * matched, matched_len:     written: the same list for the matched runs. When the
+ *                           preparing run is made with its draws and coins, and the
+ *                           main run with the second list, its coins and that
+ *                           preparing run's triples, the coalition has the same view
+ *                           of the preparing run as before, and the same view of the
+ *                           main run.
+ *
+ * Members' draws and coins stay. Of the draws those of the lowest party outside the
+ * coalition alone move.
+ *
+ * Answers 0 and has written matched, or answers the first of refusals 1 to 8, 25,
+ * 26, 9 to 13, 29, 19, 21 and 22 and has written nothing. Each number of a refusal
+ * that concerns both plans is tried on the preparing plan first, then on the main
+ * one. 13 looks at the numbers before the main coins against the preparing plan's
+ * prime, at the main coins against the main plan's, and its place is that in the
+ * whole list. 29 falls where the preparing plan is not that of the main plan, or the
+ * main plan spends no triples.
+ */
+uint64_t pool_match_prepared(const uint8_t *preparing, size_t preparing_len,
+    const uint8_t *plan, size_t plan_len, uint16_t set,
     const uint8_t *first, size_t first_len,
     const uint8_t *second, size_t second_len,
     const uint8_t *coins, size_t coins_len,
@@ -403,7 +499,7 @@ uint64_t pool_match(const uint8_t *plan, size_t plan_len, uint16_t set,
  *
  * Answers the size as its value: POOL_NUMBER_BYTES for each number of these
  * rows; or the first of refusals 1 to 8, 25, 26, 9 and 30: a plan with a random
- * wire is refused, too. A list of 65,536 long rows can take hundreds of
+ * wire or a gate that spends a triple is refused, too. A list of 65,536 long rows can take hundreds of
  * megabytes: look at the size before you lend it.
  */
 uint64_t pool_count_size(const uint8_t *plan, size_t plan_len, uint16_t set);
@@ -457,6 +553,8 @@ uint64_t pool_record_size(const uint8_t *plan, size_t plan_len);
  *
  * figures, figures_len: all inputs, in the plan's order.
  * coins, coins_len:     all coins, in the plan's order.
+ * triples, triples_len: all triples, party by party; written: zeros, since the run
+ *                       spends them all.
  * record, record_len:   written: the record, of exactly its size. First its
  *                       contents: for each party ascending the offset of its
  *                       body from the record's start and the body's length in
@@ -465,14 +563,16 @@ uint64_t pool_record_size(const uint8_t *plan, size_t plan_len);
  *                       each round's mail, its results.
  *
  * A party's body is what pool_bench writes for that party alone; here t may be
- * 0. The record has every party's secrets: keep it as the coins are kept.
+ * 0. The record has every party's secrets but its triples: keep it as the coins are
+ * kept.
  *
- * Answers 0 and has written record, or answers the first of refusals 1 to 8,
- * 25, 26, 10 to 13 and 19 and has written nothing.
+ * Answers 0 and has written triples and record, or answers the first of refusals 1
+ * to 8, 25, 26, 10 to 13, 29, 19 and 20, as pool_bench does, and has written nothing.
  */
 uint64_t pool_record(const uint8_t *plan, size_t plan_len,
     const uint8_t *figures, size_t figures_len,
     const uint8_t *coins, size_t coins_len,
+    uint8_t *triples, size_t triples_len,
     uint8_t *record, size_t record_len);
 
 /*

@@ -38,49 +38,55 @@ static struct slice lend_text(const char *text, size_t len)
     return s;
 }
 
-/* The calls that take a plan: K, or K with a random wire, whole or not, and lists of any bytes. */
+/* The calls that take a plan: K, or K with a random wire or a triple, whole or not, and lists of any bytes. */
 static void plan_calls(const uint8_t *k, size_t k_len)
 {
-    static const size_t sizes[] = {0, BYTES(1), BYTES(2), BYTES(3), BYTES(5), BYTES(10), BYTES(20)};
-    struct slice s[6], parts = lend(NULL, below(3) ? 12 : below(20)), converted = lend(NULL, below(3) ? 87 : below(100));
+    static const size_t sizes[] = {0, BYTES(1), BYTES(2), BYTES(3), BYTES(5), BYTES(10), BYTES(17)};
+    struct slice s[8], parts = lend(NULL, below(3) ? 12 : below(20)), converted = lend(NULL, below(3) ? 87 : below(100));
     s[0] = lend_text((const char *)k, k_len);
     for (unsigned j = 1; j < 6; j++)
         s[j] = lend(NULL, below(3) ? sizes[below(7)] : below(BYTES(25)));
+    uint8_t first[64];
+    s[7] = lend_text((const char *)first, preparing_in(1, first, k));
+    s[6] = lend(NULL, below(3) ? BYTES((below(2) ? 3 : 9) * spends_of(k)) : below(BYTES(10)));
     if (!below(3))
         s[3].len = s[3].len > BYTES(5) ? BYTES(5) : s[3].len;
     uint16_t seat = (uint16_t)(below(4) ? below(5) : below(65536));
     check(pool_plan_check(s[0].at, s[0].len));
     check(pool_calls(s[0].at, s[0].len));
-    check(pool_seat_size(s[0].at, s[0].len, seat, (uint16_t)below(6), (uint16_t)below(6)));
-    check(pool_run_size(s[0].at, s[0].len, seat, (uint16_t)below(4)));
-    check(pool_seat_call(s[0].at, s[0].len, seat, s[1].at, s[1].len, s[2].at, s[2].len, s[3].at, s[3].len, s[4].at, s[4].len, s[5].at, s[5].len));
-    check(pool_bench(s[0].at, s[0].len, seat, s[1].at, s[1].len, s[2].at, s[2].len, s[3].at, s[3].len));
+    check(pool_seat_size(s[0].at, s[0].len, seat, (uint16_t)below(6), (uint16_t)below(7)));
+    check(pool_run_size(s[0].at, s[0].len, seat, (uint16_t)below(5)));
+    check(pool_seat_call(s[0].at, s[0].len, seat, s[1].at, s[1].len, s[2].at, s[2].len, s[6].at, s[6].len, s[3].at, s[3].len, s[4].at, s[4].len,
+        s[5].at, s[5].len));
+    check(pool_bench(s[0].at, s[0].len, seat, s[1].at, s[1].len, s[2].at, s[2].len, s[6].at, s[6].len, s[3].at, s[3].len));
     check(pool_match(s[0].at, s[0].len, seat, s[1].at, s[1].len, s[2].at, s[2].len, s[4].at, s[4].len, s[5].at, s[5].len));
+    check(pool_match_prepared(s[7].at, s[7].len, s[0].at, s[0].len, seat, s[1].at, s[1].len, s[2].at, s[2].len, s[4].at, s[4].len, s[5].at, s[5].len));
     check(pool_charge(s[0].at, s[0].len, below(2) ? 1000000 - below(3) : 1000000 + below(3), parts.at, parts.len));
     check(pool_convert_size(s[0].at, s[0].len));
     check(pool_convert(s[0].at, s[0].len, converted.at, converted.len));
     free(parts.block);
     free(converted.block);
-    for (unsigned j = 0; j < 6; j++)
+    for (unsigned j = 0; j < 8; j++)
         free(s[j].block);
 }
 
-/* The calls that write or read a run record: K's, whole or not. */
+/* The calls that write or read a run record: K's, whole or not. Triples of zeros are such as a preparing run may make. */
 static void record_calls(const uint8_t *k, size_t k_len)
 {
-    uint8_t list[BYTES(11)] = {0}, stored[256] = {0};
+    uint8_t list[BYTES(11)] = {0}, stored[256] = {0}, none[BYTES(9)] = {0};
     unsigned size = (unsigned)POOL_VALUE(pool_record_size(k, k_len)), own = (unsigned)POOL_VALUE(pool_run_size(k, k_len, 0, POOL_RUN_COINS));
-    expect("K's record", pool_record(k, k_len, list, BYTES(2), list, own, stored, size), 0, 0);
+    expect("K's record", pool_record(k, k_len, list, BYTES(2), list, own, none, BYTES(9 * spends_of(k)), stored, size), 0, 0);
     struct slice plan = below(4) ? lend(k, k_len) : lend_text((const char *)k, k_len), record = lend_text((const char *)stored, size);
     struct slice figures = lend(list, below(3) ? BYTES(2) : below(12)), coins = lend(list, below(3) ? own : below(sizeof list));
     struct slice to = lend(NULL, below(3) ? size : below(size + 12)), all = lend(NULL, below(3) ? size - 24 : below(size + 12));
+    struct slice triples = lend(list, below(3) ? BYTES(9 * spends_of(k)) : below(sizeof list));
     struct slice body = lend(NULL, below(3) ? get(stored + BYTES(1 + 2 * below(3))) : below(80));
     uint16_t seat = (uint16_t)(below(4) ? below(5) : below(65536));
     check(pool_record_size(plan.at, plan.len));
-    check(pool_record(plan.at, plan.len, figures.at, figures.len, coins.at, coins.len, to.at, to.len));
+    check(pool_record(plan.at, plan.len, figures.at, figures.len, coins.at, coins.len, triples.at, triples.len, to.at, to.len));
     check(pool_record_read(plan.at, plan.len, record.at, record.len, all.at, all.len));
     check(pool_record_read_seat(plan.at, plan.len, record.at, record.len, seat, body.at, body.len));
-    struct slice lent[] = {plan, record, figures, coins, to, all, body};
+    struct slice lent[] = {plan, record, figures, coins, triples, to, all, body};
     for (unsigned j = 0; j < sizeof lent / sizeof *lent; j++)
         free(lent[j].block);
 }
@@ -126,15 +132,18 @@ static void text_calls(unsigned p)
 
 int main(void)
 {
-    uint8_t first[64], k[128], drawn[64], other[128];
+    uint8_t first[64], k[128], drawn[64], spending[64], other[128], third[128];
     plan_k(first);
     plan_drawn(drawn);
+    plan_spending(spending);
     for (unsigned i = 0; i < CASES; i++) {
         size_t k_len = in_version(1 + i % VERSIONS, k, first, (const unsigned[]){1, 2, 3});
         size_t other_len = in_version(1 + i % VERSIONS, other, drawn, (const unsigned[]){1, 2, 3});
-        plan_calls(below(3) ? k : other, k_len);
+        size_t third_len = in_version(1 + i % VERSIONS, third, spending, (const unsigned[]){1, 2, 3});
+        plan_calls(below(3) ? k : below(2) ? other : third, k_len);
         expect("a plan with a random wire", pool_plan_check(other, other_len), 0, 0);
-        record_calls(k, k_len);
+        expect("a plan with a triple", pool_plan_check(third, third_len), 0, 0);
+        record_calls(below(3) ? k : third, k_len);
         count_calls(1 + i % VERSIONS);
         text_calls(i % 2 ? 11 : MOST_PRIME);
     }

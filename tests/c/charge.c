@@ -115,7 +115,7 @@ static void worked(void)
     uint8_t view[1], figures[BYTES(2)], coins[BYTES(5)];
     put_list(figures, (const unsigned[]){4, 5}, 2);
     put_list(coins, (const unsigned[]){2, 3, 1, 5, 7}, 5);
-    uint64_t sent = POOL_VALUE(pool_bench(plan, plan_len, 0, figures, sizeof figures, coins, sizeof coins, view, 0));
+    uint64_t sent = POOL_VALUE(pool_bench(plan, plan_len, 0, figures, sizeof figures, coins, sizeof coins, NO_TRIPLES, view, 0));
     expect_number("what the bench counts", sent, sent_by(1) + sent_by(2) + sent_by(3));
 }
 
@@ -194,6 +194,31 @@ static void random_wires(void)
     }
 }
 
+/* A gate that spends a triple costs each party two numbers for each of the parties. */
+static void triples(void)
+{
+    for (unsigned n = 1; n <= 15; n++)
+        for (unsigned t = 0; 2 * t < n; t++) {
+            uint64_t sent[SEATS];
+            plan_len = plan_spending(plan);
+            plan[5] = (uint8_t)n;
+            plan[6] = (uint8_t)t;
+            put_field(plan, PRIME, 17);
+            gate(plan, 1, 1, n, 0);
+            out(plan, 4, 0, n, 3);
+            for (unsigned i = 0; i < n; i++)
+                sent[i] = ((i == 0) + (i == n - 1)) * n + 2 * n + 1;
+            sorted("triples", 1 + below(1000000), sent);
+            by_calls("triples, by calls", 999983);
+        }
+    plan_len = plan_spending(plan);
+    expect_number("K's bill with a triple", charge(1000000, BYTES(3)), 27000 << 8);
+    expect_number("K's parts with a triple", part(1) * 100000000 + part(2) * 10000 + part(3), 10000 * 100000000ull + 10000 * 10000 + 7000);
+    uint8_t first[64];
+    plan_len = preparing_in(1, plan, memcpy(first, plan, sizeof first));
+    by_calls("a preparing plan", 999983);
+}
+
 /* In version 4 each party sends three numbers to each of the parties for a multiply, those above 2t + 1 too. */
 static void masked(void)
 {
@@ -258,7 +283,7 @@ static void random_plans(void)
             if (g == 0 || below(2))
                 any_gate(plan, g, below(3) ? 1 : 6, n, 2);
             else
-                any_gate(plan, g, below(2) ? 5 : 2, n, 2);
+                any_gate(plan, g, below(2) ? 5 + 2 * below(2) : 2, n, 2);
         for (unsigned o = 0; o < outs; o++)
             out(plan, gates, o, 1 + below(n), below(gates));
         by_calls("a random plan", below(3) ? below(5000) : below(1000001));
@@ -271,6 +296,7 @@ int main(void)
     refusals();
     few_dealers();
     random_wires();
+    triples();
     masked();
     large();
     random_plans();

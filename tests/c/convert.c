@@ -202,6 +202,7 @@ static void many_plans(unsigned count)
             second = r;
             second.plan_len = in_version(2, second.plan, r.plan, points);
             r = second;
+            any_triples(&r);
         }
         other.plan_len = in_version(3, want, r.plan, points);
         converts("a random plan", r.plan, r.plan_len, want, other.plan_len);

@@ -80,7 +80,7 @@ static void worked(void)
     hold("the shares of the random wire", get(s.state[0] + BYTES(2)) == 7 && get(s.state[1] + BYTES(2)) == 8 && get(s.state[2] + BYTES(2)) == 9);
     size_t size = (size_t)POOL_VALUE(pool_record_size(k.plan, k.plan_len));
     hold("the record's size", size == 24 + BYTES(12 + 10 + VIEW));
-    expect("the run is stored", pool_record(k.plan, k.plan_len, k.figures, k.figures_len, k.coins, k.coins_len, stored, size), 0, 0);
+    expect("the run is stored", pool_record(k.plan, k.plan_len, k.figures, k.figures_len, k.coins, k.coins_len, NO_TRIPLES, stored, size), 0, 0);
     expect("seat 3's body", pool_record_read_seat(k.plan, k.plan_len, stored, size, 3, body, sizeof body), 0, 0);
     expect_bytes("seat 3's body", body, bytes, sizeof body);
 }
@@ -113,18 +113,18 @@ static void refusals(void)
     uint8_t view[BYTES(VIEW)], state[BYTES(5)] = {0}, o[BYTES(3)], bad[BYTES(2)];
     for (size_t len = 0; len < BYTES(6); len++)
         if (len != k.figures_len)
-            expect("another count of figures", pool_bench(k.plan, k.plan_len, SEAT_3, k.figures, len, k.coins, k.coins_len, view, sizeof view), 10, 0);
+            expect("another count of figures", pool_bench(k.plan, k.plan_len, SEAT_3, k.figures, len, k.coins, k.coins_len, NO_TRIPLES, view, sizeof view), 10, 0);
     put(k.figures + BYTES(2), 11);
-    expect("a draw of p", pool_bench(k.plan, k.plan_len, SEAT_3, k.figures, k.figures_len, k.coins, k.coins_len, view, sizeof view), 11, 2);
+    expect("a draw of p", pool_bench(k.plan, k.plan_len, SEAT_3, k.figures, k.figures_len, k.coins, k.coins_len, NO_TRIPLES, view, sizeof view), 11, 2);
     run_k(1);
-    expect("a coin too few", pool_bench(k.plan, k.plan_len, SEAT_3, k.figures, k.figures_len, k.coins, BYTES(6), view, sizeof view), 12, 0);
+    expect("a coin too few", pool_bench(k.plan, k.plan_len, SEAT_3, k.figures, k.figures_len, k.coins, BYTES(6), NO_TRIPLES, view, sizeof view), 12, 0);
     put_list(bad, (const unsigned[]){3, 11}, 2);
-    expect("a seat without its draw", pool_seat_call(k.plan, k.plan_len, 2, bad, 0, k.coins, BYTES(2), state, sizeof state, bad, 0, o, 0), 10, 0);
-    expect("a seat's draw of p", pool_seat_call(k.plan, k.plan_len, 1, bad, BYTES(2), k.coins, BYTES(3), state, sizeof state, bad, 0, o, sizeof o), 11, 1);
+    expect("a seat without its draw", pool_seat_call(k.plan, k.plan_len, 2, bad, 0, k.coins, BYTES(2), NO_TRIPLES, state, sizeof state, bad, 0, o, 0), 10, 0);
+    expect("a seat's draw of p", pool_seat_call(k.plan, k.plan_len, 1, bad, BYTES(2), k.coins, BYTES(3), NO_TRIPLES, state, sizeof state, bad, 0, o, sizeof o), 11, 1);
     put(state, CALLS);
-    expect("a finished seat", pool_seat_call(k.plan, k.plan_len, 2, bad, BYTES(1), k.coins, BYTES(2), state, sizeof state, bad, 0, o, 0), 16, 0);
+    expect("a finished seat", pool_seat_call(k.plan, k.plan_len, 2, bad, BYTES(1), k.coins, BYTES(2), NO_TRIPLES, state, sizeof state, bad, 0, o, 0), 16, 0);
     put(state, CALLS + 1);
-    expect("a call number above", pool_seat_call(k.plan, k.plan_len, 2, bad, BYTES(1), k.coins, BYTES(2), state, sizeof state, bad, 0, o, 0), 15, 0);
+    expect("a call number above", pool_seat_call(k.plan, k.plan_len, 2, bad, BYTES(1), k.coins, BYTES(2), NO_TRIPLES, state, sizeof state, bad, 0, o, 0), 15, 0);
 }
 
 /* 30 comes after 13 and before 19, however few settings there are. */
@@ -169,7 +169,7 @@ static void most(void)
             sum = (unsigned)(((uint64_t)sum + get(figures + i)) % p);
         size_t view_len = (size_t)POOL_VALUE(pool_run_size(plan, len, 1 << 14, POOL_RUN_VIEW));
         hold("a view has room", view_len == BYTES(15 * MOST_WIRES + 15 * MOST_WIRES + 15 + 1) && view_len <= sizeof view);
-        uint64_t answer = pool_bench(plan, len, 1 << 14, figures, sizeof figures, coins, sizeof coins, view, view_len);
+        uint64_t answer = pool_bench(plan, len, 1 << 14, figures, sizeof figures, coins, sizeof coins, NO_TRIPLES, view, view_len);
         hold("what all send", answer == (uint64_t)15 * (15 * MOST_WIRES + 1) << 8);
         hold("the result is the last draws' sum", get(view + view_len - BYTES(1)) == sum);
     }

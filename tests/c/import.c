@@ -136,7 +136,8 @@ static void others(void)
     refused("a prime above 2^31", example, 3, 1, 2147483659u, 5);
     refused("the largest prime of 32 bits", example, 3, 1, 4294967291u, 5);
     refused("p of 0", example, 3, 1, 0, 5);
-    refused("no outs", "0 1\n1 1\n0\n", 3, 1, 11, 6);
+    static const char no_outs[] = "0 1\n1 1\n0\n";
+    imports("no outs", no_outs, sizeof no_outs - 1, 3, 1, 11, 18 + 6);
     refused("no gates", "0 0\n0\n0\n", 3, 1, 11, 6);
     imports("an INV without a majority", "1 2\n1 1\n1 1\n1 1 0 1 INV\n", 24, 2, 1, 11, 18 + 6 * 3 + 3);
     imports("an output value of no wires, input values of none", "0 2\n3 0 2 0\n2 0 1\n", 18, 3, 1, 11, 18 + 6 * 2 + 3);
@@ -236,7 +237,7 @@ static unsigned alone(size_t plan_len, unsigned bits, unsigned a, unsigned b)
     memset(seat, 0, seat_len);
     for (unsigned k = 0; k < calls; k++) {
         size_t sent_len = (size_t)POOL_VALUE(pool_seat_size(plan, plan_len, 1, (uint16_t)k, POOL_SEAT_OUT));
-        if (pool_seat_call(plan, plan_len, 1, figures, BYTES(2 * bits), sent, 0, seat, seat_len, mail, mail_len, sent, sent_len))
+        if (pool_seat_call(plan, plan_len, 1, figures, BYTES(2 * bits), sent, 0, NO_TRIPLES, seat, seat_len, mail, mail_len, sent, sent_len))
             return 99;
         memcpy(mail, sent, mail_len = sent_len);
     }

@@ -39,7 +39,7 @@ static inline int64_t result_on_bench(size_t plan_len, unsigned party, const uin
     size_t view_len = (size_t)POOL_VALUE(pool_run_size(plan, plan_len, set, POOL_RUN_VIEW));
     for (size_t i = 0; i < coins_len; i += BYTES(1))
         put(coins + i, below(get_field(plan, PRIME)));
-    uint64_t answer = pool_bench(plan, plan_len, set, figures, figures_len, coins, coins_len, view, view_len);
+    uint64_t answer = pool_bench(plan, plan_len, set, figures, figures_len, coins, coins_len, NO_TRIPLES, view, view_len);
     return POOL_REFUSAL(answer) ? -1 : (int64_t)get(view + view_len - BYTES(1));
 }
 

@@ -88,7 +88,7 @@ static void call_of_3(const char *what, const unsigned *before, const unsigned *
     put_list(state, before, 5);
     put_list(m, mail, mails);
     put_list(coins, (const unsigned[]){7, 8, 9}, 3);
-    expect(what, pool_seat_call(k.plan, k.plan_len, 3, k.figures, 0, coins, sizeof coins, state, sizeof state, m, BYTES(mails), o, BYTES(writes)), 0, 0);
+    expect(what, pool_seat_call(k.plan, k.plan_len, 3, k.figures, 0, coins, sizeof coins, NO_TRIPLES, state, sizeof state, m, BYTES(mails), o, BYTES(writes)), 0, 0);
     put_list(bytes, after, 5);
     expect_bytes(what, state, bytes, sizeof bytes);
     put_list(bytes, wrote, writes);
@@ -104,11 +104,11 @@ static void middle(void)
     call_of_3("call 4 learns wire 2", (const unsigned[]){4, 10, 3, 7, 9}, (const unsigned[]){10, 8, 6}, 3, (const unsigned[]){5, 10, 3, 1, 0}, (const unsigned[]){0}, 1);
     call_of_3("seat 3's part is not looked at", (const unsigned[]){4, 10, 3, 7, 9}, (const unsigned[]){10, 8, 0}, 3, (const unsigned[]){5, 10, 3, 1, 0}, (const unsigned[]){0}, 1);
     put(state, CALLS);
-    expect("3M + 3: a finished seat", pool_seat_call(k.plan, k.plan_len, 3, none, 0, coins, sizeof coins, state, sizeof state, none, 0, none, 0), 16, 0);
+    expect("3M + 3: a finished seat", pool_seat_call(k.plan, k.plan_len, 3, none, 0, coins, sizeof coins, NO_TRIPLES, state, sizeof state, none, 0, none, 0), 16, 0);
     put(state, CALLS + 1);
-    expect("a call number above 3M + 3", pool_seat_call(k.plan, k.plan_len, 3, none, 0, coins, sizeof coins, state, sizeof state, none, 0, none, 0), 15, 0);
+    expect("a call number above 3M + 3", pool_seat_call(k.plan, k.plan_len, 3, none, 0, coins, sizeof coins, NO_TRIPLES, state, sizeof state, none, 0, none, 0), 15, 0);
     put(state, 0);
-    expect("as many coins as version 3 has", pool_seat_call(k.plan, k.plan_len, 3, none, 0, coins, BYTES(1), state, sizeof state, none, 0, none, 0), 12, 0);
+    expect("as many coins as version 3 has", pool_seat_call(k.plan, k.plan_len, 3, none, 0, coins, BYTES(1), NO_TRIPLES, state, sizeof state, none, 0, none, 0), 12, 0);
 }
 
 /* The last numbers of a seat's view, which are its results. */
@@ -137,6 +137,7 @@ static void both_rules(unsigned times)
         any_points(points, third.plan[5], p);
         for (unsigned seat = 0; seat < third.plan[5]; seat++)
             point(third.plan, seat, points[seat]);
+        any_triples(&third);
         fourth = third;
         fourth.plan[4] = MASKING;
         any_lists(&fourth);

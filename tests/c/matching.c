@@ -33,8 +33,8 @@ static void settings(unsigned set, const uint8_t *first, const uint8_t *second, 
     for (unsigned setting = 0; setting < SETTINGS; setting++) {
         list(coins, setting, COINS);
         taken &= pool_match(plan, plan_len, (uint16_t)set, first, BYTES(2), second, BYTES(2), coins, sizeof coins, matched, sizeof matched) == 0;
-        taken &= POOL_REFUSAL(pool_bench(plan, plan_len, (uint16_t)set, first, BYTES(2), coins, sizeof coins, view, len)) == 0;
-        taken &= POOL_REFUSAL(pool_bench(plan, plan_len, (uint16_t)set, second, BYTES(2), matched, sizeof matched, other, len)) == 0;
+        taken &= POOL_REFUSAL(pool_bench(plan, plan_len, (uint16_t)set, first, BYTES(2), coins, sizeof coins, NO_TRIPLES, view, len)) == 0;
+        taken &= POOL_REFUSAL(pool_bench(plan, plan_len, (uint16_t)set, second, BYTES(2), matched, sizeof matched, NO_TRIPLES, other, len)) == 0;
         same &= memcmp(view, other, len) == 0;
         for (unsigned i = 0; i < owned; i++)
             kept &= get(coins + BYTES(own[i])) == get(matched + BYTES(own[i]));

@@ -58,7 +58,7 @@ static void last_call(const char *what, unsigned number, unsigned place, const u
     for (unsigned i = 0; i < n; i++)
         for (unsigned j = 0; j < OWN; j++)
             put(mail + BYTES(OWN * i + j), shares[j][i]);
-    expect(what, pool_seat_call(plan, plan_len, (uint16_t)n, none, 0, none, 0, state, sizeof state, mail, BYTES(OWN * n), o, sizeof o), number, place);
+    expect(what, pool_seat_call(plan, plan_len, (uint16_t)n, none, 0, none, 0, NO_TRIPLES, state, sizeof state, mail, BYTES(OWN * n), o, sizeof o), number, place);
     put_list(want, value, OWN);
     expect_bytes("the buffer", o, number ? kept : want, sizeof o);
     put(before, number ? LAST_CALL : LAST_CALL + 1);

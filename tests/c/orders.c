@@ -9,17 +9,17 @@ enum { PLANS = 700, ORDERS = 20, MOST_SEATS = 7, MOST_GATES = 14, MOST_OUTS = 4,
 static uint8_t plan[256];
 static size_t plan_len;
 static unsigned seats, calls;
-static uint8_t figures[LONGEST], coins[LONGEST * 8];
+static uint8_t figures[LONGEST], coins[LONGEST * 8], triples[LONGEST * 8];
 
-/* A seat: what it was given, its state, how many calls it has made and what each of these wrote, its mail and its results. */
+/* A seat: what it was given, its triples and state, how many calls it has made and what each of these wrote, its mail and its results. */
 static struct seat {
-    uint8_t figures[LONGEST], coins[LONGEST * 8], state[BYTES(MOST_GATES + 1)], wrote[MOST_CALLS][LONGEST], view[MOST_VIEW];
-    size_t figures_len, coins_len, wrote_len[MOST_CALLS], view_len;
+    uint8_t figures[LONGEST], coins[LONGEST * 8], triples[BYTES(3 * MOST_GATES + 1)], state[BYTES(MOST_GATES + 1)], wrote[MOST_CALLS][LONGEST], view[MOST_VIEW];
+    size_t figures_len, coins_len, triples_len, wrote_len[MOST_CALLS], view_len;
     unsigned made;
 } seat[MOST_SEATS + 1];
 
 /* The sizes of the seats' lists, asked for once a plan, since each answer checks the plan. */
-static size_t sizes[MOST_SEATS + 1][MOST_CALLS][POOL_SEAT_OUT + 1];
+static size_t sizes[MOST_SEATS + 1][MOST_CALLS][POOL_SEAT_TRIPLES + 1];
 
 static size_t size(unsigned s, unsigned k, unsigned what)
 {
@@ -30,7 +30,7 @@ static void ask_sizes(void)
 {
     calls = (unsigned)POOL_VALUE(pool_calls(plan, plan_len));
     for (unsigned i = 0; i < seats * calls; i++)
-        for (unsigned what = 0; what <= POOL_SEAT_OUT; what++)
+        for (unsigned what = 0; what <= POOL_SEAT_TRIPLES; what++)
             sizes[1 + i / calls][i % calls][what] = (size_t)POOL_VALUE(pool_seat_size(plan, plan_len, (uint16_t)(1 + i / calls), (uint16_t)(i % calls), (uint16_t)what));
 }
 
@@ -44,8 +44,8 @@ static void make_plan(void)
     unsigned t = 1 + below(seats - 1), p = primes[below(version > 2 ? 7 : 5)], gates = 1 + below(MOST_GATES), outs = 1 + below(MOST_OUTS);
     plan_len = contents_in(version, plan, seats, t, p, gates, outs);
     for (unsigned g = 0; g < gates; g++) {
-        unsigned kind = g == 0 ? 1 + 5 * below(2) : 1 + below(6);
-        any_gate(plan, g, kind == 5 && 2 * t >= seats ? 2 : kind, seats, p);
+        unsigned kind = g == 0 ? 1 + 5 * below(2) : 1 + below(7), multiplies = kind == 5 || kind == 7;
+        any_gate(plan, g, multiplies && 2 * t >= seats ? 2 : kind, seats, p);
     }
     for (unsigned o = 0; o < outs; o++)
         out(plan, gates, o, 1 + below(seats), below(gates));
@@ -55,10 +55,12 @@ static void make_plan(void)
     ask_sizes();
 }
 
-/* Figures and coins at random, as the bench takes them; each seat's own stand in front of the view of the seat alone. */
+/* Figures, coins and triples, as the bench takes them; each seat's own figures and coins stand in front of the view of the seat alone. */
 static void deal_lists(void)
 {
+    static uint8_t spent[sizeof triples], zeros[sizeof triples];
     unsigned p = get_field(plan, PRIME);
+    size_t triples_len = triples_for(plan, triples);
     size_t figures_len = (size_t)POOL_VALUE(pool_run_size(plan, plan_len, 0, POOL_RUN_FIGURES));
     size_t coins_len = (size_t)POOL_VALUE(pool_run_size(plan, plan_len, 0, POOL_RUN_COINS));
     for (size_t i = 0; i < figures_len; i += BYTES(1))
@@ -71,8 +73,11 @@ static void deal_lists(void)
         one->view_len = (size_t)POOL_VALUE(pool_run_size(plan, plan_len, set, POOL_RUN_VIEW));
         one->figures_len = size(s, 0, POOL_SEAT_FIGURES);
         one->coins_len = size(s, 0, POOL_SEAT_COINS);
-        uint64_t answer = pool_bench(plan, plan_len, set, figures, figures_len, coins, coins_len, one->view, one->view_len);
+        one->triples_len = size(s, 0, POOL_SEAT_TRIPLES);
+        memcpy(spent, triples, triples_len);
+        uint64_t answer = pool_bench(plan, plan_len, set, figures, figures_len, coins, coins_len, spent, triples_len, one->view, one->view_len);
         expect("the bench runs", POOL_REFUSAL(answer), 0, 0);
+        expect_bytes("it spends all triples", spent, zeros, triples_len);
         memcpy(one->figures, one->view, one->figures_len);
         memcpy(one->coins, one->view + one->figures_len, one->coins_len);
     }
@@ -117,8 +122,8 @@ static int call(unsigned s, size_t *seen)
     if (len != size(s, k, POOL_SEAT_MAIL))
         return 0;
     one->wrote_len[k] = size(s, k, POOL_SEAT_OUT);
-    uint64_t answer = pool_seat_call(plan, plan_len, (uint16_t)s, one->figures, one->figures_len, one->coins, one->coins_len, one->state,
-                                     size(s, 0, POOL_SEAT_STATE), mail, len, one->wrote[k], one->wrote_len[k]);
+    uint64_t answer = pool_seat_call(plan, plan_len, (uint16_t)s, one->figures, one->figures_len, one->coins, one->coins_len, one->triples, one->triples_len,
+                                     one->state, size(s, 0, POOL_SEAT_STATE), mail, len, one->wrote[k], one->wrote_len[k]);
     expect("a call that has all its mail", answer, 0, 0);
     expect_bytes("its mail is the bench's", mail, one->view + *seen, len);
     *seen += len;
@@ -133,6 +138,7 @@ static void in_some_order(void)
     unsigned left = seats * calls, favourite = 1 + below(seats), turns = 1 + below(8);
     for (unsigned s = 1; s <= seats; s++) {
         memset(seat[s].state, 0, sizeof seat[s].state);
+        memcpy(seat[s].triples, triples + seat[s].triples_len * (s - 1), seat[s].triples_len);
         seat[s].made = 0;
         seen[s] = seat[s].figures_len + seat[s].coins_len;
     }
@@ -144,6 +150,8 @@ static void in_some_order(void)
     }
     expect("every order ends", left, 0, 0);
     for (unsigned s = 1; s <= seats; s++) {
+        static const uint8_t spent[sizeof seat[s].triples];
+        expect_bytes("all triples are spent", seat[s].triples, spent, seat[s].triples_len);
         size_t results = seat[s].wrote_len[calls - 1];
         expect("a view is figures, coins, mail and results", seen[s] + results == seat[s].view_len ? 0 : 255, 0, 0);
         expect_bytes("the results are the bench's", seat[s].wrote[calls - 1], seat[s].view + seen[s], results);

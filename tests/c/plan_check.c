@@ -57,7 +57,8 @@ static void check_refusals(void)
     changed("gate 0 an add", 18, 2, 7, 0);
     changed("kind 0", 18, 0, 7, 0);
     changed("kind 6 with an a", 24, 6, 7, 1);
-    changed("kind 7", 24, 7, 7, 1);
+    changed("kind 7 of a later wire", 24, 7, 7, 1);
+    changed("kind 7 for the multiply", 30, 7, 0, 0);
     changed("kind 8", 24, 8, 7, 1);
     changed("second byte", 25, 1, 7, 1);
     changed("an input of party 4", 20, 4, 7, 0);
@@ -100,6 +101,30 @@ static void check_bounds(void)
     len = plan_of(plan, 1024);
     gate(plan, 1023, 2, 1023, 0);
     expect("the last gate reads itself", pool_plan_check(plan, len), 7, 1023);
+
+    /* one input, then gates of kind 7 alone: 341 of them, and one more */
+    len = plan_of(plan, 342);
+    for (unsigned g = 1; g < 342; g++) {
+        gate(plan, g, 7, 0, g - 1);
+    }
+    expect("341 gates of kind 7", pool_plan_check(plan, len), 0, 0);
+    gate(plan, 1, 7, 0, 1);
+    expect("the first of them reads itself", pool_plan_check(plan, len), 7, 1);
+    len = plan_of(plan, 344);
+    for (unsigned g = 1; g < 344; g++) {
+        gate(plan, g, 7, 0, 0);
+    }
+    expect("343 gates of kind 7", pool_plan_check(plan, len), 7, 342);
+    gate(plan, 343, 7, 0, 343);
+    expect("the limit before a later gate's wire", pool_plan_check(plan, len), 7, 342);
+    gate(plan, 300, 6, 0, 0);
+    gate(plan, 343, 7, 0, 342);
+    expect("342 gates of kind 7, one in between of kind 6", pool_plan_check(plan, len), 7, 343);
+
+    contents(plan, 3, 1, 11, 1, 0);
+    gate(plan, 0, 1, 1, 0);
+    expect("no outs", pool_plan_check(plan, 18 + 6), 0, 0);
+    expect("no outs, and a byte more", pool_plan_check(plan, 18 + 7), 6, 0);
 
     for (unsigned outs = 64; outs <= 65; outs++) {
         contents(plan, 3, 1, 11, 1, outs);

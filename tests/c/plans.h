@@ -68,6 +68,15 @@ static inline void put_list(uint8_t *at, const unsigned *numbers, unsigned count
         put(at + BYTES(i), numbers[i]);
 }
 
+/* The triples of a plan that spends none: a place that a call may be lent, and no byte. */
+static inline uint8_t *nothing(void)
+{
+    static uint8_t place[1];
+    return place;
+}
+
+#define NO_TRIPLES nothing(), 0
+
 /* A number below bound, the next of a fixed row. */
 static inline unsigned below(unsigned bound)
 {
@@ -124,6 +133,13 @@ static inline void point(uint8_t *plan, unsigned i, unsigned x)
     put_bytes(plan + get_field(plan, POINTS_AT) + width * i, width, x);
 }
 
+/* A party's point, the party counted from 0. */
+static inline unsigned point_of(const uint8_t *plan, unsigned i)
+{
+    unsigned width = version_of(plan).field;
+    return has_points(version_of(plan)) ? get_bytes(plan + get_field(plan, POINTS_AT) + width * i, width) : i + 1;
+}
+
 /* The contents of a plan with G gates and O outs, with points 1 to n in a version that has points. Answers the plan's size. */
 static inline size_t contents_in(unsigned version, uint8_t *plan, unsigned n, unsigned t, unsigned p, unsigned gates, unsigned outs)
 {
@@ -177,7 +193,7 @@ static inline void gate(uint8_t *plan, unsigned g, unsigned kind, unsigned a, un
 /* A gate of a kind, any else that the kind leaves open. */
 static inline void any_gate(uint8_t *plan, unsigned g, unsigned kind, unsigned n, unsigned p)
 {
-    unsigned wires = kind > 1 && kind < 6, constant = kind == 3 || kind == 4;
+    unsigned wires = kind > 1 && kind != 6, constant = kind == 3 || kind == 4;
     gate(plan, g, kind, kind == 1 ? 1 + below(n) : wires ? below(g) : 0, constant ? below(p) : wires ? below(g) : 0);
 }
 
@@ -236,7 +252,61 @@ static inline size_t plan_k(uint8_t *plan)
     return len;
 }
 
-/* The same with a random wire for party 2's input. */
+/* The same with its product by a triple. */
+static inline size_t plan_spending(uint8_t *plan)
+{
+    size_t len = plan_k(plan);
+    gate(plan, 2, 7, 0, 1);
+    return len;
+}
+
+/* How many triples a plan spends. */
+static inline unsigned spends_of(const uint8_t *plan)
+{
+    unsigned count = 0;
+    for (unsigned g = 0; g < get_field(plan, GATE_COUNT); g++)
+        count += gate_place(plan, g)[0] == 7;
+    return count;
+}
+
+/* The plan that prepares the triples of another one, in a version that holds it: for each gate of kind 7 two random wires and their product, and no outs. */
+static inline size_t preparing_in(unsigned version, uint8_t *to, const uint8_t *plan)
+{
+    unsigned count = spends_of(plan), n = plan[5];
+    size_t len = contents_in(version, to, n, plan[6], get_field(plan, PRIME), 3 * count, 0);
+    for (unsigned k = 0; k < count; k++) {
+        gate(to, 3 * k, 6, 0, 0);
+        gate(to, 3 * k + 1, 6, 0, 0);
+        gate(to, 3 * k + 2, 5, 3 * k, 3 * k + 1);
+    }
+    for (unsigned i = 0; has_points(version_of(to)) && has_points(version_of(plan)) && i < n; i++)
+        point(to, i, point_of(plan, i));
+    return len;
+}
+
+/* All triples of a plan, such as a preparing run makes, party by party: for each gate shares of a, b and ab, each of them by a polynomial of degree t at
+ * random. Answers their bytes. */
+static inline size_t triples_for(const uint8_t *plan, uint8_t *triples)
+{
+    unsigned n = plan[5], t = plan[6], own = 3 * spends_of(plan), p = get_field(plan, PRIME);
+    uint64_t factor[2] = {0};
+    for (unsigned k = 0; k < own; k++) {
+        uint64_t coefficients[15] = {k % 3 == 2 ? factor[0] * factor[1] % p : below(p)};
+        for (unsigned j = 1; j <= t; j++)
+            coefficients[j] = below(p);
+        if (k % 3 < 2)
+            factor[k % 3] = coefficients[0];
+        for (unsigned i = 0; i < n; i++) {
+            uint64_t share = 0;
+            for (unsigned j = t + 1; j-- > 0;)
+                share = (share * point_of(plan, i) + coefficients[j]) % p;
+            put(triples + BYTES(own * i + k), (unsigned)share);
+        }
+    }
+    return BYTES((size_t)own * n);
+}
+
+/* K with a random wire for party 2's input. */
 static inline size_t plan_drawn(uint8_t *plan)
 {
     size_t len = plan_k(plan);

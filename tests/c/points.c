@@ -53,6 +53,7 @@ static void many_plans(unsigned count)
         any_points(points, r.plan[5], get_field(r.plan, PRIME));
         other.plan_len = in_version(version, other.plan, r.plan, points);
         expect("other points", pool_plan_check(other.plan, other.plan_len), 0, 0);
+        any_triples(&other);
         other_points(&r, &other);
         matched_run(&other);
     }
@@ -81,11 +82,11 @@ static void site_codes(void)
     put_list(figures, (const unsigned[]){4, 5}, 2);
     put_list(second, (const unsigned[]){8, 2}, 2);
     put_list(coins, (const unsigned[]){2, 3, 1, 5, 7}, 5);
-    hold("sent", POOL_VALUE(pool_bench(plan, len, 4, figures, sizeof figures, coins, sizeof coins, view, sizeof view)) == 18);
+    hold("sent", POOL_VALUE(pool_bench(plan, len, 4, figures, sizeof figures, coins, sizeof coins, NO_TRIPLES, view, sizeof view)) == 18);
     listed("seat 3's view", view, (const unsigned[]){7, 10, 14, 67, 11, 60, 16, 36, 35, 24}, 10);
     expect("matched", pool_match(plan, len, 4, figures, sizeof figures, second, sizeof second, coins, sizeof coins, matched, sizeof matched), 0, 0);
     listed("matched coins", matched, (const unsigned[]){68, 4, 64, 17, 7}, 5);
-    pool_bench(plan, len, 4, second, sizeof second, matched, sizeof matched, view, sizeof view);
+    pool_bench(plan, len, 4, second, sizeof second, matched, sizeof matched, NO_TRIPLES, view, sizeof view);
     listed("seat 3's view of the matched run", view, (const unsigned[]){7, 10, 14, 67, 11, 60, 16, 36, 35, 24}, 10);
 }
 

@@ -27,8 +27,10 @@ static uint64_t kept(uint64_t answer, size_t room)
 
 static uint64_t store(const struct run *r, size_t room)
 {
+    static uint8_t triples[sizeof r->triples];
+    memcpy(triples, r->triples, r->triples_len);
     fill(room);
-    return kept(pool_record(r->plan, r->plan_len, r->figures, r->figures_len, r->coins, r->coins_len, numbers, room), room);
+    return kept(pool_record(r->plan, r->plan_len, r->figures, r->figures_len, r->coins, r->coins_len, triples, r->triples_len, numbers, room), room);
 }
 
 static uint64_t read_all(const struct run *r, const uint8_t *from, size_t len, size_t room)
@@ -315,8 +317,7 @@ static void bodies_apart(const struct run *r, uint8_t body[15][MOST_VIEW], size_
     static uint8_t next[15][MOST_WRITTEN];
     unsigned refused = 0;
     ask_sizes(r, &s);
-    memset(s.state, 0, sizeof s.state);
-    s.all_len = 0;
+    refresh(r, &s);
     for (unsigned i = 0; i < s.n; i++) {
         s.figures[i] = (size_t)POOL_VALUE(pool_seat_size(r->plan, r->plan_len, (uint16_t)(i + 1), 0, POOL_SEAT_FIGURES));
         len[i] = own_numbers(r, i + 1, body[i]);
@@ -418,7 +419,7 @@ static unsigned matched(const struct run *r)
 static void only_adds(struct run *r)
 {
     for (unsigned g = 0; g < get_field(r->plan, GATE_COUNT); g++)
-        if (gate_place(r->plan, g)[0] == 5)
+        if (gate_place(r->plan, g)[0] == 5 || gate_place(r->plan, g)[0] == 7)
             gate_place(r->plan, g)[0] = 2;
     r->plan[6] = (uint8_t)below(r->plan[5]);
     any_lists(r);
@@ -436,6 +437,7 @@ static void many_runs(unsigned count)
             pointed = r;
             any_points(points, r.plan[5], p);
             r.plan_len = in_version(2, r.plan, pointed.plan, points);
+            any_triples(&r);
         }
         if (i % 4 == 3)
             only_adds(&r);
@@ -456,7 +458,7 @@ static uint64_t large_store(size_t plan_len, size_t size)
     size_t coins_len = (size_t)POOL_VALUE(pool_run_size(plan, plan_len, 0, POOL_RUN_COINS));
     for (size_t i = 0; i < coins_len; i += BYTES(1))
         put(coins + i, below(65521));
-    return pool_record(plan, plan_len, figures, figures_len, coins, coins_len, record, size);
+    return pool_record(plan, plan_len, figures, figures_len, coins, coins_len, NO_TRIPLES, record, size);
 }
 
 /* What the bench's reader and a plant's answer. */
@@ -472,7 +474,7 @@ static void large_body(size_t plan_len, size_t size, unsigned seat)
     uint8_t *length = record + POOL_RECORD_ENTRY * seat + BYTES(1);
     unsigned body = get(length);
     hold("a large body", body > 65536);
-    pool_bench(plan, plan_len, (uint16_t)(1u << seat), figures, BYTES(15), coins, (size_t)POOL_VALUE(pool_run_size(plan, plan_len, 0, POOL_RUN_COINS)),
+    pool_bench(plan, plan_len, (uint16_t)(1u << seat), figures, BYTES(15), coins, (size_t)POOL_VALUE(pool_run_size(plan, plan_len, 0, POOL_RUN_COINS)), NO_TRIPLES,
         before, body);
     large_reads("a large body is read", plan_len, size, seat, 0);
     expect_bytes("a large body is the seat's view", numbers, before, body);

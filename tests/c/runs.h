@@ -4,12 +4,13 @@
 
 #include "plans.h"
 
-enum { MOST_GATES = 24, MOST_OUTS = 6, MOST_COINS = BYTES(15 * 21 * MOST_GATES), MOST_CALLS = 3 * MOST_GATES + 3, MOST_VIEW = BYTES(1 << 16), MOST_WRITTEN = BYTES(15 * MOST_GATES) };
+enum { MOST_GATES = 24, MOST_OUTS = 6, MOST_COINS = BYTES(15 * 21 * MOST_GATES), MOST_OWN = BYTES(3 * MOST_GATES) };
+enum { MOST_CALLS = 3 * MOST_GATES + 3, MOST_VIEW = BYTES(1 << 16), MOST_WRITTEN = BYTES(15 * MOST_GATES) };
 
-/* A plan, its figures (a random wire has one of each seat) and coins. */
+/* A plan, its figures (a random wire has one of each seat), coins and triples. */
 struct run {
-    uint8_t plan[MOST_PLAN], figures[BYTES(15 * MOST_GATES)], coins[MOST_COINS];
-    size_t plan_len, figures_len, coins_len;
+    uint8_t plan[MOST_PLAN], figures[BYTES(15 * MOST_GATES)], coins[MOST_COINS], triples[15 * MOST_OWN];
+    size_t plan_len, figures_len, coins_len, triples_len;
 };
 
 static inline size_t run_bytes(const struct run *r, unsigned set, unsigned what)
@@ -17,7 +18,13 @@ static inline size_t run_bytes(const struct run *r, unsigned set, unsigned what)
     return (size_t)POOL_VALUE(pool_run_size(r->plan, r->plan_len, (uint16_t)set, (uint16_t)what));
 }
 
-/* Figures and coins at random, now and then the largest. */
+/* Triples such as a preparing run makes. */
+static inline void any_triples(struct run *r)
+{
+    r->triples_len = triples_for(r->plan, r->triples);
+}
+
+/* Figures, coins and triples at random, now and then the largest. */
 static inline void any_lists(struct run *r)
 {
     unsigned p = get_field(r->plan, PRIME);
@@ -27,15 +34,16 @@ static inline void any_lists(struct run *r)
         put(r->figures + i, below(8) ? below(p) : p - 1);
     for (size_t i = 0; i < r->coins_len; i += BYTES(1))
         put(r->coins + i, below(8) ? below(p) : p - 1);
+    any_triples(r);
 }
 
-/* A plan of this version and prime with gates of every kind; the points are 1 to n. */
+/* A plan of this version and prime with gates of every kind, one in four with triples that are spent; the points are 1 to n. */
 static inline void any_plan(struct run *r, unsigned version, unsigned p)
 {
-    unsigned n = 1 + below(15), t = below((n + 1) / 2), gates = 1 + below(MOST_GATES), outs = 1 + below(MOST_OUTS);
+    unsigned n = 1 + below(15), t = below((n + 1) / 2), gates = 1 + below(MOST_GATES), outs = 1 + below(MOST_OUTS), kinds = below(4) ? 6 : 7;
     r->plan_len = contents_in(version, r->plan, n, t, p, gates, outs);
     for (unsigned g = 0; g < gates; g++)
-        any_gate(r->plan, g, g == 0 ? 1 : 1 + below(6), n, p);
+        any_gate(r->plan, g, g == 0 ? 1 : 1 + below(kinds), n, p);
     for (unsigned o = 0; o < outs; o++)
         out(r->plan, gates, o, 1 + below(n), below(gates));
     any_lists(r);
@@ -72,19 +80,23 @@ static inline uint16_t any_set(const uint8_t *plan)
     return (uint16_t)set;
 }
 
+/* The bench, on triples that the run keeps. */
 static inline uint64_t bench(const struct run *r, unsigned set, uint8_t *view)
 {
-    return pool_bench(r->plan, r->plan_len, (uint16_t)set, r->figures, r->figures_len, r->coins, r->coins_len, view, run_bytes(r, set, POOL_RUN_VIEW));
+    static uint8_t triples[sizeof r->triples];
+    memcpy(triples, r->triples, r->triples_len);
+    return pool_bench(r->plan, r->plan_len, (uint16_t)set, r->figures, r->figures_len, r->coins, r->coins_len, triples, r->triples_len, view,
+        run_bytes(r, set, POOL_RUN_VIEW));
 }
 
 /* ---- seats apart */
 
-/* All seats: the sizes of their lists, asked for once, since each answer checks the plan; their own figures and coins, states, what they wrote last;
- * and all states and writings of a run, in order. */
+/* All seats: the sizes of their lists, asked for once, since each answer checks the plan; their own figures and coins, triples, states, what they wrote
+ * last; and all triples, states and writings of a run, in order. */
 struct seats {
     unsigned n, calls;
-    size_t figures[15], coins[15], state_len, mail[MOST_CALLS][15], out[MOST_CALLS][15], all_len;
-    uint8_t own[15][MOST_COINS + BYTES(MOST_GATES)], state[15][BYTES(MOST_GATES + 1)], written[15][MOST_WRITTEN], all[1 << 20];
+    size_t figures[15], coins[15], state_len, triples_len, mail[MOST_CALLS][15], out[MOST_CALLS][15], all_len;
+    uint8_t own[15][MOST_COINS + BYTES(MOST_GATES)], triples[15][MOST_OWN + 1], state[15][BYTES(MOST_GATES + 1)], written[15][MOST_WRITTEN], all[1 << 20];
 };
 
 static inline void ask_sizes(const struct run *r, struct seats *s)
@@ -92,6 +104,7 @@ static inline void ask_sizes(const struct run *r, struct seats *s)
     s->n = r->plan[5];
     s->calls = (unsigned)POOL_VALUE(pool_calls(r->plan, r->plan_len));
     s->state_len = BYTES(get_field(r->plan, GATE_COUNT) + 1);
+    s->triples_len = r->triples_len / s->n;
     for (unsigned i = 0; i < s->n * s->calls; i++) {
         uint16_t seat = (uint16_t)(i % s->n + 1), call = (uint16_t)(i / s->n);
         s->mail[call][seat - 1] = (size_t)POOL_VALUE(pool_seat_size(r->plan, r->plan_len, seat, call, POOL_SEAT_MAIL));
@@ -136,11 +149,22 @@ static inline uint64_t seat_call(const struct run *r, struct seats *s, unsigned 
         mail_len += len;
     }
     uint64_t answer = pool_seat_call(r->plan, r->plan_len, (uint16_t)(seat + 1), own, s->figures[seat], own + s->figures[seat], s->coins[seat],
-        s->state[seat], s->state_len, mail, mail_len, next, out_len);
+        s->triples[seat], s->triples_len, s->state[seat], s->state_len, mail, mail_len, next, out_len);
+    memcpy(s->all + s->all_len, s->triples[seat], s->triples_len);
+    s->all_len += s->triples_len;
     memcpy(s->all + s->all_len, s->state[seat], s->state_len);
     memcpy(s->all + s->all_len + s->state_len, next, out_len);
     s->all_len += s->state_len + out_len;
     return answer;
+}
+
+/* Fresh seats: states of 0, and each seat's triples. */
+static inline void refresh(const struct run *r, struct seats *s)
+{
+    memset(s->state, 0, sizeof s->state);
+    for (unsigned i = 0; i < s->n; i++)
+        memcpy(s->triples[i], r->triples + s->triples_len * i, s->triples_len);
+    s->all_len = 0;
 }
 
 /* All calls of all seats. Each seat's results are what it wrote last. t is 1 at least, so that a seat alone is a set. */
@@ -150,8 +174,7 @@ static inline void apart(const struct run *r, struct seats *s)
     unsigned refused = 0;
     ask_sizes(r, s);
     own_lists(r, s);
-    memset(s->state, 0, sizeof s->state);
-    s->all_len = 0;
+    refresh(r, s);
     for (unsigned i = 0; i < s->n * s->calls; i++) {
         refused += seat_call(r, s, i % s->n, i / s->n, next[i % s->n]) != 0;
         if (i % s->n == s->n - 1)
@@ -162,7 +185,7 @@ static inline void apart(const struct run *r, struct seats *s)
 
 /* ---- two files of one plan */
 
-/* All states and all that is sent, in all calls. */
+/* All triples, states and all that is sent, in all calls. */
 static inline void same_calls(const struct run *r, const struct run *other)
 {
     static struct seats first, second;
@@ -170,8 +193,8 @@ static inline void same_calls(const struct run *r, const struct run *other)
         return;
     apart(r, &first);
     apart(other, &second);
-    hold("as many bytes of states and mail", first.all_len == second.all_len);
-    expect_bytes("states, mail and results of all calls", first.all, second.all, first.all_len);
+    hold("as many bytes of triples, states and mail", first.all_len == second.all_len);
+    expect_bytes("triples, states, mail and results of all calls", first.all, second.all, first.all_len);
 }
 
 /* The bench's answers and views. */
@@ -200,12 +223,14 @@ static inline void same_match(const struct run *r, const struct run *other, unsi
         expect_bytes("matched coins", matched[0], matched[1], r->coins_len);
 }
 
-/* A plan in another file, which has the plan's figures and coins from then on. */
+/* A plan in another file, which has the plan's figures, coins and triples from then on. */
 static inline void same_plan(const struct run *r, struct run *other)
 {
     uint16_t set = any_set(r->plan);
     memcpy(other->figures, r->figures, sizeof r->figures);
     memcpy(other->coins, r->coins, sizeof r->coins);
+    memcpy(other->triples, r->triples, sizeof r->triples);
+    other->triples_len = r->triples_len;
     other->figures_len = r->figures_len;
     other->coins_len = r->coins_len;
     same_bench(r, other, set);

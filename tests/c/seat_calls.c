@@ -20,7 +20,7 @@ static size_t mail_bytes[SEATS];
 static uint64_t call(unsigned seat, const uint8_t *m, size_t m_len, uint8_t *o, size_t o_len)
 {
     unsigned s = seat - 1;
-    return pool_seat_call(plan, plan_len, (uint16_t)seat, figures[s], figure_bytes[s], coins[s], coin_bytes[s], state[s], sizeof state[s], m, m_len, o,
+    return pool_seat_call(plan, plan_len, (uint16_t)seat, figures[s], figure_bytes[s], coins[s], coin_bytes[s], NO_TRIPLES, state[s], sizeof state[s], m, m_len, o,
                           o_len);
 }
 
@@ -98,17 +98,17 @@ static void refusals(void)
     size_t out_len = size(1, 0, POOL_SEAT_OUT);
     put_list(bad, (const unsigned[]){11, 1}, 2);
     memset(state, 0, sizeof state);
-    expect("seat 0", pool_seat_call(plan, plan_len, 0, none, 0, none, 0, state[0], sizeof fresh, none, 0, o, 0), 9, 0);
-    expect("seat 4", pool_seat_call(plan, plan_len, 4, none, 0, none, 0, state[0], sizeof fresh, none, 0, o, 0), 9, 0);
+    expect("seat 0", pool_seat_call(plan, plan_len, 0, none, 0, none, 0, NO_TRIPLES, state[0], sizeof fresh, none, 0, o, 0), 9, 0);
+    expect("seat 4", pool_seat_call(plan, plan_len, 4, none, 0, none, 0, NO_TRIPLES, state[0], sizeof fresh, none, 0, o, 0), 9, 0);
     size_t one = BYTES(1), two = BYTES(2);
     for (size_t over = 1; over < BYTES(1); over++) {
-        expect("bytes left over in figures", pool_seat_call(plan, plan_len, 1, bad, over, coins[0], two, state[0], sizeof fresh, none, 0, o, out_len), 10, 0);
-        expect("and after them", pool_seat_call(plan, plan_len, 1, bad, one + over, coins[0], two, state[0], sizeof fresh, none, 0, o, out_len), 10, 0);
+        expect("bytes left over in figures", pool_seat_call(plan, plan_len, 1, bad, over, coins[0], two, NO_TRIPLES, state[0], sizeof fresh, none, 0, o, out_len), 10, 0);
+        expect("and after them", pool_seat_call(plan, plan_len, 1, bad, one + over, coins[0], two, NO_TRIPLES, state[0], sizeof fresh, none, 0, o, out_len), 10, 0);
     }
-    expect("a figure of p", pool_seat_call(plan, plan_len, 1, bad, one, coins[0], two, state[0], sizeof fresh, none, 0, o, out_len), 11, 0);
-    expect("too few coins", pool_seat_call(plan, plan_len, 1, figures[0], one, coins[0], one, state[0], sizeof fresh, none, 0, o, out_len), 12, 0);
-    expect("a coin of p", pool_seat_call(plan, plan_len, 1, figures[0], one, bad, two, state[0], sizeof fresh, none, 0, o, out_len), 13, 0);
-    expect("a short state", pool_seat_call(plan, plan_len, 1, figures[0], one, coins[0], two, state[0], sizeof fresh - 1, none, 0, o, out_len), 14, 0);
+    expect("a figure of p", pool_seat_call(plan, plan_len, 1, bad, one, coins[0], two, NO_TRIPLES, state[0], sizeof fresh, none, 0, o, out_len), 11, 0);
+    expect("too few coins", pool_seat_call(plan, plan_len, 1, figures[0], one, coins[0], one, NO_TRIPLES, state[0], sizeof fresh, none, 0, o, out_len), 12, 0);
+    expect("a coin of p", pool_seat_call(plan, plan_len, 1, figures[0], one, bad, two, NO_TRIPLES, state[0], sizeof fresh, none, 0, o, out_len), 13, 0);
+    expect("a short state", pool_seat_call(plan, plan_len, 1, figures[0], one, coins[0], two, NO_TRIPLES, state[0], sizeof fresh - 1, none, 0, o, out_len), 14, 0);
     put(state[0] + BYTES(1), 11);
     expect("a share of p", call(1, none, 0, o, out_len), 15, 0);
     put(state[0] + BYTES(1), 0);

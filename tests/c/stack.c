@@ -10,19 +10,23 @@
 
 enum { GATES = 1024, OUTS = 64, PAGE = 4096, PAINT = 0xa5 };
 
-static uint8_t plan[MOST_PLAN], figures[BYTES(15 * GATES)], coins[BYTES(330000)], buffer[BYTES(1100000)];
-static uint8_t stored[BYTES(1100000)];
+static uint8_t plan[MOST_PLAN], figures[BYTES(15 * GATES)], coins[BYTES(450000)], buffer[BYTES(1100000)];
+static uint8_t stored[BYTES(1100000)], triples[BYTES(3 * 341 * 15 + 1)];
 static uint8_t state[BYTES(2 * GATES)], mail[BYTES(20000)], written[BYTES(20000)];
 static size_t plan_len;
 
-/* n inputs of party 1, then multiplies, or adds where there is no majority, or random wires, each second one in the place of a multiply; all outs go to
- * party 1. The prime is the largest of the version. */
-static void largest(unsigned version, unsigned n, unsigned t, int draws)
+/* n inputs of party 1, then multiplies, or adds where there is no majority, or random wires, each second one in the place of a multiply; or the most
+ * triples, and multiplies after them. All outs go to party 1. The prime is the largest of the version. */
+enum made { PRODUCTS, DRAWS, TRIPLES };
+
+static void largest(unsigned version, unsigned n, unsigned t, enum made made)
 {
     unsigned worked = 2 * t < n ? 5 : 2;
     plan_len = contents_in(version, plan, n, t, version < 3 ? 65521 : MOST_PRIME, GATES, OUTS);
     for (unsigned g = 0; g < GATES; g++)
-        if (draws && g >= n && (g % 2 || worked == 2))
+        if (made == TRIPLES && g >= n && g < n + 341 && worked == 5)
+            gate(plan, g, 7, g - 1, g / 2);
+        else if (made == DRAWS && g >= n && (g % 2 || worked == 2))
             gate(plan, g, 6, 0, 0);
         else
             gate(plan, g, g < n ? 1 : worked, g < n ? 1 : g - 1, g < n ? 0 : g / 2);
@@ -49,13 +53,13 @@ static uint16_t last_parties(void)
 static uint64_t bench(void)
 {
     uint16_t set = last_parties();
-    uint64_t answer = pool_bench(plan, plan_len, set, figures, run_size(set, 0), coins, run_size(set, 1), buffer, run_size(set, 2));
+    uint64_t answer = pool_bench(plan, plan_len, set, figures, run_size(set, 0), coins, run_size(set, 1), triples, run_size(set, 3), buffer, run_size(set, 2));
     return POOL_REFUSAL(answer);
 }
 
 static uint64_t record(void)
 {
-    return pool_record(plan, plan_len, figures, run_size(0, 0), coins, run_size(0, 1), stored, POOL_VALUE(pool_record_size(plan, plan_len)));
+    return pool_record(plan, plan_len, figures, run_size(0, 0), coins, run_size(0, 1), triples, run_size(0, 3), stored, POOL_VALUE(pool_record_size(plan, plan_len)));
 }
 
 /* Both readers of the record that was written last. */
@@ -71,7 +75,7 @@ static uint64_t read_record(void)
 /* Whether the last parties' views are not counted: where the others have coins of products, or a wire is random. */
 static int many_settings(void)
 {
-    return gate_place(plan, GATES - 1)[0] == 6 || (plan[6] && 2 * plan[6] < plan[5]);
+    return gate_place(plan, GATES - 1)[0] == 6 || spends_of(plan) || (plan[6] && 2 * plan[6] < plan[5]);
 }
 
 /* The views of parties that have all coins, of which there is one setting: the last t parties, where all inputs are theirs and nothing is
@@ -106,7 +110,21 @@ static uint64_t match(void)
     uint16_t set = last_parties();
     static uint8_t second[sizeof figures];
     put(second, 7);
-    return pool_match(plan, plan_len, set, figures, run_size(set, 0), second, run_size(set, 0), coins, run_size(set, 1), buffer, run_size(set, 1));
+    uint64_t answer = pool_match(plan, plan_len, set, figures, run_size(set, 0), second, run_size(set, 0), coins, run_size(set, 1), buffer, run_size(set, 1));
+    return answer - (spends_of(plan) ? 29 : 0);
+}
+
+/* The main plan with its preparing one, in the same version. */
+static uint64_t match_prepared(void)
+{
+    static uint8_t second[sizeof figures], preparing[MOST_PLAN];
+    uint16_t set = last_parties();
+    size_t len = preparing_in(plan[4], preparing, plan);
+    if (!spends_of(plan))
+        return 0;
+    size_t drawn = POOL_VALUE(pool_run_size(preparing, len, 0, 0)) + POOL_VALUE(pool_run_size(preparing, len, 0, 1)) + run_size(0, 1);
+    put(second, 7);
+    return pool_match_prepared(preparing, len, plan, plan_len, set, figures, run_size(set, 0), second, run_size(set, 0), coins, drawn, buffer, drawn);
 }
 
 static uint64_t first_calls(void)
@@ -114,8 +132,8 @@ static uint64_t first_calls(void)
     uint64_t answer = 0;
     memset(state, 0, sizeof state);
     for (uint16_t call = 0; call < 4 && call < POOL_VALUE(pool_calls(plan, plan_len)) && !answer; call++)
-        answer = pool_seat_call(plan, plan_len, 1, figures, seat_size(call, 0), coins, seat_size(call, 1), state, seat_size(call, 2), mail,
-            seat_size(call, 3), written, seat_size(call, 4));
+        answer = pool_seat_call(plan, plan_len, 1, figures, seat_size(call, 0), coins, seat_size(call, 1), triples, seat_size(call, 5), state,
+            seat_size(call, 2), mail, seat_size(call, 3), written, seat_size(call, 4));
     return answer;
 }
 
@@ -124,14 +142,14 @@ static uint64_t last_call(void)
     uint16_t call = (uint16_t)(POOL_VALUE(pool_calls(plan, plan_len)) - 1);
     memset(state, 0, sizeof state);
     put(state, call);
-    return pool_seat_call(plan, plan_len, 1, figures, seat_size(call, 0), coins, seat_size(call, 1), state, seat_size(call, 2), mail,
-        seat_size(call, 3), written, seat_size(call, 4));
+    return pool_seat_call(plan, plan_len, 1, figures, seat_size(call, 0), coins, seat_size(call, 1), triples, seat_size(call, 5), state,
+        seat_size(call, 2), mail, seat_size(call, 3), written, seat_size(call, 4));
 }
 
 static uint64_t small(void)
 {
     uint64_t refusals = POOL_REFUSAL(pool_plan_check(plan, plan_len)) + POOL_REFUSAL(pool_calls(plan, plan_len));
-    for (uint16_t what = 0; what < 5; what++)
+    for (uint16_t what = 0; what < 6; what++)
         refusals += POOL_REFUSAL(pool_seat_size(plan, plan_len, 1, 1, what)) + POOL_REFUSAL(pool_run_size(plan, plan_len, 0, what));
     uint8_t parts[60];
     refusals += POOL_REFUSAL(pool_charge(plan, plan_len, 999999, parts, 4u * plan[5]));
@@ -243,6 +261,7 @@ static void plan_calls(void)
     on_stack("pool_record", record, POOL_STACK_BENCH);
     on_stack("the record's size and readers", read_record, POOL_STACK_SEAT);
     on_stack("pool_match", match, POOL_STACK_MATCH);
+    on_stack("pool_match_prepared", match_prepared, POOL_STACK_PREPARED);
     on_stack("pool_seat_call, the first calls", first_calls, POOL_STACK_SEAT);
     on_stack("pool_seat_call, the last call", last_call, POOL_STACK_SEAT);
     on_stack("plan check, sizes and charge", small, POOL_STACK_SEAT);
@@ -254,10 +273,10 @@ int main(void)
 {
     static const unsigned shapes[][2] = {{15, 14}, {15, 7}, {3, 1}, {1, 0}};
     for (unsigned k = 0; k < 4 * VERSIONS; k++) {
-        largest(1 + k / 4, shapes[k % 4][0], shapes[k % 4][1], 0);
-        plan_calls();
-        largest(1 + k / 4, shapes[k % 4][0], shapes[k % 4][1], 1);
-        plan_calls();
+        for (enum made made = PRODUCTS; made <= TRIPLES; made++) {
+            largest(1 + k / 4, shapes[k % 4][0], shapes[k % 4][1], made);
+            plan_calls();
+        }
     }
     on_stack("pool_count, many settings", count_settings, POOL_STACK_COUNT);
     on_stack("pool_import", import, POOL_STACK_IMPORT);

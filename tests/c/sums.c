@@ -49,7 +49,7 @@ static void lecture(void)
     list(c, coins, 8);
     list(want, view, 24);
     hold("a view of 24 numbers", run_size(9, POOL_RUN_VIEW) == sizeof v);
-    hold("its run", POOL_REFUSAL(pool_bench(plan, plan_len, 9, f, sizeof f, c, sizeof c, v, sizeof v)) == 0);
+    hold("its run", POOL_REFUSAL(pool_bench(plan, plan_len, 9, f, sizeof f, c, sizeof c, NO_TRIPLES, v, sizeof v)) == 0);
     expect_bytes("its view", v, want, sizeof v);
     for (unsigned k = 0; k < 2; k++) {
         uint8_t again[BYTES(24)];
@@ -57,10 +57,10 @@ static void lecture(void)
         expect("its matching", pool_match(plan, plan_len, 9, f, sizeof f, s, sizeof s, c, sizeof c, m, sizeof m), 0, 0);
         list(want, matched[k], 8);
         expect_bytes("its coins", m, want, sizeof m);
-        hold("the matched run", POOL_REFUSAL(pool_bench(plan, plan_len, 9, s, sizeof s, m, sizeof m, again, sizeof again)) == 0);
+        hold("the matched run", POOL_REFUSAL(pool_bench(plan, plan_len, 9, s, sizeof s, m, sizeof m, NO_TRIPLES, again, sizeof again)) == 0);
         expect_bytes("the same view", again, v, sizeof v);
     }
-    expect("a set of three", POOL_REFUSAL(pool_bench(plan, plan_len, 7, f, sizeof f, c, sizeof c, v, sizeof v)), 9, 0);
+    expect("a set of three", POOL_REFUSAL(pool_bench(plan, plan_len, 7, f, sizeof f, c, sizeof c, NO_TRIPLES, v, sizeof v)), 9, 0);
 }
 
 /* Seats apart, all calls: every seat gets the sum. */
@@ -73,7 +73,7 @@ static void apart(unsigned n, const uint8_t *figures, const uint8_t *coins, unsi
     for (unsigned k = 0; k < 3; k++) {
         for (unsigned i = 0; i < n; i++) {
             size_t out_len = k < 2 ? BYTES(n) : BYTES(1);
-            taken &= pool_seat_call(plan, plan_len, (uint16_t)(i + 1), figures + BYTES(i), BYTES(1), coins + BYTES(t * i), BYTES(t), state[i], BYTES(gates + 1), mail[i],
+            taken &= pool_seat_call(plan, plan_len, (uint16_t)(i + 1), figures + BYTES(i), BYTES(1), coins + BYTES(t * i), BYTES(t), NO_TRIPLES, state[i], BYTES(gates + 1), mail[i],
                                     k ? BYTES(n) : 0, written, out_len) == 0;
             for (unsigned to = 0; k < 2 && to < n; to++)
                 memcpy(next[to] + BYTES(i), written + BYTES(to), BYTES(1));
@@ -101,7 +101,7 @@ static void largest(unsigned n, unsigned p)
     for (size_t i = 0; i < coins_len; i += BYTES(1))
         put(coins + i, below(p));
     apart(n, figures, coins, t, total);
-    hold("the run", POOL_REFUSAL(pool_bench(plan, plan_len, (uint16_t)set, figures, figures_len, coins, coins_len, view, view_len)) == 0);
+    hold("the run", POOL_REFUSAL(pool_bench(plan, plan_len, (uint16_t)set, figures, figures_len, coins, coins_len, NO_TRIPLES, view, view_len)) == 0);
     /* the lists agree at the members and in the sum, so the lists are the same; the matching hands the coins back */
     memcpy(second, figures, figures_len);
     expect("the matching", pool_match(plan, plan_len, (uint16_t)set, figures, figures_len, second, figures_len, coins, coins_len, matched, coins_len), 0, 0);
@@ -111,9 +111,9 @@ static void largest(unsigned n, unsigned p)
         out(plan, 2 * n - 1, o, alone + 1, 2 * n - 2);
     view_len = run_size(set, POOL_RUN_VIEW);
     put(second + BYTES(alone), (get(figures + BYTES(alone)) + 1) % p);
-    hold("the first run", POOL_REFUSAL(pool_bench(plan, plan_len, (uint16_t)set, figures, figures_len, coins, coins_len, view, view_len)) == 0);
+    hold("the first run", POOL_REFUSAL(pool_bench(plan, plan_len, (uint16_t)set, figures, figures_len, coins, coins_len, NO_TRIPLES, view, view_len)) == 0);
     expect("the matching", pool_match(plan, plan_len, (uint16_t)set, figures, figures_len, second, figures_len, coins, coins_len, matched, coins_len), 0, 0);
-    hold("the matched run", POOL_REFUSAL(pool_bench(plan, plan_len, (uint16_t)set, second, figures_len, matched, coins_len, other, view_len)) == 0);
+    hold("the matched run", POOL_REFUSAL(pool_bench(plan, plan_len, (uint16_t)set, second, figures_len, matched, coins_len, NO_TRIPLES, other, view_len)) == 0);
     expect_bytes("the same view", other, view, view_len);
     hold("its last coin moves", n == 1 || get(coins + BYTES(t * (alone + 1) - 1)) != get(matched + BYTES(t * (alone + 1) - 1)));
     expect("all seats are too many", POOL_REFUSAL(pool_run_size(plan, plan_len, (uint16_t)((1u << n) - 1), POOL_RUN_VIEW)), 9, 0);

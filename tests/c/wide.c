@@ -268,6 +268,7 @@ static void many_plans(unsigned count)
         any_points(points, r.plan[5], p);
         for (unsigned i = 0; i < r.plan[5]; i++)
             point(r.plan, i, points[i]);
+        any_triples(&r);
         values_of(&r, value);
         right(&r, value);
         matches += matched(&r);
@@ -283,13 +284,13 @@ static void lists(void)
     size_t len = wide_k(k);
     put(figures, MOST_PRIME - 1);
     put(coins, MOST_PRIME - 1);
-    expect("numbers of p - 1", POOL_REFUSAL(pool_bench(k, len, 4, figures, sizeof figures, coins, sizeof coins, view, sizeof view)), 0, 0);
+    expect("numbers of p - 1", POOL_REFUSAL(pool_bench(k, len, 4, figures, sizeof figures, coins, sizeof coins, NO_TRIPLES, view, sizeof view)), 0, 0);
     for (unsigned i = 0; i < 3; i++) {
         put(figures + BYTES(1), over[i]);
-        expect("a figure not below p", pool_bench(k, len, 4, figures, sizeof figures, coins, sizeof coins, view, sizeof view), 11, 1);
+        expect("a figure not below p", pool_bench(k, len, 4, figures, sizeof figures, coins, sizeof coins, NO_TRIPLES, view, sizeof view), 11, 1);
         put(figures + BYTES(1), 0);
         put(coins + BYTES(4), over[i]);
-        expect("a coin not below p", pool_bench(k, len, 4, figures, sizeof figures, coins, sizeof coins, view, sizeof view), 13, 4);
+        expect("a coin not below p", pool_bench(k, len, 4, figures, sizeof figures, coins, sizeof coins, NO_TRIPLES, view, sizeof view), 13, 4);
         put(coins + BYTES(4), 0);
     }
 }

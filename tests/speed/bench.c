@@ -234,12 +234,13 @@ size_t view_size(const struct shape *s, u16 set)
     return part_view(s, set, &none, members, &count);
 }
 
-u64 limit_bench(const u8 *plan, size_t plan_len, u16 set, const u8 *figures, size_t figures_len, const u8 *coins, size_t coins_len, u8 *view,
-    size_t view_len)
+u64 limit_bench(const u8 *plan, size_t plan_len, u16 set, const u8 *figures, size_t figures_len, const u8 *coins, size_t coins_len, u8 *triples,
+    size_t triples_len, u8 *view, size_t view_len)
 {
     struct shape s;
     struct tables x;
-    if (read_shape(plan, plan_len, &s) || set >> s.n || (unsigned)__builtin_popcount(set) > s.t)
+    (void)triples;
+    if (triples_len || read_shape(plan, plan_len, &s) || set >> s.n || (unsigned)__builtin_popcount(set) > s.t)
         return 1;
     size_t dealings = s.inputs + product_pieces(&s) * s.multiplies;
     if (wrong_list(figures, figures_len, s.inputs, (u32)s.f.p) || wrong_list(coins, coins_len, all_coins(&s), (u32)s.f.p) ||

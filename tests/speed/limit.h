@@ -1,6 +1,6 @@
 /* What the library is timed against: its calls written by hand in C, for plain x86-64 with explicit vectors. On a call without a fault they write the
  * bytes that the library writes and answer what it answers. They look for every fault that it looks for, but do not tell one from another: the
- * answer is 1 then. Plans with random wires are checked alone: the other calls answer 1 for them. */
+ * answer is 1 then. Plans with random wires or triples are checked alone: the other calls answer 1 for them. */
 #ifndef LIMIT_H
 #define LIMIT_H
 
@@ -17,10 +17,10 @@ typedef uint64_t u64;
 #define INLINE static inline __attribute__((always_inline))
 
 u64 limit_plan_check(const u8 *plan, size_t plan_len);
-u64 limit_bench(const u8 *plan, size_t plan_len, u16 set, const u8 *figures, size_t figures_len, const u8 *coins, size_t coins_len, u8 *view,
-    size_t view_len);
-u64 limit_seat_call(const u8 *plan, size_t plan_len, u16 seat, const u8 *figures, size_t figures_len, const u8 *coins, size_t coins_len, u8 *state,
-    size_t state_len, const u8 *mail, size_t mail_len, u8 *out, size_t out_len);
+u64 limit_bench(const u8 *plan, size_t plan_len, u16 set, const u8 *figures, size_t figures_len, const u8 *coins, size_t coins_len, u8 *triples,
+    size_t triples_len, u8 *view, size_t view_len);
+u64 limit_seat_call(const u8 *plan, size_t plan_len, u16 seat, const u8 *figures, size_t figures_len, const u8 *coins, size_t coins_len, u8 *triples,
+    size_t triples_len, u8 *state, size_t state_len, const u8 *mail, size_t mail_len, u8 *out, size_t out_len);
 u64 limit_match(const u8 *plan, size_t plan_len, u16 set, const u8 *first, size_t first_len, const u8 *second, size_t second_len, const u8 *coins,
     size_t coins_len, u8 *matched, size_t matched_len);
 u64 limit_count(const u8 *plan, size_t plan_len, u16 set, const u8 *figures, size_t figures_len, const u8 *coins, size_t coins_len, u8 *rows,
@@ -118,7 +118,7 @@ struct shape {
     unsigned width, gate;                /* the bytes of a number of the file, and of a gate */
     const u8 *gates_at, *outs_at;
     u32 points[16];
-    unsigned inputs, multiplies, draws, own; /* the last: inputs of the seat that was asked for */
+    unsigned inputs, multiplies, draws, spends, own; /* the last: inputs of the seat that was asked for */
     unsigned inputs_of[16], outs_of[16]; /* by seat, from 1 on */
 };
 

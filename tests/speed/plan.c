@@ -54,7 +54,7 @@ static int is_prime(u32 p)
 INLINE unsigned wrong_gates(struct shape *s, unsigned seat, unsigned width)
 {
     const u8 *at = s->gates_at;
-    unsigned wrong = 0, multiplies = 0, inputs = 0, draws = 0, own = 0, gates = s->gates, n = s->n;
+    unsigned wrong = 0, multiplies = 0, inputs = 0, draws = 0, spends = 0, own = 0, gates = s->gates, n = s->n;
     u32 p = (u32)s->f.p;
     for (unsigned g = 0; g < gates; g++, at += 2 + 2 * width) {
         unsigned kind = at[0];
@@ -67,6 +67,8 @@ INLINE unsigned wrong_gates(struct shape *s, unsigned seat, unsigned width)
             wrong |= (a - 1 >= n) | b;
             inputs++;
             own += a == seat;
+        } else if (kind == 7) {
+            wrong |= (a >= g) | (b >= g) | (++spends > 341);
         } else if (kind == 6) {
             wrong |= (a | b) != 0;
             draws++;
@@ -77,6 +79,7 @@ INLINE unsigned wrong_gates(struct shape *s, unsigned seat, unsigned width)
     s->multiplies = multiplies;
     s->inputs = inputs;
     s->draws = draws;
+    s->spends = spends;
     s->own = own;
     return wrong;
 }
@@ -103,7 +106,7 @@ int read_plan(const u8 *plan, size_t len, unsigned seat, struct shape *s)
         return 1;
     u32 gates_at = get_of(plan + 8 + width, width), gates = get_of(plan + 8 + 2 * width, width);
     u32 outs_at = get_of(plan + 8 + 3 * width, width), outs = get_of(plan + 8 + 4 * width, width);
-    if (gates_at != head || gates - 1 > 1023 || outs_at != head + (2 + 2 * width) * gates || outs - 1 > 63)
+    if (gates_at != head || gates - 1 > 1023 || outs_at != head + (2 + 2 * width) * gates || outs > 64)
         return 1;
     u32 points_at = outs_at + 3 * outs;
     if (len != points_at + (plan[4] == 1 ? 0 : width * n) || (plan[4] != 1 && get_of(plan + 8 + 5 * width, width) != points_at))
@@ -113,7 +116,7 @@ int read_plan(const u8 *plan, size_t len, unsigned seat, struct shape *s)
     wrong = width == 2 ? wrong_gates(s, seat, 2) : wrong_gates(s, seat, 4);
     for (unsigned o = 0; o < outs; o++)
         wrong |= (s->outs_at[3 * o] - 1u >= n) | (out_wire(s->outs_at + 3 * o) >= gates);
-    wrong |= s->multiplies && 2 * s->t >= n;
+    wrong |= (s->multiplies || s->spends) && 2 * s->t >= n;
     for (unsigned i = 0; i < n; i++)
         s->points[i] = i + 1;
     s->dealers = !s->multiplies ? 0 : s->masks ? n : 2 * s->t + 1;
@@ -145,7 +148,7 @@ void count_outs(struct shape *s)
 
 int read_shape(const u8 *plan, size_t plan_len, struct shape *s)
 {
-    if (read_plan(plan, plan_len, 0, s) || s->draws)
+    if (read_plan(plan, plan_len, 0, s) || s->draws || s->spends)
         return 1;
     count_inputs(s);
     count_outs(s);

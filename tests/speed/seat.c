@@ -201,12 +201,13 @@ static int give_results(const struct call *c)
     return 0;
 }
 
-u64 limit_seat_call(const u8 *plan, size_t plan_len, u16 seat, const u8 *figures, size_t figures_len, const u8 *coins, size_t coins_len, u8 *state,
-    size_t state_len, const u8 *mail, size_t mail_len, u8 *out, size_t out_len)
+u64 limit_seat_call(const u8 *plan, size_t plan_len, u16 seat, const u8 *figures, size_t figures_len, const u8 *coins, size_t coins_len, u8 *triples,
+    size_t triples_len, u8 *state, size_t state_len, const u8 *mail, size_t mail_len, u8 *out, size_t out_len)
 {
+    (void)triples;
     struct call c = {.seat = seat, .figures = figures, .coins = coins, .mail = mail, .shares = state + 4, .out = out};
     const struct shape *s = &c.s;
-    if (read_plan(plan, plan_len, seat, &c.s) || s->draws || seat < 1 || seat > s->n || state_len != 4 * (1 + (size_t)s->gates))
+    if (triples_len || read_plan(plan, plan_len, seat, &c.s) || s->draws || s->spends || seat < 1 || seat > s->n || state_len != 4 * (1 + (size_t)s->gates))
         return 1;
     c.number = get4(state);
     c.deals = seat <= s->dealers;

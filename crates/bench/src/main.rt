@@ -1,4 +1,4 @@
-// The bench program: reads a plan, a set, figures and coins from standard input, and prints the set's view of the run.
+// The bench program: reads a plan, a set, figures, coins and triples from standard input, and prints the set's view of the run.
 #![tactic(auto)]
 
 ghost use Rattle.std.specs.Prelude.{◌≤◌, length};

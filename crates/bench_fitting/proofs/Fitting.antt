@@ -7,9 +7,10 @@
 use Rattle.std.proofs.Common.{Ok, Err}
 use Prim.Native.Nat.{ℕ, zero, suc, ◌+◌, ◌*◌, ◌/◌, ◌%◌, ◌<◌, ◌≤◌}
 use mathlib.Core.Path.{◌≡◌, refl, sym, ap, subst, ◌∙◌}
+use mathlib.Core.Logic.{⊎_elim}
 use mathlib.Core.Bool.{Bool, true, false, cond}
 use mathlib.Core.List.{List, [], ◌∷◌, ◌++◌, map, flat_map}
-use native.Mathlib.Nat.{mul-le-mul, mul-suc, add-mul, mul_comm, mul_assoc}
+use native.Mathlib.Nat.{mul-le-mul, mul-suc, mul-add, add-mul, mul-zero, zero-mul, mul_comm, mul_assoc}
 use native.Mathlib.Omega.{arith}
 use borrow.Author.Rules.{rules}
 use borrow.Author.Tests.{lt-ltb, ltb-false}
@@ -31,7 +32,7 @@ use Rattle.plan.specs.declared.Header.{Header}
 use Rattle.plan.specs.declared.Output.{Output}
 use Rattle.plan.specs.Refusals.{Checked}
 use Rattle.plan.specs.Refusals.{first_of, number_of, place_of}
-use Rattle.plan.specs.Plans.{Plan, party_count, kind_count, input_owners, coin_owners, steps, step_at, last_call, received, input_count, coin_count, own_out_count, own_inputs, own_coins, out_wires, out_wires_of, mail_count, sent_count}
+use Rattle.plan.specs.Plans.{Plan, party_count, kind_count, input_owners, coin_owners, steps, step_at, last_call, received, input_count, coin_count, triple_numbers, own_out_count, own_inputs, own_coins, out_wires, out_wires_of, mail_count, sent_count}
 use Rattle.plan.specs.File.{rule_for, version_at, plan_checks, plan_check, plan_of, n_at, t_at, p_at, gate_count_at, out_count_at}
 use Rattle.plan.specs.Planned.{Planned}
 use Rattle.plan.proofs.Refusals.{first_of-append, passed_both}
@@ -39,14 +40,14 @@ use Rattle.field.specs.Field.{Ready}
 use Rattle.field.proofs.Primes.{prime_sound}
 use Rattle.plan.proofs.Planned.{passing, modulus_prime, modulus_small, planned, plan_t, plan_n, plan_gates, plan_outs}
 use Rattle.plan.proofs.Wires.{out_wires_few}
-use Rattle.plan.proofs.Valid.{Valid, valid, sized, plain, plain_no_7}
+use Rattle.plan.proofs.Valid.{Valid, valid, sized, few_spends, none_or_majority}
 use Rattle.plan_coalition.specs.Coalitions.{in_set, members, set_fits}
 use Rattle.plan_coalition.proofs.Coalitions.{set_ok_lem, member_in, all-members, member_party}
 use Rattle.plan_coalition.proofs.Owned.{own-most}
 use Rattle.run_protocol.specs.Rounds.{mail_to, after, results, view_count}
 use Rattle.run_protocol.specs.Settings.{Inputs, Coins}
-use Rattle.run_protocol.proofs.Expected.{Tabled}
-use Rattle.run_protocol.proofs.Given.{tabled-none}
+use Rattle.run_protocol.specs.Tables.{Tabled, triples_of}
+use Rattle.run_protocol.proofs.Given.{tabled_list}
 use Rattle.run_protocol.proofs.Owners.{length-own}
 use Rattle.run_protocol.proofs.Counts.{mail_count_lem}
 use Rattle.run_protocol.proofs.Runs.{run-mail, steps-tab}
@@ -55,11 +56,12 @@ use Rattle.run_protocol.proofs.Below.{mail_below}
 use Rattle.match_privacy.proofs.SetMembers.{set_few}
 use Rattle.run_dealings.specs.Rows.{Given}
 use Rattle.run_bench.specs.BenchCalls.{run_checks, bench_answer}
+use Rattle.run_bench.specs.Checks.{lent_checks}
 use Rattle.run_protocol.proofs.ViewCounts.{gate_mail, mail-total, coins-by-mail, calls-by-mail}
 use Rattle.run_bench.proofs.BenchLaws.{passed-set, passed-given}
 use Rattle.bench_text.specs.Decimals.{digits, decimal, field, line}
-use Rattle.bench_lines.specs.Report.{plan_word, view_word, round_word, out_word, sent_word, refused_word, plan_line, view_line, round_line, member_lines, out_lines_from, run_lines, answer_lines, plan_part, set_part, figures_part, coins_part, unreadable, bench_of, report, list_part, input_width, lent}
-use Rattle.bench_report.proofs.Answering.{width_at_least}
+use Rattle.bench_lines.specs.Report.{plan_word, view_word, round_word, out_word, sent_word, refused_word, plan_line, view_line, round_line, member_lines, out_lines_from, run_lines, answer_lines, plan_part, set_part, figures_part, rest_part, coin_bytes, coins_part, triples_part, unreadable, bench_of, report, list_part, input_width, lent}
+use Rattle.bench_report.proofs.Answering.{passed_lent, width_at_least}
 use Rattle.bench_text.specs.Texts.{Reported}
 use Rattle.bench_fitting.specs.Fitting.{longest, Fitting, Whole}
 
@@ -164,8 +166,9 @@ header_planned : (bytes : List ℕ) (passes : plan_check bytes ≡ (Ok tt)) → 
 header_planned bytes passes = planned bytes (header bytes passes) passes (record { n = refl; t = refl; p = refl; gates = refl; outs = refl; rule = refl })
 
 -- ---- the lines of a run that passes, of a list of so many numbers
-module _ (bytes xs cs : List ℕ) (passes : plan_check bytes ≡ (Ok tt)) (inputs : Inputs (plan_of bytes) xs) (settings : Coins (plan_of bytes) cs)
-    (few : input_count (plan_of bytes) + coin_count (plan_of bytes) ≤ 16384) where
+module _ (bytes xs cs ts : List ℕ) (passes : plan_check bytes ≡ (Ok tt)) (inputs : Inputs (plan_of bytes) xs) (settings : Coins (plan_of bytes) cs)
+    (all_triples : length ts ≡ party_count (plan_of bytes) * triple_numbers (plan_of bytes))
+    (few : input_count (plan_of bytes) + coin_count (plan_of bytes) + length ts ≤ 16384) where
   abbrev plan : Plan
   plan = plan_of bytes
 
@@ -181,11 +184,11 @@ module _ (bytes xs cs : List ℕ) (passes : plan_check bytes ≡ (Ok tt)) (input
   above : 0 < plan.p
   above = pos ok.prime
 
-  no-spent : kind_count (plan_of bytes) 7 ≡ 0
-  no-spent = plain_no_7 (plan_of bytes) (plain bytes passes)
+  abbrev tf : List (ℕ → ℕ)
+  tf = triples_of (plan_of bytes) ts
 
-  tabled : Tabled (plan_of bytes) [] []
-  tabled = tabled-none (plan_of bytes) [] no-spent
+  tabled : Tabled (plan_of bytes) ts tf
+  tabled = tabled_list (plan_of bytes) ok ts all_triples
 
   prime-few : plan.p ≤ limit
   prime-few = (sized bytes passes).few
@@ -220,71 +223,114 @@ module _ (bytes xs cs : List ℕ) (passes : plan_check bytes ≡ (Ok tt)) (input
           count_where-append (eqb i) (input_owners plan) (coin_owners plan),
         )
 
-    round-line : (r : ℕ) → r < last_call plan → length (round_line plan xs cs i r) ≤ 17 + 11 * received plan i (step_at plan r)
+    round-line : (r : ℕ) → r < last_call plan → length (round_line plan xs cs ts i r) ≤ 17 + 11 * received plan i (step_at plan r)
     unfolding round_line round_word mail_count
     round-line r l =
-        let mail : List ℕ = mail_to i (after plan xs cs [] (suc r)) in
-        let small : all_below plan.p mail ≡ true = rw (run-mail plan ok xs cs [] [] settings.count tabled r l i from1 upto) (mail_below plan above xs cs [] i (step_at plan r)) in
+        let mail : List ℕ = mail_to i (after plan xs cs ts (suc r)) in
+        let small : all_below plan.p mail ≡ true = rw (run-mail plan ok xs cs ts tf settings.count tabled r l i from1 upto) (mail_below plan above xs cs tf i (step_at plan r)) in
         let s : Short (r ∷ mail) = (omega (arith, calls-few), numbers_short plan.p mail prime-few small) in
-        omega (arith, line_small round_word (r ∷ mail) s, mail_count_lem plan ok xs cs [] i from1 upto (suc r) (omega arith))
+        omega (arith, line_small round_word (r ∷ mail) s, mail_count_lem plan ok xs cs ts i from1 upto (suc r) (omega arith))
 
-    rounds-most : length (flat_map (round_line plan xs cs i) (tab (λ r. r) (last_call plan))) ≤ 10594 + 28 * gate_mail plan
+    rounds-most : length (flat_map (round_line plan xs cs ts i) (tab (λ r. r) (last_call plan))) ≤ 10560 + 17 * last_call plan + 11 * gate_mail plan
     rounds-most =
         let f : ℕ → ℕ = λ r. received plan i (step_at plan r) in
         let o : party_count plan * own_out_count plan i ≤ 960 = mul-le-mul {n₁ = party_count plan} {m₁ = own_out_count plan i} {n₂ = 15} {m₂ = 64} (omega (arith, plan_n k, k.n-high)) (own-outs-few i) in
         let all : total (map (received plan i) (steps plan)) ≡ total (tab f (last_call plan)) =
-        ap total (ap (map (received plan i)) (steps-tab plan ok xs cs [] [] settings.count tabled) ∙ tab-map (received plan i) (step_at plan) (last_call plan)) in
-        omega (arith, mail-total plan i, calls-by-mail plan (omega (arith, plan_n k, k.n_low)), o, all, rounds_bound (round_line plan xs cs i) f (λ r. r) (last_call plan) round-line)
+        ap total (ap (map (received plan i)) (steps-tab plan ok xs cs ts tf settings.count tabled) ∙ tab-map (received plan i) (step_at plan) (last_call plan)) in
+        omega (arith, mail-total plan i, o, all, rounds_bound (round_line plan xs cs ts i) f (λ r. r) (last_call plan) round-line)
 
-    member_lines_lem : length (member_lines plan xs cs i) ≤ 10610 + 28 * gate_mail plan + 11 * count_where (eqb i) owners
+    member_lines_lem : length (member_lines plan xs cs ts i) ≤ 10576 + 17 * last_call plan + 11 * gate_mail plan + 11 * count_where (eqb i) owners
     unfolding member_lines
-    member_lines_lem = omega (arith, view-line, rounds-most, length-append (view_line plan xs cs i) (flat_map (round_line plan xs cs i) (tab (λ r. r) (last_call plan))))
+    member_lines_lem = omega (arith, view-line, rounds-most, length-append (view_line plan xs cs i) (flat_map (round_line plan xs cs ts i) (tab (λ r. r) (last_call plan))))
 
-  out-lines : (set : ℕ) (os : List Output) (o : ℕ) (seen : List Output) → length (out_lines_from (plan_of bytes) set xs cs o seen os) ≤ 67 * length os
+  out-lines : (set : ℕ) (os : List Output) (o : ℕ) (seen : List Output) → length (out_lines_from (plan_of bytes) set xs cs ts o seen os) ≤ 67 * length os
   unfolding out_lines_from out_word
   out-lines set [] o seen = omega arith
   out-lines set (x ∷ os) o seen =
-      let ns : List ℕ = o ∷ x.party ∷ get_or (results (plan_of bytes) xs cs [] x.party) (length (out_wires_of x.party seen)) 0 ∷ [] in
+      let ns : List ℕ = o ∷ x.party ∷ get_or (results (plan_of bytes) xs cs ts x.party) (length (out_wires_of x.party seen)) 0 ∷ [] in
       let l : length (cond (in_set set x.party) (line out_word ns) []) ≤ 67 = either (in_set set x.party) (line out_word ns) (omega (arith, line_most out_word ns)) in
-      omega (arith, l, length-append (cond (in_set set x.party) (line out_word ns) []) (out_lines_from (plan_of bytes) set xs cs (suc o) (seen ++ (x ∷ [])) os), out-lines set os (suc o) (seen ++ (x ∷ [])))
+      omega (arith, l, length-append (cond (in_set set x.party) (line out_word ns) []) (out_lines_from (plan_of bytes) set xs cs ts (suc o) (seen ++ (x ∷ [])) os), out-lines set os (suc o) (seen ++ (x ∷ [])))
     where
       either : (b : Bool) (l : List ℕ) → length l ≤ 67 → length (cond b l []) ≤ 67
       either true l m = m
       either false l m = omega arith
 
-  -- at most t members, and t coins for each number that the gates bring a member
-  members-most : (set : ℕ) → set_fits h.n h.t set ≡ true → length (flat_map (member_lines plan xs cs) (members set)) ≤ 787516
-  members-most set fits =
-      let few-members : length (members set) ≤ plan.t = set_few plan set (sym (set_ok_lem bytes h set k) ∙ fits) in
-      let each : ℕ = gate_mail (plan_of bytes) in
+  -- ---- at most t members
+  abbrev spent : ℕ
+  spent = kind_count plan 7
+
+  abbrev opened : ℕ
+  opened = kind_count plan 7 * (2 * party_count plan)
+
+  -- t coins for each number that the gates bring a member, but for what is opened
+  calls-held : plan.t * last_call plan ≤ coin_count plan + 2 * plan.t + plan.t * spent
+  calls-held =
+      let more : plan.t * (last_call plan + opened) ≤ plan.t * (gate_mail plan + 2 + spent) =
+      mul-le-mul {n₁ = plan.t} {m₁ = last_call plan + opened} {n₂ = plan.t} {m₂ = gate_mail plan + 2 + spent} (omega arith) (calls-by-mail plan (omega (arith, plan_n k, k.n_low))) in
       omega (
         arith,
-        flat_most (10610 + 28 * each) owners (member_lines plan xs cs) (members set)
-            (all-members (λ i. length (member_lines plan xs cs i) ≤ 10610 + 28 * each + 11 * count_where (eqb i) owners) (members set)
+        more,
+        coins-by-mail plan,
+        mul-add plan.t (last_call plan) opened,
+        mul-add plan.t (gate_mail plan + 2) spent,
+        mul-add plan.t (gate_mail plan) 2,
+        mul_comm plan.t 2,
+      )
+
+  -- without gates that multiply, or with t below 8
+  held-most : 10576 * plan.t + 17 * (plan.t * last_call plan) + 11 * (plan.t * gate_mail plan) + 11 * (input_count plan + coin_count plan) ≤ 943080
+  unfolding triple_numbers
+  held-most = ⊎_elim none some (none_or_majority plan ok)
+    where
+      none : (kind_count plan 5 ≡ 0) × (kind_count plan 7 ≡ 0) → 10576 * plan.t + 17 * (plan.t * last_call plan) + 11 * (plan.t * gate_mail plan) + 11 * (input_count plan + coin_count plan) ≤ 943080
+      none z =
+          let a : plan.t * spent ≡ 0 = ap (λ (m : ℕ). plan.t * m) z.1 ∙ mul-zero plan.t in
+          let b : plan.t * opened ≡ 0 = ap (λ (m : ℕ). plan.t * (m * (2 * party_count plan))) z.1 ∙ ap (λ (m : ℕ). plan.t * m) (zero-mul (2 * party_count plan)) ∙ mul-zero plan.t in
+          omega (arith, a, b, calls-held, coins-by-mail plan, few, plan_t k, k.threshold, k.n-high)
+
+      some : plan.t + plan.t < party_count plan → 10576 * plan.t + 17 * (plan.t * last_call plan) + 11 * (plan.t * gate_mail plan) + 11 * (input_count plan + coin_count plan) ≤ 943080
+      some two =
+          let t_few : plan.t ≤ 7 = omega (arith, two, plan_n k, k.n-high) in
+          let y : ℕ = kind_count plan 7 * party_count plan in
+          let most : y ≤ 5115 = mul-le-mul {n₁ = spent} {m₁ = party_count plan} {n₂ = 341} {m₂ = 15} (few_spends bytes passes) (omega (arith, plan_n k, k.n-high)) in
+          let a : plan.t * spent ≤ 2387 = mul-le-mul {n₁ = plan.t} {m₁ = spent} {n₂ = 7} {m₂ = 341} t_few (few_spends bytes passes) in
+          let b : plan.t * opened ≤ 7 * opened = mul-le-mul {n₁ = plan.t} {m₁ = opened} {n₂ = 7} {m₂ = opened} t_few (omega arith) in
+          let c : opened ≡ 2 * y = ap (λ (m : ℕ). kind_count plan 7 * m) (mul_comm 2 (party_count plan)) ∙ sym (mul_assoc (kind_count plan 7) (party_count plan) 2) ∙ mul_comm y 2 in
+          let d : length ts ≡ 3 * y = all_triples ∙ mul_comm (party_count plan) (3 * kind_count plan 7) ∙ mul_assoc 3 (kind_count plan 7) (party_count plan) in
+          omega (arith, t_few, most, a, b, c, d, calls-held, coins-by-mail plan, few)
+
+  members-most : (set : ℕ) → set_fits h.n h.t set ≡ true → length (flat_map (member_lines plan xs cs ts) (members set)) ≤ 943080
+  members-most set fits =
+      let few-members : length (members set) ≤ plan.t = set_few plan set (sym (set_ok_lem bytes h set k) ∙ fits) in
+      let calls : ℕ = last_call (plan_of bytes) in
+      let mail : ℕ = gate_mail (plan_of bytes) in
+      let each : ℕ = 10576 + 17 * calls + 11 * mail in
+      omega (
+        arith,
+        flat_most each owners (member_lines plan xs cs ts) (members set)
+            (all-members (λ i. length (member_lines plan xs cs ts i) ≤ each + 11 * count_where (eqb i) owners) (members set)
             (λ m w. member_lines_lem m (member_in set m w).from (rw (plan_n k) (member_party h.n h.t set fits m w)))),
         own-most set owners,
         length-append (input_owners plan) (coin_owners plan),
         owned,
-        few,
-        add-mul 10610 (28 * each) (length (members set)),
-        mul_assoc 28 each (length (members set)),
         mul-le-mul {n₁ = each} {m₁ = length (members set)} {n₂ = each} {m₂ = plan.t} (omega arith) few-members,
-        mul_comm each plan.t,
-        coins-by-mail plan no-spent,
-        few-members,
-        plan_t k,
-        k.threshold,
-        k.n-high,
+        add-mul (10576 + 17 * calls) (11 * mail) plan.t,
+        add-mul 10576 (17 * calls) plan.t,
+        mul_assoc 17 calls plan.t,
+        mul_assoc 11 mail plan.t,
+        mul_comm calls plan.t,
+        mul_comm mail plan.t,
+        held-most,
       )
     where
       owned : length (input_owners plan) + length (coin_owners plan) ≡ input_count plan + coin_count plan
       owned = unfold input_count in unfold coin_count in refl
 
-  run_lines_lem : (set : ℕ) → set_fits h.n h.t set ≡ true → length (run_lines plan set xs cs) ≤ longest
+  run_lines_lem : (set : ℕ) → set_fits h.n h.t set ≡ true → length (run_lines plan set xs cs ts) ≤ longest
   unfolding run_lines plan_line plan_word sent_word
   run_lines_lem set fits =
-      let ms : List ℕ = flat_map (member_lines plan xs cs) (members set) in
-      let ol : List ℕ = out_lines_from plan set xs cs 0 [] plan.outs in
+      let ms : List ℕ = flat_map (member_lines plan xs cs ts) (members set) in
+      let ol : List ℕ = out_lines_from plan set xs cs ts 0 [] plan.outs in
       let sl : List ℕ = line sent_word (sent_count plan ∷ []) in
       let ns : List ℕ = party_count plan ∷ plan.t ∷ plan.p ∷ length plan.gates ∷ length plan.outs ∷ [] in
       omega (
@@ -301,40 +347,48 @@ module _ (bytes xs cs : List ℕ) (passes : plan_check bytes ≡ (Ok tt)) (input
       )
 
 -- ---- the text
-module _ (bytes : List ℕ) (set : ℕ) (figures coins : List ℕ) (room : ℕ) (short : length figures + length coins ≤ 65536) (passed : bench_answer bytes set figures coins room ≡ (Ok tt)) where
-  both : (first_of (plan_checks bytes) ≡ (Ok tt)) × (first_of (run_checks (plan_of bytes) set figures coins room) ≡ (Ok tt))
+module _ (bytes : List ℕ) (set : ℕ) (figures coins triples : List ℕ) (room : ℕ) (short : length figures + length coins + length triples ≤ 65536)
+    (passed : bench_answer bytes set figures coins triples room ≡ (Ok tt)) where
+  both : (first_of (plan_checks bytes) ≡ (Ok tt)) × (first_of (run_checks (plan_of bytes) set figures coins triples room) ≡ (Ok tt))
   unfolding bench_answer
-  both = passed_both _ _ (sym (first_of-append (plan_checks bytes) (run_checks (plan_of bytes) set figures coins room)) ∙ passed)
+  both = passed_both _ _ (sym (first_of-append (plan_checks bytes) (run_checks (plan_of bytes) set figures coins triples room)) ∙ passed)
 
   plan-passes : plan_check bytes ≡ (Ok tt)
   unfolding plan_check
   plan-passes = both.0
 
-  given : Given (plan_of bytes) figures coins
-  given = passed-given bytes set figures coins room _ refl both.1
+  lists-pass : first_of (lent_checks (plan_of bytes) set figures coins triples room) ≡ (Ok tt)
+  lists-pass = passed_lent (plan_of bytes) set figures coins triples room both.1
 
-  passed_lines : length (run_lines (plan_of bytes) set (numbers figures) (numbers coins)) ≤ longest
+  given : Given (plan_of bytes) figures coins triples
+  given = passed-given bytes set figures coins triples room _ refl lists-pass
+
+  passed_lines : length (run_lines (plan_of bytes) set (numbers figures) (numbers coins) (numbers triples)) ≤ longest
   passed_lines =
-      run_lines_lem bytes (numbers figures) (numbers coins) plan-passes
+      run_lines_lem bytes (numbers figures) (numbers coins) (numbers triples) plan-passes
       (record { count = omega (arith, numbers-length figures, given.inputs_count); small = given.inputs_below })
       (record { count = omega (arith, numbers-length coins, given.coins_count); small = given.coins_below })
-      (omega (arith, short, given.inputs_count, given.coins_count)) set
-      (passed-set bytes set figures coins room _ refl both.1 (header bytes plan-passes) (header_planned bytes plan-passes))
+      (omega (arith, numbers-length triples, given.triples_count))
+      (omega (arith, short, given.inputs_count, given.coins_count, given.triples_count, numbers-length triples)) set
+      (passed-set bytes set figures coins triples room _ refl lists-pass (header bytes plan-passes) (header_planned bytes plan-passes))
 
-answer_lines_lem : (c : Checked) (plan : Plan) (set : ℕ) (xs cs : List ℕ) → (c ≡ (Ok tt) → length (run_lines plan set xs cs) ≤ longest) → length (answer_lines c plan set xs cs) ≤ longest
+answer_lines_lem :
+    (c : Checked) (plan : Plan) (set : ℕ) (xs cs ts : List ℕ) → (c ≡ (Ok tt) → length (run_lines plan set xs cs ts) ≤ longest)
+    → length (answer_lines c plan set xs cs ts) ≤ longest
 unfolding answer_lines refused_word
-answer_lines_lem (Ok tt) plan set xs cs h = h refl
-answer_lines_lem (Err r) plan set xs cs h = omega (arith, line_most refused_word (number_of r ∷ place_of r ∷ []))
+answer_lines_lem (Ok tt) plan set xs cs ts h = h refl
+answer_lines_lem (Err r) plan set xs cs ts h = omega (arith, line_most refused_word (number_of r ∷ place_of r ∷ []))
 
 -- the numbers after the set
-parts_short : (bs : List ℕ) → unreadable bs ≡ false → length (figures_part bs) + length (coins_part bs) ≤ 65536
-unfolding unreadable figures_part coins_part lent numbers_of list_part
+parts_short : (bs : List ℕ) → unreadable bs ≡ false → length (figures_part bs) + length (coins_part bs) + length (triples_part bs) ≤ 65536
+unfolding unreadable figures_part coins_part triples_part rest_part lent numbers_of list_part
 parts_short bs e =
     let plan : List ℕ = plan_part bs in
     let list : List ℕ = drop (4 + word_at bs 0) bs in
     let n : ℕ = length list / input_width plan in
     let all : List ℕ = bytes_of (tab (λ i. number_at (input_width plan) list (input_width plan * i)) n) in
     let m : ℕ = width * input_count (plan_of plan) in
+    let c : ℕ = coin_bytes (plan_of plan) (drop m all) in
     let few : length bs ≤ 32768 = ltb-false 32768 (length bs) (or_parts (ltb 32768 (length bs)) _ e).0 in
     omega (
       arith,
@@ -345,6 +399,8 @@ parts_short bs e =
       length-tab (λ i. number_at (input_width plan) list (input_width plan * i)) n,
       ap length (take-append-drop m all),
       length-append (take m all) (drop m all),
+      ap length (take-append-drop c (drop m all)),
+      length-append (take c (drop m all)) (drop c (drop m all)),
     )
 
 pub fitting : Fitting
@@ -352,11 +408,11 @@ unfolding report bench_of refused_word
 fitting bs = step (unreadable bs) refl
   where
     step : (b : Bool) → unreadable bs ≡ b
-        → length (cond b (line refused_word (1 ∷ 0 ∷ [])) (answer_lines (bench_of bs) (plan_of (plan_part bs)) (set_part bs) (numbers (figures_part bs)) (numbers (coins_part bs)))) ≤ longest
+        → length (cond b (line refused_word (1 ∷ 0 ∷ [])) (answer_lines (bench_of bs) (plan_of (plan_part bs)) (set_part bs) (numbers (figures_part bs)) (numbers (coins_part bs)) (numbers (triples_part bs)))) ≤ longest
     step true q = omega (arith, line_most refused_word (1 ∷ 0 ∷ []))
     step false q =
-        answer_lines_lem (bench_of bs) (plan_of (plan_part bs)) (set_part bs) (numbers (figures_part bs)) (numbers (coins_part bs))
-        (λ e. passed_lines (plan_part bs) (set_part bs) (figures_part bs) (coins_part bs) (width * view_count (plan_of (plan_part bs)) (members (set_part bs))) (parts_short bs q) e)
+        answer_lines_lem (bench_of bs) (plan_of (plan_part bs)) (set_part bs) (numbers (figures_part bs)) (numbers (coins_part bs)) (numbers (triples_part bs))
+        (λ e. passed_lines (plan_part bs) (set_part bs) (figures_part bs) (coins_part bs) (triples_part bs) (width * view_count (plan_of (plan_part bs)) (members (set_part bs))) (parts_short bs q) e)
 
 -- ---- a text that is written as far as there is room is written whole
 pub whole : (bs old new : List ℕ) (r : ℕ) → longest ≤ length old → Reported (report bs) old new r → Whole (report bs) new r

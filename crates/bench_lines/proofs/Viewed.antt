@@ -7,7 +7,7 @@
 use mathlib.Core.Path.{◌≡◌, refl, sym, ap, ap₂, ◌∙◌}
 use mathlib.Core.Bool.{Bool, true, false, cond}
 use mathlib.Core.List.{List, [], ◌∷◌, ◌++◌, append_assoc, flat_map, Memᴰ}
-use Prim.Native.Nat.{ℕ, zero, suc, ◌+◌, ◌-◌, ◌<◌, ◌≤◌}
+use Prim.Native.Nat.{ℕ, zero, suc, ◌+◌, ◌-◌, ◌*◌, ◌<◌, ◌≤◌}
 use native.Mathlib.Omega.{arith}
 use borrow.Author.Tests.{leb-true, eq-eqb}
 use lib.Dec.{leb, ltb}
@@ -22,23 +22,20 @@ use Rattle.field.proofs.Inverse.{pos}
 use Rattle.sharing_laws.specs.Interp.{All}
 use Rattle.sharing_laws.proofs.Lists.{flat_map-append, flat_map-all, length-map}
 use Rattle.plan.specs.declared.Output.{Output}
-use Rattle.plan.specs.Plans.{Plan, party_count, kind_count, steps, last_call, input_owners, coin_owners, own_input_count, own_coin_count, own_out_count, coin_count, mail_count, own_inputs, own_coins, out_wires, out_wires_of}
+use Rattle.plan.specs.Plans.{Plan, party_count, triple_numbers, steps, last_call, input_owners, coin_owners, own_input_count, own_coin_count, own_out_count, coin_count, mail_count, own_inputs, own_coins, out_wires, out_wires_of}
 use Rattle.plan.specs.File.{out_ok, between}
 use Rattle.plan_coalition.specs.Coalitions.{in_set, members_from, members}
 use Rattle.plan.proofs.Valid.{Valid}
 use Rattle.plan_coalition.proofs.Coalitions.{Among, member_in, in_member, all-members}
 use Rattle.run_protocol.specs.Rounds.{mail_to, after, results, mails, view_of, view, view_count_of, view_count}
-use Rattle.run_protocol.specs.Tables.{table_mail, table_results, table_view_of}
-use Rattle.run_protocol.proofs.Expected.{Tabled}
-use Rattle.run_protocol.proofs.Given.{tabled-none}
+use Rattle.run_protocol.specs.Tables.{table_mail, table_results, table_view_of, Tabled, triples_of}
+use Rattle.run_protocol.proofs.Given.{tabled_list}
 use Rattle.run_protocol.proofs.Owners.{length-own}
 use Rattle.run_protocol.proofs.Runs.{views-table, results-table}
 use Rattle.run_protocol.proofs.Counts.{mail_count_lem}
 use Rattle.run_protocol.proofs.ViewCounts.{view-count}
 use Rattle.run_protocol.proofs.Accepted.{own_below, back}
-use Rattle.run_protocol.proofs.Below.{mail_below}
-use Rattle.run_protocol.proofs.Sound.{no_triples, results-right}
-use Rattle.run_protocol.proofs.Values.{granted-below}
+use Rattle.run_protocol.proofs.Below.{mail_below, results_below}
 use Rattle.bench_text.specs.Decimals.{line}
 use Rattle.bench_lines.specs.Report.{out_word, view_line, round_line, member_lines, out_lines_from, run_lines}
 use Rattle.bench_lines.proofs.Parts.{members_split, wires-append}
@@ -85,21 +82,24 @@ own_before seen x outs =
       ap length (own_out x outs),
     )
 
-module _ (plan : Plan) (valid : Valid plan) (none : kind_count plan 7 ≡ 0) (xs cs : List ℕ) (full : length cs ≡ coin_count plan) where
-  tabled : Tabled plan [] []
-  tabled = tabled-none plan [] none
+module _ (plan : Plan) (valid : Valid plan) (xs cs ts : List ℕ) (full : length cs ≡ coin_count plan) (all_triples : length ts ≡ party_count plan * triple_numbers plan) where
+  abbrev tf : List (ℕ → ℕ)
+  tf = triples_of plan ts
+
+  tabled : Tabled plan ts tf
+  tabled = tabled_list plan valid ts all_triples
 
   -- ---- one member
   module _ (i : ℕ) (low : 1 ≤ i) (high : i ≤ party_count plan) where
     mail_of : ℕ → List ℕ
-    mail_of k = mail_to i (after plan xs cs [] (suc k))
+    mail_of k = mail_to i (after plan xs cs ts (suc k))
 
     rounds-flat : (m k : ℕ) (rest : List ℕ) → k + m ≤ last_call plan
-        → round_lines_in plan i (flat_map mail_of (up_from k m) ++ rest) k m ≡ flat_map (round_line plan xs cs i) (up_from k m)
+        → round_lines_in plan i (flat_map mail_of (up_from k m) ++ rest) k m ≡ flat_map (round_line plan xs cs ts i) (up_from k m)
     unfolding round_lines_in up_from flat_map mail_of round_line
     rounds-flat zero k rest l = refl
     rounds-flat (suc m) k rest l =
-        let n : length (mail_to i (after plan xs cs [] (suc k))) ≡ mail_count plan i (suc k) = mail_count_lem plan valid xs cs [] i low high (suc k) (omega arith) in
+        let n : length (mail_to i (after plan xs cs ts (suc k))) ≡ mail_count plan i (suc k) = mail_count_lem plan valid xs cs ts i low high (suc k) (omega arith) in
         let more : List ℕ = flat_map mail_of (up_from (suc k) m) ++ rest in
         rw (append_assoc (mail_of k) (flat_map mail_of (up_from (suc k) m)) rest, take_at (mail_of k) more (mail_count plan i (suc k)) n, drop_at (mail_of k) more (mail_count plan i (suc k)) n, rounds-flat m (suc k) rest (omega arith))
 
@@ -108,36 +108,36 @@ module _ (plan : Plan) (valid : Valid plan) (none : kind_count plan 7 ≡ 0) (xs
     own_long = length-append (own_inputs plan i xs) (own_coins plan i cs) ∙ ap₂ (λ (a b : ℕ). a + b) (length-own i (input_owners plan) xs) (length-own i (coin_owners plan) cs)
 
     view-parts : (rest : List ℕ)
-        → view_of plan xs cs [] i ++ rest ≡ (own_inputs plan i xs ++ own_coins plan i cs) ++ (flat_map mail_of (up_from 0 (last_call plan)) ++ (results plan xs cs [] i ++ rest))
+        → view_of plan xs cs ts i ++ rest ≡ (own_inputs plan i xs ++ own_coins plan i cs) ++ (flat_map mail_of (up_from 0 (last_call plan)) ++ (results plan xs cs ts i ++ rest))
     unfolding view_of mails mail_of
     view-parts rest = rw (up_all (last_call plan)) (simp append_assoc)
 
-    pub member-flat : (rest : List ℕ) → member_lines_in plan i (view_of plan xs cs [] i ++ rest) ≡ member_lines plan xs cs i
+    pub member-flat : (rest : List ℕ) → member_lines_in plan i (view_of plan xs cs ts i ++ rest) ≡ member_lines plan xs cs ts i
     unfolding member_lines_in member_lines view_line
     member-flat rest =
         let own : List ℕ = own_inputs plan i xs ++ own_coins plan i cs in
-        let more : List ℕ = flat_map mail_of (up_from 0 (last_call plan)) ++ (results plan xs cs [] i ++ rest) in
-        rw (view-parts rest, take_at own more (own_count plan i) own_long, drop_at own more (own_count plan i) own_long, rounds-flat (last_call plan) 0 (results plan xs cs [] i ++ rest) (omega arith), up_all (last_call plan))
+        let more : List ℕ = flat_map mail_of (up_from 0 (last_call plan)) ++ (results plan xs cs ts i ++ rest) in
+        rw (view-parts rest, take_at own more (own_count plan i) own_long, drop_at own more (own_count plan i) own_long, rounds-flat (last_call plan) 0 (results plan xs cs ts i ++ rest) (omega arith), up_all (last_call plan))
 
-    results-long : length (results plan xs cs [] i) ≡ own_out_count plan i
+    results-long : length (results plan xs cs ts i) ≡ own_out_count plan i
     unfolding table_results own_out_count
-    results-long = ap length (results-table plan valid xs cs [] [] full tabled i low high) ∙ length-map _ (out_wires plan i)
+    results-long = ap length (results-table plan valid xs cs ts tf full tabled i low high) ∙ length-map _ (out_wires plan i)
 
-    view_long : length (view_of plan xs cs [] i) ≡ view_count_of plan i
+    view_long : length (view_of plan xs cs ts i) ≡ view_count_of plan i
     unfolding view view_count total flat_map
     view_long =
-        let one : List ℕ = view_of plan xs cs [] i in
-        omega (arith, length-append one [], view-count plan valid xs cs [] [] full tabled (i ∷ []) ((low, high), tt))
+        let one : List ℕ = view_of plan xs cs ts i in
+        omega (arith, length-append one [], view-count plan valid xs cs ts tf full tabled (i ∷ []) ((low, high), tt))
 
     -- result r stands behind inputs, coins and mail
-    result-in : (rest : List ℕ) (r : ℕ) → r < own_out_count plan i → get_or (view_of plan xs cs [] i ++ rest) (view_count_of plan i - own_out_count plan i + r) 0 ≡ get_or (results plan xs cs [] i) r 0
+    result-in : (rest : List ℕ) (r : ℕ) → r < own_out_count plan i → get_or (view_of plan xs cs ts i ++ rest) (view_count_of plan i - own_out_count plan i + r) 0 ≡ get_or (results plan xs cs ts i) r 0
     unfolding view_of
     result-in rest r l =
-        let front : List ℕ = own_inputs plan i xs ++ (own_coins plan i cs ++ mails plan xs cs [] i) in
-        let e : view_of plan xs cs [] i ≡ front ++ results plan xs cs [] i = simp append_assoc in
-        let n : length front ≡ view_count_of plan i - own_out_count plan i = omega (arith, view_long, ap length e, length-append front (results plan xs cs [] i), results-long) in
+        let front : List ℕ = own_inputs plan i xs ++ (own_coins plan i cs ++ mails plan xs cs ts i) in
+        let e : view_of plan xs cs ts i ≡ front ++ results plan xs cs ts i = simp append_assoc in
+        let n : length front ≡ view_count_of plan i - own_out_count plan i = omega (arith, view_long, ap length e, length-append front (results plan xs cs ts i), results-long) in
         ap (λ (l : List ℕ). get_or (l ++ rest) (view_count_of plan i - own_out_count plan i + r) 0) e
-        ∙ rw (append_assoc front (results plan xs cs [] i) rest, ← n) (get_or-append-add front (results plan xs cs [] i ++ rest) r 0 ∙ get_or-append (results plan xs cs [] i) rest 0 r (omega (arith, results-long)))
+        ∙ rw (append_assoc front (results plan xs cs ts i) rest, ← n) (get_or-append-add front (results plan xs cs ts i ++ rest) r 0 ∙ get_or-append (results plan xs cs ts i) rest 0 r (omega (arith, results-long)))
 
   -- ---- all members
   module _ (set : ℕ) (upto : (m : ℕ) → Memᴰ m (members set) → m ≤ party_count plan) where
@@ -145,36 +145,36 @@ module _ (plan : Plan) (valid : Valid plan) (none : kind_count plan 7 ≡ 0) (xs
     within = all-members (λ i. (1 ≤ i) × (i ≤ party_count plan)) (members set) (λ m w. ((member_in set m w).from, upto m w))
 
     abbrev vs : List ℕ
-    vs = view plan (members set) xs cs []
+    vs = view plan (members set) xs cs ts
 
     rest_of : ℕ → List ℕ
-    rest_of m = flat_map (view_of plan xs cs []) (members_from set (suc m) (16 - m))
+    rest_of m = flat_map (view_of plan xs cs ts) (members_from set (suc m) (16 - m))
 
     -- a member's view stands behind those of the members below it
-    view-at : (m : ℕ) → 1 ≤ m → m ≤ 16 → in_set set m ≡ true → drop (part_at plan set m) vs ≡ view_of plan xs cs [] m ++ rest_of m
+    view-at : (m : ℕ) → 1 ≤ m → m ≤ 16 → in_set set m ≡ true → drop (part_at plan set m) vs ≡ view_of plan xs cs ts m ++ rest_of m
     unfolding part_at view flat_map rest_of
     view-at m l h e =
         let q : members set ≡ members_from set 1 (m - 1) ++ (m ∷ members_from set (suc m) (16 - m)) = members_around set m l h e in
         let front : List ℕ = members_from set 1 (m - 1) in
         let a : All (λ i. (1 ≤ i) × (i ≤ party_count plan)) front =
         all_front (λ i. (1 ≤ i) × (i ≤ party_count plan)) front (m ∷ members_from set (suc m) (16 - m)) (rw q at within) in
-        let n : length (flat_map (view_of plan xs cs []) front) ≡ view_count plan front = view-count plan valid xs cs [] [] full tabled front a in
-        ap (λ (ms : List ℕ). drop (view_count plan front) (flat_map (view_of plan xs cs []) ms)) q
-        ∙ ap (drop (view_count plan front)) (flat_map-append (view_of plan xs cs []) front (m ∷ members_from set (suc m) (16 - m)))
-        ∙ drop_at (flat_map (view_of plan xs cs []) front) (view_of plan xs cs [] m ++ flat_map (view_of plan xs cs []) (members_from set (suc m) (16 - m))) (view_count plan front) n
+        let n : length (flat_map (view_of plan xs cs ts) front) ≡ view_count plan front = view-count plan valid xs cs ts tf full tabled front a in
+        ap (λ (ms : List ℕ). drop (view_count plan front) (flat_map (view_of plan xs cs ts) ms)) q
+        ∙ ap (drop (view_count plan front)) (flat_map-append (view_of plan xs cs ts) front (m ∷ members_from set (suc m) (16 - m)))
+        ∙ drop_at (flat_map (view_of plan xs cs ts) front) (view_of plan xs cs ts m ++ flat_map (view_of plan xs cs ts) (members_from set (suc m) (16 - m))) (view_count plan front) n
 
-    member-part : (m : ℕ) → 1 ≤ m → m ≤ 16 → in_set set m ≡ true → m ≤ party_count plan → member_part plan set vs m ≡ member_lines plan xs cs m
+    member-part : (m : ℕ) → 1 ≤ m → m ≤ 16 → in_set set m ≡ true → m ≤ party_count plan → member_part plan set vs m ≡ member_lines plan xs cs ts m
     unfolding member_part
     member-part m l h e u = ap (member_lines_in plan m) (view-at m l h e) ∙ member-flat m l u (rest_of m)
 
-    members-flat : flat_map (member_part plan set vs) (members set) ≡ flat_map (member_lines plan xs cs) (members set)
+    members-flat : flat_map (member_part plan set vs) (members set) ≡ flat_map (member_lines plan xs cs ts) (members set)
     members-flat =
-        flat_map-all (member_part plan set vs) (member_lines plan xs cs) (members set)
-        (all-members (λ i. member_part plan set vs i ≡ member_lines plan xs cs i) (members set)
+        flat_map-all (member_part plan set vs) (member_lines plan xs cs ts) (members set)
+        (all-members (λ i. member_part plan set vs i ≡ member_lines plan xs cs ts i) (members set)
         (λ m w. let a : Among set 1 16 m = member_in set m w in member-part m a.from (omega (arith, a.below)) a.bit (upto m w)))
 
     -- ---- outs
-    result-at : (m r : ℕ) → 1 ≤ m → m ≤ 16 → in_set set m ≡ true → r < own_out_count plan m → get_or vs (results_at plan set m + r) 0 ≡ get_or (results plan xs cs [] m) r 0
+    result-at : (m r : ℕ) → 1 ≤ m → m ≤ 16 → in_set set m ≡ true → r < own_out_count plan m → get_or vs (results_at plan set m + r) 0 ≡ get_or (results plan xs cs ts m) r 0
     unfolding results_at
     result-at m r l h e k =
         let q : part_at plan set m + (view_count_of plan m - own_out_count plan m) + r ≡ part_at plan set m + (view_count_of plan m - own_out_count plan m + r) = omega arith in
@@ -186,7 +186,7 @@ module _ (plan : Plan) (valid : Valid plan) (none : kind_count plan 7 ≡ 0) (xs
     module _ (few : party_count plan ≤ 16) where
       out-flat : (o : ℕ) (seen : List Output) (x : Output) (outs : List Output) → seen ++ (x ∷ outs) ≡ plan.outs
           → out_line_in plan set vs o seen x
-          ≡ cond (in_set set x.party) (line out_word (o ∷ x.party ∷ get_or (results plan xs cs [] x.party) (length (out_wires_of x.party seen)) 0 ∷ [])) []
+          ≡ cond (in_set set x.party) (line out_word (o ∷ x.party ∷ get_or (results plan xs cs ts x.party) (length (out_wires_of x.party seen)) 0 ∷ [])) []
       unfolding out_line_in out_ok between own_out_count out_wires
       out-flat o seen x outs e = pick (in_set set x.party) refl
         where
@@ -213,17 +213,17 @@ module _ (plan : Plan) (valid : Valid plan) (none : kind_count plan 7 ≡ 0) (xs
 
           pick : (b : Bool) → in_set set x.party ≡ b
               → cond b (line out_word (o ∷ x.party ∷ get_or vs (results_at plan set x.party + length (out_wires_of x.party seen)) 0 ∷ [])) []
-              ≡ cond b (line out_word (o ∷ x.party ∷ get_or (results plan xs cs [] x.party) (length (out_wires_of x.party seen)) 0 ∷ [])) []
+              ≡ cond b (line out_word (o ∷ x.party ∷ get_or (results plan xs cs ts x.party) (length (out_wires_of x.party seen)) 0 ∷ [])) []
           pick true m = ap (λ (v : ℕ). line out_word (o ∷ x.party ∷ v ∷ [])) (result-at x.party (length (out_wires_of x.party seen)) low (omega (arith, high)) m before)
           pick false m = refl
 
-      outs-flat : (outs : List Output) (o : ℕ) (seen : List Output) → seen ++ outs ≡ plan.outs → out_lines_in plan set vs o seen outs ≡ out_lines_from plan set xs cs o seen outs
+      outs-flat : (outs : List Output) (o : ℕ) (seen : List Output) → seen ++ outs ≡ plan.outs → out_lines_in plan set vs o seen outs ≡ out_lines_from plan set xs cs ts o seen outs
       unfolding out_lines_in out_lines_from
       outs-flat [] o seen e = refl
       outs-flat (x ∷ outs) o seen e =
           ap₂ (λ (a b : List ℕ). a ++ b) (out-flat o seen x outs e) (outs-flat outs (suc o) (seen ++ (x ∷ [])) (append_assoc seen (x ∷ []) outs ∙ e))
 
-      pub run-flat : run_lines_in plan set vs ≡ run_lines plan set xs cs
+      pub run-flat : run_lines_in plan set vs ≡ run_lines plan set xs cs ts
       unfolding run_lines_in run_lines
       run-flat = rw (members-flat, outs-flat plan.outs 0 [] refl)
 
@@ -231,14 +231,14 @@ module _ (plan : Plan) (valid : Valid plan) (none : kind_count plan 7 ≡ 0) (xs
     pub view-back : plan.p ≤ limit → all_below plan.p xs ≡ true → all_below plan.p cs ≡ true → numbers (bytes_of vs) ≡ vs
     unfolding table_view_of own_inputs own_coins
     view-back few small coins =
-        back plan.p vs few (rw (views-table plan valid xs cs [] [] full tabled (members set) within) (flat_map_below plan.p (table_view_of plan xs cs []) (members set) below))
+        back plan.p vs few (rw (views-table plan valid xs cs ts tf full tabled (members set) within) (flat_map_below plan.p (table_view_of plan xs cs tf) (members set) below))
       where
         above : 0 < plan.p
         above = pos valid.prime
 
-        below : (i : ℕ) → all_below plan.p (table_view_of plan xs cs [] i) ≡ true
+        below : (i : ℕ) → all_below plan.p (table_view_of plan xs cs tf i) ≡ true
         below i =
             append_below plan.p _ _ (own_below plan above i (input_owners plan) xs small)
             (append_below plan.p _ _ (own_below plan above i (coin_owners plan) cs coins)
-            (append_below plan.p _ _ (flat_map_below plan.p (table_mail plan xs cs [] i) (steps plan) (mail_below plan above xs cs [] i))
-            (rw (results-right plan valid xs cs [] [] (no_triples plan) small i) (granted-below plan above xs small i))))
+            (append_below plan.p _ _ (flat_map_below plan.p (table_mail plan xs cs tf i) (steps plan) (mail_below plan above xs cs tf i))
+            (results_below plan above xs cs tf i)))

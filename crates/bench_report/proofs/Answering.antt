@@ -1,6 +1,6 @@
 -- What each way through the report says of its definition.
 --     benching_lines           a run's lines, or its refusal's
---     splitting                a list's figures and coins
+--     splitting                a list's figures, coins and triples
 --     reading_plan             the plan's refusal
 --     widening, lending        the numbers after the set, as a list that is lent
 --     unreading, reporting     an input's parts
@@ -12,15 +12,15 @@ use mathlib.Core.List.{List, [], ◌∷◌, Memᴰ}
 use Prim.Native.Nat.{ℕ, ◌+◌, ◌-◌, ◌*◌, ◌/◌, ◌%◌, ◌^◌, ◌<◌, ◌≤◌, min}
 use native.Mathlib.Omega.{arith}
 use borrow.Author.Rules.{rules}
-use borrow.Author.Tests.{not-true, not-false, ne_eqb, lt-ltb, le-ltb, ltb-false}
-use Rattle.std.proofs.lemmas.List.{take_min, drop_min}
+use borrow.Author.Tests.{not-true, not-false, eq-eqb, ne_eqb, lt-ltb, le-ltb, ltb-false}
+use Rattle.std.proofs.lemmas.List.{take_min, drop_min, take-take, drop-take, drop-drop}
 use Rattle.std.proofs.lemmas.Bool.{or_parts}
 use lib.Dec.{eqb, ltb}
 use lib.ListN.{length, get_or, take, drop, length-drop}
 use lib.Seq.{take_all, take_at, length-take-le}
 use mir.Syntax.{w64}
 use mir.Val.{Fits}
-use Rattle.numbers.specs.Tables.{tab}
+use Rattle.numbers.specs.Tables.{tab, count_where}
 use Rattle.numbers.specs.Bytes.{width, number_at, word_at, numbers_of, numbers, bytes_of, stored}
 use Rattle.numbers.proofs.Tables.{length-tab}
 use Rattle.numbers.proofs.Bytes.{word_number, numbers-length, get_or-numbers, length-bytes_of}
@@ -30,26 +30,29 @@ use Rattle.plan.specs.Refusals.{Checked}
 use Rattle.plan.specs.declared.Refusal.{Refusal}
 use Rattle.plan.specs.declared.Refusal.TheVariants as refusal
 use Rattle.plan.specs.Refusals.{first_of, number_of, place_of}
-use Rattle.plan.specs.Plans.{Plan, party_count, kind_count, input_count, coin_count, sent_count}
+use Rattle.plan.specs.Plans.{Plan, party_count, is_kind, kind_count, input_count, coin_count, triple_numbers, sent_count}
 use Rattle.plan.specs.File.{between, plan_of, plan_check, plan_checks}
 use Rattle.plan.specs.Planned.{Planned}
 use Rattle.plan_coalition.specs.Coalitions.{members, set_fits, set_ok}
-use Rattle.plan.proofs.Refusals.{and_then_passed, and_then_refused, first_of-append, need-false}
+use Rattle.plan.proofs.Refusals.{and_then_passed, and_then_refused, first_of-append, passed_both, need-false}
 use Rattle.plan.proofs.Planned.{plan_p, plan_n, plan_t}
 use Rattle.plan.proofs.Ranges.{contains_is}
-use Rattle.plan.proofs.Valid.{valid, plain, plain_no_7}
+use Rattle.plan.proofs.Valid.{valid}
 use Rattle.plan_coalition.proofs.Coalitions.{set_ok_lem, member_party, member_most}
+use Rattle.plan_counts.specs.declared.Tally.{Tally}
+use Rattle.plan_counts.specs.Counts.{Tallied}
 use Rattle.seat_messages.specs.Calls.{unless_refused}
-use Rattle.run_protocol.specs.Rounds.{view, view_count}
+use Rattle.run_protocol.specs.Rounds.{at_end, view, view_count}
 use Rattle.run_protocol.proofs.Few.{few-plan, views-most}
 use Rattle.run_dealings.specs.Rows.{Given}
-use Rattle.run_bench.specs.BenchCalls.{run_checks, bench_answer, benched_of, view_after}
+use Rattle.run_bench.specs.BenchCalls.{given_checks, broken_check, run_checks, bench_answer, benched_of, view_after}
+use Rattle.run_bench.specs.Checks.{lent_checks}
 use Rattle.run_bench.proofs.BenchLaws.{passed-set, passed-given}
 use Rattle.bench_text.specs.Decimals.{line}
-use Rattle.bench_lines.specs.Report.{refused_word, answer_lines, run_lines, plan_part, set_part, list_part, input_width, lent, figures_part, coins_part, unreadable, bench_of, report}
+use Rattle.bench_lines.specs.Report.{refused_word, answer_lines, run_lines, plan_part, set_part, list_part, input_width, lent, figures_part, rest_part, coin_bytes, coins_part, triples_part, unreadable, bench_of, report}
 use Rattle.bench_text.specs.Texts.{Put, Reported}
 use Rattle.bench_lines.specs.Placed.{run_lines_in}
-use Rattle.bench_report.specs.Answers.{answered, listed}
+use Rattle.bench_report.specs.Answers.{answered, parted, listed}
 use Rattle.bench_text.proofs.Appending.{put_as}
 use Rattle.bench_lines.proofs.Viewed.{run-flat, view-back}
 
@@ -64,66 +67,84 @@ unfolding benched_of
 answer_refused (Ok tt) sent r e = let z : ◌≡◌ {A = ℕ} 0 1 = cc in absurd (omega arith)
 answer_refused (Err q) sent r e = cc
 
-refused_lines : (c : Checked) (r : Refusal) (plan : Plan) (set : ℕ) (xs cs : List ℕ) → c ≡ Err r → line refused_word (number_of r ∷ place_of r ∷ []) ≡ answer_lines c plan set xs cs
+refused_lines : (c : Checked) (r : Refusal) (plan : Plan) (set : ℕ) (xs cs ts : List ℕ) → c ≡ Err r → line refused_word (number_of r ∷ place_of r ∷ []) ≡ answer_lines c plan set xs cs ts
 unfolding answer_lines
-refused_lines c r plan set xs cs e = rw e
+refused_lines c r plan set xs cs ts e = rw e
 
-passed_lines : (c : Checked) (plan : Plan) (set : ℕ) (xs cs : List ℕ) → c ≡ (Ok tt) → run_lines plan set xs cs ≡ answer_lines c plan set xs cs
+passed_lines : (c : Checked) (plan : Plan) (set : ℕ) (xs cs ts : List ℕ) → c ≡ (Ok tt) → run_lines plan set xs cs ts ≡ answer_lines c plan set xs cs ts
 unfolding answer_lines
-passed_lines c plan set xs cs e = rw e
+passed_lines c plan set xs cs ts e = rw e
 
-past_plan : (bs : List ℕ) (h : Header) (set : ℕ) (figures coins : List ℕ) (room : ℕ) → Planned bs h → bench_answer bs set figures coins room ≡ first_of (run_checks (plan_of bs) set figures coins room)
+past_plan :
+    (bs : List ℕ) (h : Header) (set : ℕ) (figures coins triples : List ℕ) (room : ℕ) → Planned bs h
+    → bench_answer bs set figures coins triples room ≡ first_of (run_checks (plan_of bs) set figures coins triples room)
 unfolding bench_answer plan_check
-past_plan bs h set figures coins room p = first_of-append (plan_checks bs) (run_checks (plan_of bs) set figures coins room) ∙ and_then_passed (plan_check bs) _ p.passes
+past_plan bs h set figures coins triples room p =
+    first_of-append (plan_checks bs) (run_checks (plan_of bs) set figures coins triples room) ∙ and_then_passed (plan_check bs) _ p.passes
 
 -- ---- the lines of a run
-module _ (bs : List ℕ) (h : Header) (set : ℕ) (figures coins : List ℕ) (p : Planned bs h) where
+pub passed_lent :
+    (plan : Plan) (set : ℕ) (figures coins triples : List ℕ) (room : ℕ) → first_of (run_checks plan set figures coins triples room) ≡ (Ok tt)
+    → first_of (lent_checks plan set figures coins triples room) ≡ (Ok tt)
+unfolding run_checks lent_checks given_checks
+passed_lent plan set figures coins triples room e =
+    let broken : Checked = broken_check plan (at_end plan (numbers figures) (numbers coins) (numbers triples)) in
+    (passed_both _ _ (sym (first_of-append (lent_checks plan set figures coins triples room) (broken ∷ [])) ∙ e)).0
+
+module _ (bs : List ℕ) (h : Header) (set : ℕ) (figures coins triples : List ℕ) (p : Planned bs h) where
   abbrev plan : Plan
   plan = plan_of bs
 
   abbrev seen : List ℕ
-  seen = view plan (members set) (numbers figures) (numbers coins) []
+  seen = view plan (members set) (numbers figures) (numbers coins) (numbers triples)
 
-  module _ (given : Given plan figures coins) (ok : set_fits h.n h.t set ≡ true) where
+  module _ (given : Given plan figures coins triples) (ok : set_fits h.n h.t set ≡ true) where
     full : length (numbers coins) ≡ coin_count plan
     full = omega (arith, numbers-length coins, given.coins_count)
+
+    all_triples : length (numbers triples) ≡ party_count plan * triple_numbers plan
+    all_triples = omega (arith, numbers-length triples, given.triples_count)
 
     upto : (m : ℕ) → Memᴰ m (members set) → m ≤ party_count plan
     upto m w = rw (plan_n p) (member_party h.n h.t set ok m w)
 
-    given-lines : run_lines_in plan set (numbers (bytes_of seen)) ≡ run_lines plan set (numbers figures) (numbers coins)
+    given-lines : run_lines_in plan set (numbers (bytes_of seen)) ≡ run_lines plan set (numbers figures) (numbers coins) (numbers triples)
     given-lines =
-        let none : kind_count plan 7 ≡ 0 = plain_no_7 plan (plain bs p.passes) in
         ap (run_lines_in plan set)
-        (view-back plan (valid bs p.passes) none (numbers figures) (numbers coins) full set upto (rw (plan_p p) (omega (arith, p.p-high))) given.inputs_below given.coins_below)
-        ∙ run-flat plan (valid bs p.passes) none (numbers figures) (numbers coins) full set upto (rw (plan_n p) (omega (arith, p.n-high)))
+        (view-back plan (valid bs p.passes) (numbers figures) (numbers coins) (numbers triples) full all_triples set upto (rw (plan_p p) (omega (arith, p.p-high))) given.inputs_below given.coins_below)
+        ∙ run-flat plan (valid bs p.passes) (numbers figures) (numbers coins) (numbers triples) full all_triples set upto (rw (plan_n p) (omega (arith, p.n-high)))
 
-  lines_passed : (room : ℕ) → bench_answer bs set figures coins room ≡ (Ok tt) → run_lines_in plan set (numbers (bytes_of seen)) ≡ run_lines plan set (numbers figures) (numbers coins)
+  lines_passed :
+      (room : ℕ) → bench_answer bs set figures coins triples room ≡ (Ok tt)
+      → run_lines_in plan set (numbers (bytes_of seen)) ≡ run_lines plan set (numbers figures) (numbers coins) (numbers triples)
   lines_passed room e =
-      let c : first_of (run_checks plan set figures coins room) ≡ (Ok tt) = sym (past_plan bs h set figures coins room p) ∙ e in
-      given-lines (passed-given bs set figures coins room _ refl c) (passed-set bs set figures coins room _ refl c h p)
+      let c : first_of (lent_checks plan set figures coins triples room) ≡ (Ok tt) =
+      passed_lent plan set figures coins triples room (sym (past_plan bs h set figures coins triples room p) ∙ e) in
+      given-lines (passed-given bs set figures coins triples room _ refl c) (passed-set bs set figures coins triples room _ refl c h p)
 
   module _ (old : List ℕ) (room : length old ≡ width * view_count plan (members set)) (b : Result ℕ Refusal)
-      (eb : b ≡ benched_of (bench_answer bs set figures coins (length old)) (sent_count plan)) where
-    pub bench-refused-lines : (r : Refusal) (at e : ℕ) (t u : List ℕ) → b ≡ Err r → Put (line refused_word (number_of r ∷ place_of r ∷ [])) at t u e → Put (answered bs set figures coins) at t u e
+      (eb : b ≡ benched_of (bench_answer bs set figures coins triples (length old)) (sent_count plan)) where
+    pub bench-refused-lines : (r : Refusal) (at e : ℕ) (t u : List ℕ) → b ≡ Err r → Put (line refused_word (number_of r ∷ place_of r ∷ [])) at t u e → Put (answered bs set figures coins triples) at t u e
     unfolding answered
     bench-refused-lines r at e t u f w =
-        let c : bench_answer bs set figures coins (width * view_count plan (members set)) ≡ Err r =
-        ap (bench_answer bs set figures coins) (sym room) ∙ answer_refused _ (sent_count plan) r (sym f ∙ eb) in
-        put_as _ _ at e t u (refused_lines _ r plan set (numbers figures) (numbers coins) c) w
+        let c : bench_answer bs set figures coins triples (width * view_count plan (members set)) ≡ Err r =
+        ap (bench_answer bs set figures coins triples) (sym room) ∙ answer_refused _ (sent_count plan) r (sym f ∙ eb) in
+        put_as _ _ at e t u (refused_lines _ r plan set (numbers figures) (numbers coins) (numbers triples) c) w
 
-    pub bench-run-lines : (k at e : ℕ) (t u new : List ℕ) → b ≡ Ok k → new ≡ view_after bs set figures coins old → Put (run_lines_in plan set (numbers new)) at t u e → Put (answered bs set figures coins) at t u e
+    pub bench-run-lines :
+        (k at e : ℕ) (t u new : List ℕ) → b ≡ Ok k → new ≡ view_after bs set figures coins triples old → Put (run_lines_in plan set (numbers new)) at t u e
+        → Put (answered bs set figures coins triples) at t u e
     unfolding answered view_after unless_refused
     bench-run-lines k at e t u new f en w =
-        let c : bench_answer bs set figures coins (length old) ≡ (Ok tt) = answer_sent _ (sent_count plan) k (sym f ∙ eb) in
+        let c : bench_answer bs set figures coins triples (length old) ≡ (Ok tt) = answer_sent _ (sent_count plan) k (sym f ∙ eb) in
         let q : new ≡ bytes_of seen = en ∙ rw c in
-        let d : bench_answer bs set figures coins (width * view_count plan (members set)) ≡ (Ok tt) = ap (bench_answer bs set figures coins) (sym room) ∙ c in
-        put_as _ _ at e t u (ap (λ (l : List ℕ). run_lines_in plan set (numbers l)) q ∙ lines_passed (length old) c ∙ passed_lines _ plan set (numbers figures) (numbers coins) d) w
+        let d : bench_answer bs set figures coins triples (width * view_count plan (members set)) ≡ (Ok tt) = ap (bench_answer bs set figures coins triples) (sym room) ∙ c in
+        put_as _ _ at e t u (ap (λ (l : List ℕ). run_lines_in plan set (numbers l)) q ∙ lines_passed (length old) c ∙ passed_lines _ plan set (numbers figures) (numbers coins) (numbers triples) d) w
 
 -- As it is: answers name this set, since the check leaves their goals open by `using` alone.
 pub ruleset benching_lines = (rules, bench-refused-lines, bench-run-lines)
 
--- ---- figures and coins
+-- ---- figures, coins and triples
 rest_all : (m : ℕ) (l : List ℕ) → take (length l - m) (drop m l) ≡ drop m l
 rest_all m l = take_all (length l - m) (drop m l) (omega (arith, length-drop m l))
 
@@ -135,15 +156,17 @@ module _ (bs : List ℕ) (h : Header) (p : Planned bs h) (set : ℕ) (t : Bool) 
   pub set_refused_lines :
       t ≡ false → (list : List ℕ) (at e : ℕ) (x u : List ℕ) → Put (line refused_word (number_of refusal.Coalition ∷ place_of refusal.Coalition ∷ [])) at x u e
       → Put (listed bs set list) at x u e
-  unfolding listed answered run_checks first_of
+  unfolding listed parted answered run_checks first_of
   set_refused_lines f list at e x u w =
       let figures : List ℕ = take (width * input_count (plan_of bs)) list in
-      let coins : List ℕ = drop (width * input_count (plan_of bs)) list in
+      let rest : List ℕ = drop (width * input_count (plan_of bs)) list in
+      let coins : List ℕ = take (coin_bytes (plan_of bs) rest) rest in
+      let triples : List ℕ = drop (coin_bytes (plan_of bs) rest) rest in
       let room : ℕ = width * view_count (plan_of bs) (members set) in
-      let c : bench_answer bs set figures coins room ≡ Err refusal.Coalition =
-      past_plan bs h set figures coins room p
+      let c : bench_answer bs set figures coins triples room ≡ Err refusal.Coalition =
+      past_plan bs h set figures coins triples room p
       ∙ and_then_refused _ _ refusal.Coalition (need-false refusal.Coalition (set_ok (plan_of bs) set) (sym (et ∙ set_ok_lem bs h set p) ∙ f)) in
-      put_as _ _ at e x u (refused_lines _ refusal.Coalition (plan_of bs) set (numbers figures) (numbers coins) c) w
+      put_as _ _ at e x u (refused_lines _ refusal.Coalition (plan_of bs) set (numbers figures) (numbers coins) (numbers triples) c) w
 
   -- of at most t members a view has room
   module _ (y : t ≡ true) (k : ℕ) (ek : k ≡ view_count (plan_of bs) (members set)) where
@@ -160,26 +183,62 @@ module _ (bs : List ℕ) (h : Header) (p : Planned bs h) (set : ℕ) (t : Bool) 
     pub view_long : (v : List ℕ) → length v ≡ 2097152 → width * k ≡ length (take (width * k) v)
     view_long v l = sym (length-take-le (width * k) v (view_within v l))
 
-pub split_lines : (bs : List ℕ) (set : ℕ) (list : List ℕ) (k m at e : ℕ) (t u : List ℕ) → k ≡ input_count (plan_of bs) → m ≡ min (width * k) (length list)
-    → Put (answered bs set (take m list) (take (length list - m) (drop m list))) at t u e → Put (listed bs set list) at t u e
-unfolding listed
-split_lines bs set list k m at e t u ek em w =
-    rw (← ek, ← take_min (width * k) list, ← drop_min (width * k) list, ← em, ← rest_all m list) w
+-- ---- past the figures: coins, then triples
+module _ (bs : List ℕ) (h : Header) (p : Planned bs h) (c : Tally) (i : ℕ) (tallied : Tallied (plan_of bs).gates i c) (rest : List ℕ) where
+  pub coins-all : c.spends ≡ 0 → length rest ≡ min (coin_bytes (plan_of bs) rest) (length rest)
+  unfolding coin_bytes kind_count
+  coins-all e = rw (eq-eqb (count_where (is_kind 7) (plan_of bs).gates) 0 (sym tallied.spends ∙ e)) (omega arith)
 
-pub ruleset splitting = (rules, not-true, not-false, front_long, set_refused_lines, view_within, view_long, view_sized, split_lines)
+  pub coins-full : (k r : ℕ) → (c.spends ≡ 0 → ⊥) → k ≡ coin_count (plan_of bs) → r ≡ min (width * k) (length rest) → r ≡ min (coin_bytes (plan_of bs) rest) (length rest)
+  unfolding coin_bytes kind_count
+  coins-full k r n e er = er ∙ rw (ne_eqb (count_where (is_kind 7) (plan_of bs).gates) 0 (λ q. n (tallied.spends ∙ q)), e)
+
+pub coins_fit : (bs : List ℕ) (k : ℕ) → k ≤ 645120 → Fits w64 (width * k)
+coins_fit bs k l = record { fits = omega arith }
+
+module _ (bs : List ℕ) (set : ℕ) (list : List ℕ) (k m e : ℕ) (ek : k ≡ input_count (plan_of bs)) (em : m ≡ min (width * k) (length list))
+    (f : ℕ) (ef : f ≡ min (coin_bytes (plan_of bs) (take (length list - m) (drop m list))) (length (take (length list - m) (drop m list)))) where
+  abbrev rest : List ℕ
+  rest = take (length list - m) (drop m list)
+
+  rest-is : rest ≡ drop (width * input_count (plan_of bs)) list
+  rest-is = rest_all m list ∙ rw (em, drop_min (width * k) list, ek)
+
+  pub split-in : m + f ≤ length list
+  split-in = omega (arith, em, ef, ap length (rest_all m list), length-drop m list)
+
+  -- the list in two, its figures and coins, and its triples
+  pub split_lines :
+      (given triples : List ℕ) (at r : ℕ) (t u : List ℕ) → given ≡ take (m + f) list → triples ≡ drop (m + f) list
+      → Put (answered bs set (take m given) (take (length given - m) (drop m given)) triples) at t u r → Put (listed bs set list) at t u r
+  unfolding listed parted
+  split_lines given triples at r t u eg et w =
+      let b : ℕ = coin_bytes (plan_of bs) (drop (width * input_count (plan_of bs)) list) in
+      let past : List ℕ = drop (width * input_count (plan_of bs)) list in
+      let es : f ≡ min b (length past) = rw rest-is at ef in
+      let figures : take m given ≡ take (width * input_count (plan_of bs)) list = ap (take m) eg ∙ take-take m (m + f) list (omega arith) ∙ rw (em, take_min (width * k) list, ek) in
+      let tail : drop m list ≡ past = rw (em, drop_min (width * k) list, ek) in
+      let coins : take (length given - m) (drop m given) ≡ take b past =
+      rest_all m given ∙ ap (drop m) eg ∙ drop-take m f list ∙ ap (take f) tail ∙ rw (es, take_min b past) in
+      let spare : triples ≡ drop b past = et ∙ sym (drop-drop f m list) ∙ ap (drop f) tail ∙ rw (es, drop_min b past) in
+      put_as _ _ at r t u (rw (figures, coins, spare)) w
+
+pub ruleset splitting = (rules, not-true, not-false, front_long, set_refused_lines, view_within, view_long, view_sized, coins-all, coins-full, coins_fit, split-in, split_lines)
 
 -- ---- the plan's refusal
 pub plan_refused_lines :
     (bs : List ℕ) (set : ℕ) (list : List ℕ) (r : Refusal) (at e : ℕ) (t u : List ℕ) → plan_check bs ≡ Err r
     → Put (line refused_word (number_of r ∷ place_of r ∷ [])) at t u e → Put (listed bs set list) at t u e
-unfolding listed answered bench_answer plan_check
+unfolding listed parted answered bench_answer plan_check
 plan_refused_lines bs set list r at e t u f w =
     let figures : List ℕ = take (width * input_count (plan_of bs)) list in
-    let coins : List ℕ = drop (width * input_count (plan_of bs)) list in
-    let checks : List Checked = run_checks (plan_of bs) set figures coins (width * view_count (plan_of bs) (members set)) in
-    let c : bench_answer bs set figures coins (width * view_count (plan_of bs) (members set)) ≡ Err r =
+    let rest : List ℕ = drop (width * input_count (plan_of bs)) list in
+    let coins : List ℕ = take (coin_bytes (plan_of bs) rest) rest in
+    let triples : List ℕ = drop (coin_bytes (plan_of bs) rest) rest in
+    let checks : List Checked = run_checks (plan_of bs) set figures coins triples (width * view_count (plan_of bs) (members set)) in
+    let c : bench_answer bs set figures coins triples (width * view_count (plan_of bs) (members set)) ≡ Err r =
     first_of-append (plan_checks bs) checks ∙ and_then_refused (plan_check bs) _ r f in
-    put_as _ _ at e t u (refused_lines _ r (plan_of bs) set (numbers figures) (numbers coins) c) w
+    put_as _ _ at e t u (refused_lines _ r (plan_of bs) set (numbers figures) (numbers coins) (numbers triples) c) w
 
 pub ruleset reading_plan = (rules, plan_refused_lines)
 
@@ -299,7 +358,7 @@ module _ (bs : List ℕ) (b : Bool) (eb : b ≡ unreadable bs) (f : b ≡ false)
       rw (rest_all at bs, length-drop) (omega arith)
 
   whole : report bs ≡ listed (plan_part bs) (set_part bs) (lent (plan_part bs) (list_part bs))
-  unfolding report listed answered bench_of figures_part coins_part
+  unfolding report listed parted answered bench_of figures_part rest_part coins_part triples_part
   whole = rw (← eb, f)
 
   pub plan_end : 2 + w ≤ length bs

@@ -1,12 +1,12 @@
 // The bench program's text: the lines of a bench run, or of its refusal.
 #![tactic(auto)]
 
-ghost use Rattle.std.specs.Prelude.{◌≡◌, ◌*◌, ◌/◌, ◌<◌, ◌≤◌, length, take};
+ghost use Rattle.std.specs.Prelude.{◌≡◌, ◌*◌, ◌/◌, ◌<◌, ◌≤◌, length, take, min};
 ghost use Rattle.numbers.specs.Bytes.{width, number_at};
 ghost use Rattle.plan.specs.File.{plan_of};
 ghost use Rattle.plan_coalition.specs.Coalitions.{members};
 ghost use Rattle.run_protocol.specs.Rounds.{view_count};
-ghost use Rattle.bench_lines.specs.Report.{input_width, lent, unreadable, report};
+ghost use Rattle.bench_lines.specs.Report.{input_width, lent, coin_bytes, unreadable, report};
 ghost use Rattle.bench_text.specs.Texts.{Put, Reported};
 ghost use Rattle.bench_report.specs.Answers.{answered, listed};
 
@@ -21,26 +21,38 @@ fn put_benched(
     set: u16,
     figures: &[u8],
     coins: &[u8],
+    triples: &mut [u8],
     view: &mut [u8],
 )
     requires view_len { length view.old ≡ width * view_count (plan_of plan.now.bytes.now) (members set) }
     ensures same { text.new.room.ghost_name ≡ text.old.room.ghost_name }
-    ensures put { Put (answered plan.now.bytes.now set figures.now coins.now) text.old.written text.old.room.now text.new.room.now text.new.written }
+    ensures put { Put (answered plan.now.bytes.now set figures.now coins.now triples.old) text.old.written text.old.room.now text.new.room.now text.new.written }
 {
-    match run_bench::bench(plan.bytes, set, figures, coins, view) {
+    match run_bench::bench(plan.bytes, set, figures, coins, triples, view) {
         Ok(_) => bench_lines::put_run(text, plan, set, view),
         Err(r) => bench_lines::put_refused(text, r),
     }
 }
 
-// The text of a bench run of a plan that passes: the list's first numbers, as many as a run of it has figures, are these. Of a set that passes the
-// view has room.
+// The bytes of coins among so many past the figures: all, or where the plan has gates of kind 7, no more than its full count of coins.
+#[tactic(auto, using(crate::proofs::Answering::splitting))]
+fn coin_bytes(plan: &PlanFile, rest: &[u8]) -> usize
+    ensures { result ≡ min (coin_bytes (plan_of plan.now.bytes.now) rest.now) (length rest.now) }
+{
+    if plan_counts::tally_of(plan, 0).spends == 0 {
+        return rest.len();
+    }
+    (numbers::WIDTH * plan_counts::coin_count(plan)).min(rest.len())
+}
+
+// The text of a bench run of a plan that passes: the list's first numbers, as many as a run of it has figures, are these, then come coins, then
+// triples. Of a set that passes the view has room.
 // As it is: text, plan, set and list go from `put_answer`, which reads the plan, through `put_planned`, which makes room for the view, to here, where
 // the list is split; a struct of them would be made in the first and taken apart here.
 #[tactic(auto, using(crate::proofs::Answering::splitting))]
-fn put_listed(text: &mut Text, plan: &PlanFile, set: u16, list: &[u8], view: &mut [u8; 2097152])
+fn put_listed(text: &mut Text, plan: &PlanFile, set: u16, list: &mut [u8], view: &mut [u8; 2097152])
     ensures same { text.new.room.ghost_name ≡ text.old.room.ghost_name }
-    ensures put { Put (listed plan.now.bytes.now set list.now) text.old.written text.old.room.now text.new.room.now text.new.written }
+    ensures put { Put (listed plan.now.bytes.now set list.old) text.old.written text.old.room.now text.new.room.now text.new.written }
 {
     let h = plan.header;
     if !plan_coalition::set_ok(h.n, h.t, set) {
@@ -48,14 +60,26 @@ fn put_listed(text: &mut Text, plan: &PlanFile, set: u16, list: &[u8], view: &mu
     }
     let size = numbers::WIDTH * run_bench::checking::view_count(plan, set);
     let m = (numbers::WIDTH * plan_counts::input_count(plan)).min(list.len());
-    put_benched(text, plan, set, &list[..m], &list[m..], &mut view[..size]);
+    let all = &list[..];
+    let e = m + coin_bytes(plan, &all[m..]);
+    let (given, triples) = list.split_at_mut(e);
+    let given = &given[..];
+    put_benched(
+        text,
+        plan,
+        set,
+        &given[..m],
+        &given[m..],
+        triples,
+        &mut view[..size],
+    );
 }
 
 // The same, with room for the view.
 // As it is: the room stands in a function that does nothing else with it, since the check goes too deep in a longer one over so long an array.
-fn put_planned(text: &mut Text, plan: &PlanFile, set: u16, list: &[u8])
+fn put_planned(text: &mut Text, plan: &PlanFile, set: u16, list: &mut [u8])
     ensures same { text.new.room.ghost_name ≡ text.old.room.ghost_name }
-    ensures put { Put (listed plan.now.bytes.now set list.now) text.old.written text.old.room.now text.new.room.now text.new.written }
+    ensures put { Put (listed plan.now.bytes.now set list.old) text.old.written text.old.room.now text.new.room.now text.new.written }
 {
     let mut view = [0u8; 2097152];
     put_listed(text, plan, set, list, &mut view);
@@ -63,9 +87,9 @@ fn put_planned(text: &mut Text, plan: &PlanFile, set: u16, list: &[u8])
 
 // The text of a bench run.
 #[tactic(auto, using(crate::proofs::Answering::reading_plan))]
-fn put_answer(text: &mut Text, bytes: &[u8], set: u16, list: &[u8])
+fn put_answer(text: &mut Text, bytes: &[u8], set: u16, list: &mut [u8])
     ensures same { text.new.room.ghost_name ≡ text.old.room.ghost_name }
-    ensures put { Put (listed bytes.now set list.now) text.old.written text.old.room.now text.new.room.now text.new.written }
+    ensures put { Put (listed bytes.now set list.old) text.old.written text.old.room.now text.new.room.now text.new.written }
 {
     match plan_reading::read(bytes) {
         Ok(plan) => put_planned(text, &plan, set, list),
@@ -123,7 +147,7 @@ fn put_numbers(text: &mut Text, plan: &[u8], set: u16, list: &[u8])
 {
     let mut room = [0u8; 65536];
     let e = widen(plan, list, &mut room);
-    put_answer(text, plan, set, &room[..e]);
+    put_answer(text, plan, set, &mut room[..e]);
 }
 
 // ---- the input

@@ -7,7 +7,7 @@ use mathlib.Core.Path.{◌≡◌, refl, sym, ap, ap₂, ◌∙◌}
 use mathlib.Core.Bool.{Bool, true, false, cond}
 use mathlib.Core.List.{List}
 use Prim.Native.Nat.{ℕ, suc, ◌+◌, ◌*◌, ◌/◌, ◌<◌, ◌≤◌}
-use native.Mathlib.Nat.{mul-le-mul, mul-add, mul-zero, mul_comm}
+use native.Mathlib.Nat.{mul-le-mul}
 use native.Mathlib.Numerals.{add-one}
 use native.Mathlib.Omega.{arith}
 use borrow.Author.Rules.{rules}
@@ -25,7 +25,7 @@ use Rattle.plan.specs.declared.Refusal.{Refusal}
 use Rattle.plan.specs.declared.Refusal.TheVariants as refusal
 use Rattle.plan.specs.Refusals.{Checked}
 use Rattle.plan.specs.Refusals.{and_then, first_of, need}
-use Rattle.plan.specs.Plans.{party_count, kind_count, per_multiply, sent_count}
+use Rattle.plan.specs.Plans.{party_count, kind_count, sent_count}
 use Rattle.plan.specs.File.{plan_checks, plan_check, plan_of}
 use Rattle.plan.specs.Planned.{Planned}
 use Rattle.plan.proofs.Refusals.{first_of-append, and_then_passed, and_then_refused}
@@ -37,6 +37,7 @@ use Rattle.plan_counts.specs.declared.Tally.{Tally}
 use Rattle.plan_counts.proofs.Counts.{as_count, one_at_most}
 use Rattle.plan_counts.specs.Counts.{Tallied}
 use Rattle.seat_messages.specs.Calls.{unless_refused}
+use Rattle.run_protocol.proofs.Few.{few-plan, sent-some}
 use Rattle.charge_parts.specs.declared.Portion.{Portion}
 use Rattle.charge_laws.specs.Charges.{pieces_by, elements_by, elements, bill_for, bill_of, charge_of, parts_of}
 use Rattle.charge_laws.proofs.Elements.{elements-tab, elements-long, elements-each, elements-sent}
@@ -123,14 +124,7 @@ module _ (bs : List ℕ) (h : Header) (p : Planned bs h) where
     shares_room portions e = e ∙ sym (ap length ee ∙ elements-long (plan_of bs) ∙ plan_n p)
 
   pub sent_some : (sent : ℕ) → sent ≡ sent_count (plan_of bs) → 1 ≤ sent
-  unfolding sent_count
-  sent_some sent e =
-      let n : ℕ = party_count (plan_of bs) in
-      let k : ℕ =
-      kind_count (plan_of bs) 1 + kind_count (plan_of bs) 5 * per_multiply (plan_of bs) (plan_of bs).rule + kind_count (plan_of bs) 6 * n
-      + kind_count (plan_of bs) 7 * (2 * n) + length (plan_of bs).outs in
-      let l : 1 ≤ k = omega (arith, plan_outs p, p.outs_low) in
-      rw e (omega (arith, mul-le-mul {n₁ = 1} {m₁ = 1} {n₂ = n} {m₂ = k} (omega (arith, plan_n p, p.n_low)) l))
+  sent_some sent e = omega (arith, sent-some (plan_of bs) (few-plan bs p.passes))
 
   module _ (price bill sent : ℕ) (is : sent ≡ sent_count (plan_of bs)) (eb : bill ≡ bill_for sent price) where
     pub bill_is : bill ≡ bill_of (plan_of bs) price

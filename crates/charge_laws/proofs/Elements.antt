@@ -163,7 +163,7 @@ module _ (plan : Plan) where
         let x : ℕ = total (tab (λ k. sent_for plan.rule (suc k)) (party_count plan)) in
         let y : ℕ = party_count plan * per_multiply plan plan.rule in
         ⊎_elim
-        (λ (z : kind_count plan 5 ≡ 0). ap (λ (m : ℕ). m * x) z ∙ zero-mul x ∙ sym (ap (λ (m : ℕ). m * y) z ∙ zero-mul y))
+        (λ (z : (kind_count plan 5 ≡ 0) × (kind_count plan 7 ≡ 0)). ap (λ (m : ℕ). m * x) z.0 ∙ zero-mul x ∙ sym (ap (λ (m : ℕ). m * y) z.0 ∙ zero-mul y))
         (λ two. ap (λ (k : ℕ). kind_count plan 5 * k) (multiplies-all two plan.rule))
         (none_or_majority plan valid)
 

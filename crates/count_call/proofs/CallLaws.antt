@@ -27,7 +27,7 @@ use Rattle.plan.specs.declared.Header.{Header}
 use Rattle.plan.specs.Refusals.{Checked}
 use Rattle.plan.specs.declared.Refusal.{Refusal}
 use Rattle.plan.specs.Refusals.{and_then, first_of}
-use Rattle.plan.specs.Plans.{kind_count, coin_count, coin_owners}
+use Rattle.plan.specs.Plans.{Plan, kind_count, coin_count, coin_owners, triple_numbers}
 use Rattle.plan.specs.File.{plan_checks, plan_check, plan_of}
 use Rattle.plan.specs.Planned.{Planned}
 use Rattle.plan.proofs.Refusals.{and_then_passed, and_then_refused, first_of-append}
@@ -50,6 +50,16 @@ use Rattle.count_laws.proofs.Owned.{few_others, few_coins}
 use Rattle.count_fill.specs.Filling.{row_bytes, rows_filled, Lent}
 use Rattle.count_call.specs.Counting.{counted_settings, Countable}
 use Rattle.count_call.proofs.CheckLaws.{passed-countable, passed-size}
+
+-- a plan that is counted spends no triple
+module _ (plan : Plan) (set : ℕ) (inputs given : List ℕ) (c : Countable plan set inputs given) where
+  no-spent : kind_count plan 7 ≡ 0
+  unfolding settings_ok
+  no-spent = omega (arith, eqb-true (kind_count plan 6 + kind_count plan 7) 0 (both_true (leb (setting_count plan set) 65536) _ c.counted).1)
+
+  no-triples : triple_numbers plan ≡ 0
+  unfolding triple_numbers
+  no-triples = omega (arith, no-spent)
 
 -- ---- the rooms
 module _ (bs : List ℕ) (h : Header) (pl : Planned bs h) (set : ℕ) (inputs given : List ℕ) (c : Countable (plan_of bs) set inputs given) where
@@ -79,6 +89,7 @@ module _ (bs : List ℕ) (h : Header) (pl : Planned bs h) (set : ℕ) (inputs gi
       inputs_below = c.inputs_below;
       given_below = c.given_below;
       owned = ap (λ (k : ℕ). take k owners) en ∙ e;
+      unspent = no-triples (plan_of bs) set inputs given c;
       wide = w.0;
       few = w.1;
     }
@@ -106,17 +117,12 @@ module _ (bs : List ℕ) (h : Header) (pl : Planned bs h) (set : ℕ) (inputs gi
   seen : ℕ → List ℕ
   seen s = view (plan_of bs) (members set) xs (setting_coins (plan_of bs) set cs s) []
 
-  -- a plan that is counted spends no triple
-  no-spent : kind_count (plan_of bs) 7 ≡ 0
-  unfolding settings_ok
-  no-spent = omega (arith, eqb-true (kind_count (plan_of bs) 6 + kind_count (plan_of bs) 7) 0 (both_true (leb (setting_count (plan_of bs) set) 65536) _ c.counted).1)
-
   some : 0 < (plan_of bs).p
   some = omega (arith, plan_p pl, pl.p_low)
 
   seen-long : (s : ℕ) → length (seen s) ≡ v
   unfolding seen
-  seen-long s = view_long (plan_of bs) (valid bs pl.passes) no-spent set c.fits xs cs s
+  seen-long s = view_long (plan_of bs) (valid bs pl.passes) (no-spent (plan_of bs) set inputs given c) set c.fits xs cs s
 
   unit-long : (s : ℕ) → length (unit (seen s)) ≡ v + 1
   unit-long s = length-append (seen s) (1 ∷ []) ∙ ap (λ (n : ℕ). n + 1) (seen-long s)
@@ -125,7 +131,7 @@ module _ (bs : List ℕ) (h : Header) (pl : Planned bs h) (set : ℕ) (inputs gi
   unfolding seen all_below
   unit-below s =
       append_below (plan_of bs).p (seen s) (1 ∷ [])
-      (view_below (plan_of bs) (valid bs pl.passes) no-spent xs (setting_coins (plan_of bs) set cs s) c.inputs_below
+      (view_below (plan_of bs) (valid bs pl.passes) (no-spent (plan_of bs) set inputs given c) xs (setting_coins (plan_of bs) set cs s) c.inputs_below
       (setting_long (plan_of bs) set cs s) (setting_small (plan_of bs) set cs s some c.given_below) (members set) (members_within (plan_of bs) set c.fits))
       (rw (lt-ltb 1 (plan_of bs).p (omega (arith, plan_p pl, pl.p_low, pl.n_low))) refl)
 
@@ -171,7 +177,7 @@ module _ (bs : List ℕ) (h : Header) (pl : Planned bs h) (set : ℕ) (inputs gi
   counts-units (s ∷ ss) f = omega (arith, get_or_at s 1 [] 0 v f.0, counts-units ss f.1)
 
   all_long : AllLong v (views_of (plan_of bs) set xs cs)
-  all_long = views-long (plan_of bs) (valid bs pl.passes) no-spent set c.fits xs cs
+  all_long = views-long (plan_of bs) (valid bs pl.passes) (no-spent (plan_of bs) set inputs given c) set c.fits xs cs
 
   views-count : length (views_of (plan_of bs) set xs cs) ≡ k
   unfolding views_of
@@ -184,7 +190,7 @@ module _ (bs : List ℕ) (h : Header) (pl : Planned bs h) (set : ℕ) (inputs gi
   unfolding row_width
   sorted-list new e =
       e ∙ ap (λ (t : List (List ℕ)). merges.listed (v + 1) k (merged v (sorted t))) table_filled
-      ∙ view-list (plan_of bs) (valid bs pl.passes) no-spent set c.fits xs cs
+      ∙ view-list (plan_of bs) (valid bs pl.passes) (no-spent (plan_of bs) set inputs given c) set c.fits xs cs
 
   size-rows : count_size (plan_of bs) set ≡ width * (v + 1) * k
   unfolding count_size row_width

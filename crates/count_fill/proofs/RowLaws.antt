@@ -6,7 +6,7 @@ use Prim.Native.Nat.{ℕ, ◌+◌, ◌-◌, ◌*◌, ◌/◌, ◌%◌, ◌^◌, 
 use mathlib.Core.Path.{◌≡◌, refl, sym, ap, ap₂, ◌∙◌}
 use mathlib.Core.Bool.{true}
 use mathlib.Core.List.{List, [], ◌∷◌, ◌++◌}
-use native.Mathlib.Nat.{mul-div-le, mod-eq-sub-mul-div}
+use native.Mathlib.Nat.{mul-zero, mul-div-le, mod-eq-sub-mul-div}
 use native.Mathlib.Omega.{arith}
 use borrow.Author.Rules.{rules}
 use borrow.Author.Tests.{ltb-true}
@@ -16,12 +16,12 @@ use lib.Seq.{take_all, take_at, length-take-le}
 use mir.Syntax.{w64}
 use mir.Val.{Fits}
 use Rattle.numbers.specs.Bytes.{width, limit, numbers, bytes_of, stored, all_below}
-use Rattle.numbers.proofs.Bytes.{bytes_of-append, length-bytes_of, length-stored, take-stored, numbers_of_bytes}
+use Rattle.numbers.proofs.Bytes.{numbers-nil, bytes_of-append, length-bytes_of, length-stored, take-stored, numbers_of_bytes}
 use Rattle.numbers.proofs.Below.{all_below_at, all_below_more}
 use Rattle.numbers.proofs.Truth.{both_true}
 use Rattle.sharing_openings.proofs.Rows.{Written, none_written, room, piece_long, written_next, written_done}
 use Rattle.plan.specs.declared.Header.{Header}
-use Rattle.plan.specs.Plans.{Plan, party_count, coin_count}
+use Rattle.plan.specs.Plans.{Plan, party_count, coin_count, triple_numbers}
 use Rattle.plan.specs.File.{plan_of}
 use Rattle.plan.specs.Planned.{Planned}
 use Rattle.plan.proofs.Planned.{plan_p, plan_n}
@@ -67,8 +67,14 @@ row_long v row ys new l ly en =
     ap length en ∙ length-stored (ys ++ drop (width * v) row) v 1
     ∙ omega (arith, length-append ys (drop (width * v) row), length-drop (width * v) row, row_part v row l)
 
+pub row_seen :
+    (plan : Plan) (ms xs cs ts : List ℕ) (v : ℕ) (row ys new : List ℕ) → ts ≡ [] → length row ≡ width * (v + 1) → ys ≡ bytes_of (view plan ms xs cs (numbers ts))
+    → length ys ≡ length (take (width * v) row) → new ≡ stored (ys ++ drop (width * v) row) v 1 → new ≡ bytes_of (view plan ms xs cs [] ++ (1 ∷ []))
+row_seen plan ms xs cs ts v row ys new et l ey ly en =
+    row_done v row ys new (view plan ms xs cs []) l (ey ∙ ap (λ (us : List ℕ). bytes_of (view plan ms xs cs us)) (ap numbers et ∙ numbers-nil)) ly en
+
 -- As it is: answers name this set, since the check leaves their goals open by `using` alone.
-pub ruleset viewing = (rules, set_within, view_fits, row_within, row_part, row_room, row_done, row_long)
+pub ruleset viewing = (rules, set_within, view_fits, row_within, row_part, row_room, row_seen, row_long)
 
 -- ---- all settings
 module _ (bs : List ℕ) (h : Header) (pl : Planned bs h) where
@@ -90,6 +96,13 @@ module _ (bs : List ℕ) (h : Header) (pl : Planned bs h) where
     setting-below : (k : ℕ) → all_below (plan_of bs).p (setting_coins (plan_of bs) set (numbers given) k) ≡ true
     setting-below k = setting_small (plan_of bs) set (numbers given) k plan-some le.given_below
 
+    no-triples : 0 ≡ width * (party_count (plan_of bs) * triple_numbers (plan_of bs))
+    no-triples = sym (ap (λ (k : ℕ). width * (party_count (plan_of bs) * k)) le.unspent ∙ ap (λ (k : ℕ). width * k) (mul-zero (party_count (plan_of bs))))
+
+    none-below : all_below (plan_of bs).p (numbers []) ≡ true
+    unfolding all_below
+    none-below = ap (all_below (plan_of bs).p) numbers-nil
+
     module _ (k : ℕ) (coins : List ℕ) (e : coins ≡ bytes_of (coins_from h.field.p set owners (numbers given) k)) where
       coins_are : coins ≡ bytes_of (setting_coins (plan_of bs) set (numbers given) k)
       coins_are = e ∙ ap bytes_of (setting-is k)
@@ -101,12 +114,14 @@ module _ (bs : List ℕ) (h : Header) (pl : Planned bs h) where
           (λ i l. all_below_at limit (setting_coins (plan_of bs) set (numbers given) k) i
           (all_below_more (plan_of bs).p limit (setting_coins (plan_of bs) set (numbers given) k) (omega (arith, pl.p-high, plan_p pl)) (setting-below k)) l)
 
-      pub setting-given : Given (plan_of bs) inputs coins
+      pub setting-given : Given (plan_of bs) inputs coins []
       setting-given = record {
         inputs_count = le.inputs_count;
         inputs_below = le.inputs_below;
         coins_count = ap length coins_are ∙ length-bytes_of (setting_coins (plan_of bs) set (numbers given) k) ∙ ap (λ (n : ℕ). width * n) (setting_long (plan_of bs) set (numbers given) k);
         coins_below = ap (all_below (plan_of bs).p) numbers-are ∙ setting-below k;
+        triples_count = no-triples;
+        triples_below = none-below;
       }
 
       pub row_is : (ys : List ℕ) → ys ≡ bytes_of (view (plan_of bs) (members set) (numbers inputs) (numbers coins) [] ++ (1 ∷ [])) → ys ≡ row_bytes (plan_of bs) set (numbers inputs) (numbers given) k

@@ -128,13 +128,21 @@ impl Settings<'_> {
     // The set's view of the run with these coins, then 1; `table` takes the run's shares.
     #[tactic(auto, using(crate::proofs::RowLaws::viewing))]
     fn fill_row(&self, coins: &[u8], table: &mut [u64], row: &mut [u8])
-        requires given { Given (plan_of self.now.run.now.plan.now.bytes.now) self.now.inputs.now coins.now }
+        requires given { Given (plan_of self.now.run.now.plan.now.bytes.now) self.now.inputs.now coins.now [] }
         requires table_in_bounds { self.now.run.now.plan.now.header.n * self.now.run.now.plan.now.header.gates ≤ length table.old }
         requires row_len { length row.old ≡ width * (self.now.view_len + 1) }
         ensures { row.new ≡ bytes_of (view (plan_of self.now.run.now.plan.now.bytes.now) (members self.now.set) (numbers self.now.inputs.now) (numbers coins.now) [] ++ (1 ∷ [])) }
     {
         let e = numbers::WIDTH * self.view_len;
-        run_bench::write_run_by(self.run, self.set, self.inputs, coins, table, &mut row[..e]);
+        run_bench::write_run_by(
+            self.run,
+            self.set,
+            self.inputs,
+            coins,
+            &[],
+            table,
+            &mut row[..e],
+        );
         numbers::write(row, self.view_len, 1);
     }
 

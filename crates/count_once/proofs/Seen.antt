@@ -23,10 +23,9 @@ use Rattle.plan.proofs.Valid.{Valid}
 use Rattle.seat_messages.specs.Messages.{wires_by_party}
 use Rattle.run_protocol.specs.Rounds.{mail_to, after, mails, results, view_of, view, view_count_of, view_count}
 use Rattle.run_protocol.specs.Shares.{wire_at, share_table, gate_share, dealt_at, sharings, pieces_at}
-use Rattle.run_protocol.specs.Tables.{before_gate, gate_in, table_mail}
+use Rattle.run_protocol.specs.Tables.{before_gate, gate_in, table_mail, Tabled}
 use Rattle.run_protocol.proofs.Owners.{length-own}
 use Rattle.run_protocol.proofs.Table.{table_at}
-use Rattle.run_protocol.proofs.Expected.{Tabled}
 use Rattle.run_protocol.proofs.Given.{tabled-none}
 use Rattle.run_protocol.proofs.Runs.{run-mail}
 use Rattle.run_protocol.proofs.Counts.{mail_count_lem}

@@ -1,18 +1,14 @@
 -- How many of everything a plan that passes has.
 -- Assumes nothing.
 use Rattle.std.proofs.Common.{Ok}
-use Prim.Native.Nat.{ℕ, ◌+◌, ◌≤◌, ◌<◌}
+use Prim.Native.Nat.{ℕ, ◌≤◌, ◌<◌}
 use mathlib.Core.Path.{◌≡◌}
 use mathlib.Core.List.{List}
-use native.Mathlib.Nat.{mul-le-mul}
 use native.Mathlib.Omega.{arith}
 use lib.ListN.{length}
-use Rattle.numbers.proofs.Tables.{length-tab}
 use Rattle.plan.specs.Plans.{Plan, party_count, input_count, own_input_count, coin_count, own_coin_count, mail_count, sent_count}
-use Rattle.plan.specs.File.{point_at, n_at, out_count_at, plan_check, plan_of}
-use Rattle.plan.proofs.Planned.{passing, between-true, Laid, laid, length_outs}
+use Rattle.plan.specs.File.{plan_check, plan_of}
 use Rattle.run_protocol.specs.Rounds.{view_count_of}
-use Rattle.run_protocol.proofs.ViewCounts.{gate_mail}
 use Rattle.run_protocol.proofs.Few as few
 use Rattle.run_protocol.proofs.Few.{Few, few-plan}
 use Rattle.charge_laws.specs.Charges.{bill_of}
@@ -24,9 +20,6 @@ module _ (bs : List ℕ) (passes : plan_check bs ≡ Ok tt) where
 
   bounds : Few (plan_of bs)
   bounds = few-plan bs passes
-
-  laid_out : Laid bs
-  laid_out = laid bs (passing bs passes).layout
 
   pub outs_few : length plan.outs ≤ 64
   outs_few = bounds.outs
@@ -60,9 +53,4 @@ module _ (bs : List ℕ) (passes : plan_check bs ≡ Ok tt) where
   bill-few price l = bill_fits (sent_count plan) price (few.sent-most plan bounds) l
 
   pub sent-some : 1 ≤ sent_count plan
-  unfolding party_count plan_of
-  sent-some =
-      let n : 1 ≤ party_count (plan_of bs) = omega (arith, length-tab (point_at bs) (n_at bs), (between-true 1 15 (n_at bs) (passing bs passes).parties).0) in
-      let k : ℕ = gate_mail (plan_of bs) + length (plan_of bs).outs in
-      let l : 1 ≤ k = omega (arith, length_outs bs, (between-true 1 64 (out_count_at bs) laid_out.outs).0) in
-      omega (arith, few.sent-by-mail plan bounds, mul-le-mul {n₁ = 1} {m₁ = 1} {n₂ = party_count (plan_of bs)} {m₂ = k} n l)
+  sent-some = few.sent-some plan bounds

@@ -33,7 +33,7 @@ use Rattle.demands.specs.Further.{shares_in, Broken, FirstBroken}
 use Rattle.demands.proofs.First.{clash, same_number, same_place, Numbers, ◌▹◌, joined, plan_numbers, plan-numbers, party_numbers, party-numbers, first_passed}
 
 -- ---- the checks before the one that refuses
-is_in : ℕ → List ℕ → Bool
+unfoldable pub is_in : ℕ → List ℕ → Bool
 is_in n [] = false
 is_in n (m ∷ ms) = cond (eqb m n) true (is_in n ms)
 
@@ -45,7 +45,7 @@ not_first n m true rest e h = absurd (true≢false h)
 not_first n m false rest e h = (λ q. true≢false (sym (eq-eqb m n q) ∙ e), h)
 
 -- where the first k checks have other numbers than the refusal, they pass
-split_at : (k : ℕ) (ns : List ℕ) (cs : List Checked) → Numbers ns cs → (r : Refusal) → is_in (number_of r) (take k ns) ≡ false → first_of cs ≡ Err r
+pub split_at : (k : ℕ) (ns : List ℕ) (cs : List Checked) → Numbers ns cs → (r : Refusal) → is_in (number_of r) (take k ns) ≡ false → first_of cs ≡ Err r
     → (first_of (take k cs) ≡ Ok tt) × (first_of (drop k cs) ≡ Err r)
 unfolding first_of and_then is_in
 split_at (suc k) [] (_ ∷ cs) h r none e = elim h [ ]
@@ -62,6 +62,12 @@ cond_refused true c r e = e
 cond_refused false c r e = clash r e
 
 -- ---- the shares of an out
+-- refusal 20 tells the place that the search found, counted from 1
+pub told : (place : ℕ) (f : Option ℕ) → unless_found (λ s. refusal.OffPolynomial (s + 1)) f ≡ Err (refusal.OffPolynomial place) → (s : ℕ) × (f ≡ Some s) × (place ≡ s + 1)
+unfolding unless_found place_of
+told place (Some s) e = (s, refl, sym (same_place (refusal.OffPolynomial (s + 1)) (refusal.OffPolynomial place) e))
+told place None e = clash (refusal.OffPolynomial place) e
+
 below_by : (p : ℕ) (xs : List ℕ) (i : ℕ) → 0 < p → all_below p xs ≡ true → (b : Bool) → ltb i (length xs) ≡ b → get_or xs i 0 < p
 below_by p xs i pos h true e = all_below_at p xs i h (ltb-true i (length xs) e)
 below_by p xs i pos h false e = rw (get_or-eq_default xs 0 {n = i} (ltb-false i (length xs) e)) pos
@@ -80,11 +86,6 @@ module _ (plan : Plan) (ok : Valid plan) (i : ℕ) (mail : List ℕ) (below : al
       (all_below-tab plan.p (λ s. get_or mail (own_out_count plan i * s + j) 0) (length plan.points)
       (λ s l. below_by plan.p mail (own_out_count plan i * s + j) (pos ok.prime) below (ltb (own_out_count plan i * s + j) (length mail)) refl))
 
-  told : (place : ℕ) (f : Option ℕ) → unless_found (λ s. refusal.OffPolynomial (s + 1)) f ≡ Err (refusal.OffPolynomial place) → (s : ℕ) × (f ≡ Some s) × (place ≡ s + 1)
-  unfolding unless_found place_of
-  told place (Some s) e = (s, refl, sym (same_place (refusal.OffPolynomial (s + 1)) (refusal.OffPolynomial place) e))
-  told place None e = clash (refusal.OffPolynomial place) e
-
   outs-broken : (place : ℕ) → outs_check plan i mail ≡ Err (refusal.OffPolynomial place) → Broken plan i mail place
   unfolding outs_check on_polynomial off
   outs-broken place e =
@@ -101,23 +102,23 @@ module _ (plan : Plan) (ok : Valid plan) (i : ℕ) (mail : List ℕ) (below : al
       }
 
 -- ---- a call that is refused with 20
-module _ (bytes : List ℕ) (i : ℕ) (inputs coins state mail : List ℕ) (room place : ℕ)
-    (e : call_answer bytes i inputs coins state mail room ≡ Err (refusal.OffPolynomial place)) where
-  parts : (first_of (take 21 (call_checks bytes i inputs coins state mail room)) ≡ Ok tt) × (first_of (drop 21 (call_checks bytes i inputs coins state mail room)) ≡ Err (refusal.OffPolynomial place))
+module _ (bytes : List ℕ) (i : ℕ) (inputs coins triples state mail : List ℕ) (room place : ℕ)
+    (e : call_answer bytes i inputs coins triples state mail room ≡ Err (refusal.OffPolynomial place)) where
+  parts : (first_of (take 23 (call_checks bytes i inputs coins triples state mail room)) ≡ Ok tt) × (first_of (drop 23 (call_checks bytes i inputs coins triples state mail room)) ≡ Err (refusal.OffPolynomial place))
   unfolding call_answer call_checks number_of is_in
   parts =
-      split_at 21 (plan_numbers ++ party_numbers) (call_checks bytes i inputs coins state mail room)
-      (joined (plan-numbers bytes) (party-numbers (plan_of bytes) i inputs coins state mail room)) (refusal.OffPolynomial place) refl e
+      split_at 23 (plan_numbers ++ party_numbers) (call_checks bytes i inputs coins triples state mail room)
+      (joined (plan-numbers bytes) (party-numbers (plan_of bytes) i inputs coins triples state mail room)) (refusal.OffPolynomial place) refl e
 
   passes : plan_check bytes ≡ Ok tt
   unfolding call_checks plan_check plan_checks party_checks
-  passes = (passed_both (first_of (plan_checks bytes)) _ (sym (first_of-append (plan_checks bytes) (take 11 (party_checks (plan_of bytes) i inputs coins state mail room))) ∙ parts.0)).0
+  passes = (passed_both (first_of (plan_checks bytes)) _ (sym (first_of-append (plan_checks bytes) (take 13 (party_checks (plan_of bytes) i inputs coins triples state mail room))) ∙ parts.0)).0
 
   below : all_below (plan_of bytes).p (numbers mail) ≡ true
   unfolding call_checks plan_checks party_checks
   below =
       first_over-nothing (plan_of bytes).p (numbers mail)
-      (passed_found refusal.MailValue (first_over (plan_of bytes).p (numbers mail)) (first_passed (take 21 (call_checks bytes i inputs coins state mail room)) parts.0 19))
+      (passed_found refusal.MailValue (first_over (plan_of bytes).p (numbers mail)) (first_passed (take 23 (call_checks bytes i inputs coins triples state mail room)) parts.0 21))
 
   opening : opening_check (plan_of bytes) i (get_or (numbers state) 0 0) (numbers mail) ≡ Err (refusal.OffPolynomial place)
   unfolding call_checks plan_checks party_checks first_of

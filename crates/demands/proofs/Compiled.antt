@@ -107,7 +107,7 @@ module _ (n t p i : ℕ) (text : List ℕ) (room : ℕ) (answers : sheet_answer 
       where
         written : (coins : List ℕ) (lent : ℕ → ℕ → List ℕ) → Coins (plan_of (sheet_file n t p i text)) coins
             → ((j k : ℕ) → length (lent j k) ≡ width * written_count (plan_of (sheet_file n t p i text)) j k)
-            → (apart.answer_of i (apart.run (sheet_file n t p i text) xs coins lent (last_call (plan_of (sheet_file n t p i text))))).out ≡ bytes_of (granted (plan_of (sheet_file n t p i text)) xs i)
+            → (apart.answer_of i (apart.run (sheet_file n t p i text) xs coins [] lent (last_call (plan_of (sheet_file n t p i text))))).out ≡ bytes_of (granted (plan_of (sheet_file n t p i text)) xs i)
         written coins lent settings room =
             unfold sheet_file in results n t p (sheet_bodies n p i text) checks.few one_out wired checks.plan i xs coins lent party.0 party.1 figures settings room
 

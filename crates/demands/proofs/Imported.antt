@@ -5,7 +5,7 @@ use Rattle.std.proofs.Common.{Ok}
 use Prim.Native.Nat.{ℕ, suc, ◌*◌, ◌≤◌}
 use mathlib.Core.Path.{◌≡◌, refl, sym, ap, ◌∙◌}
 use mathlib.Core.Bool.{true, ◌&&◌}
-use mathlib.Core.List.{List}
+use mathlib.Core.List.{List, []}
 use native.Mathlib.Omega.{arith}
 use borrow.Author.Tests.{leb-true}
 use lib.Dec.{leb}
@@ -99,7 +99,7 @@ module _ (n t p : ℕ) (text : List ℕ) (room : ℕ) (answers : import_answer n
       where
         written : (coins : List ℕ) (lent : ℕ → ℕ → List ℕ) → Coins (plan_of (import_file n t p text)) coins
             → ((i k : ℕ) → length (lent i k) ≡ width * written_count (plan_of (import_file n t p text)) i k)
-            → (apart.answer_of 1 (apart.run (import_file n t p text) xs coins lent (last_call (plan_of (import_file n t p text))))).out ≡ bytes_of (granted (plan_of (import_file n t p text)) xs 1)
+            → (apart.answer_of 1 (apart.run (import_file n t p text) xs coins [] lent (last_call (plan_of (import_file n t p text))))).out ≡ bytes_of (granted (plan_of (import_file n t p text)) xs 1)
         written coins lent settings room =
             unfold import_file in results n t p (import_bodies p text) few-gates few_outs made-wired passes 1 xs coins lent (omega arith) (parties n t p (import_bodies p text) few-gates few_outs made-wired passes).0 figures settings room
 

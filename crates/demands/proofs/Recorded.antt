@@ -1,6 +1,6 @@
 -- What is claimed of the run record.
 --     recorded_passed, read_passed                               what the answers of the writer and of the bench's reader say
---     round_trip, shown-apart, same_shown, tiled, own_body       the claims
+--     round_trip, shown-apart, same_shown, both_shown, tiled, own_body       the claims
 -- Assumes nothing.
 use Rattle.std.proofs.Common.{Ok}
 use Prim.Native.Nat.{ℕ, zero, suc, ◌-◌, ◌*◌, ◌^◌, ◌<◌, ◌≤◌}
@@ -10,7 +10,7 @@ use mathlib.Core.List.{List, [], ◌∷◌, ◌++◌, flat_map, append-nil}
 use native.Mathlib.Omega.{arith}
 use borrow.Author.Tests.{eq-eqb, le-leb}
 use lib.Dec.{eqb}
-use lib.ListN.{length, get_or, replicate, length-replicate}
+use lib.ListN.{length, replicate, length-replicate}
 use Rattle.numbers.specs.Tables.{first_from, first_failing}
 use Rattle.numbers.specs.Bytes.{width, limit, numbers, bytes_of}
 use Rattle.numbers.proofs.Searches.{nothing_passes}
@@ -20,39 +20,51 @@ use Rattle.plan.specs.Refusals.{Checked}
 use Rattle.plan.specs.declared.Refusal.TheVariants as refusal
 use Rattle.plan.specs.Refusals.{first_of, need}
 use Rattle.plan.proofs.Refusals.{first_of-nil, first_of-append, need-true, next_passes, both_pass, passed_both, passed-need}
-use Rattle.plan.specs.Plans.{Plan, party_count, parties, input_count, coin_count}
+use Rattle.plan.specs.Plans.{Plan, party_count, parties, coin_count, triple_numbers}
 use Rattle.plan.specs.File.{between, same_bytes, plan_checks, plan_check, plan_of}
-use Rattle.plan.proofs.Valid.{valid}
+use Rattle.plan.proofs.Valid.{Valid, valid}
 use Rattle.plan.proofs.Parties.{each-party}
 use Rattle.plan_coalition.specs.Coalitions.{in_set, members_from, members}
 use Rattle.seat_messages.specs.Calls.{unless_refused}
-use Rattle.seat_admission.specs.Parts.{list_checks}
-use Rattle.run_protocol.specs.Rounds.{view_of, view, view_count}
-use Rattle.run_protocol.proofs.Accepted.{back, values_pass}
-use Rattle.run_bench.specs.Checks.{given_checks}
-use Rattle.run_bench.specs.BenchCalls.{run_checks, bench_answer, view_after}
+use Rattle.run_protocol.specs.Rounds.{at_end, view_of, view, view_count}
+use Rattle.run_protocol.specs.Tables.{Tabled, triples_of}
+use Rattle.run_protocol.proofs.Given.{tabled_list}
+use Rattle.run_bench.specs.BenchCalls.{broken_check, given_checks, run_checks, bench_answer, view_after}
 use Rattle.match_agreement.specs.MatchCalls.{matched_after}
 use Rattle.import_text.proofs.Words.{same_true}
 use Rattle.record_laws.specs.Records.{body_size, record_size, record_of, record_checks, record_answer, record_after, record_ok, bench_read_checks, bench_read_answer, bodies_of, bench_read_after, body_of, plant_read_checks, plant_read_answer, plant_read_after}
 use Rattle.record_laws.proofs.Sizes.{record_few}
 use Rattle.record_laws.proofs.Reading as reading
 use Rattle.demands.specs.Demands.{Given, SameBytes}
-use Rattle.demands.specs.Records.{ReadBack, RoundTrip, ShownApart, only, SameShown, Tiled, OwnBody}
+use Rattle.match_prepared.specs.PreparedCalls.{prepared_ok, prepared_after}
+use Rattle.demands.specs.Further.{JointlyMatched}
+use Rattle.demands.specs.Records.{ReadBack, RoundTrip, ShownApart, only, SameBody, SameShown, BothShown, Tiled, OwnBody}
 use Rattle.demands.proofs.Bounds.{parties-few, views-few}
 use Rattle.demands.proofs.First.{first_passed}
-use Rattle.demands.proofs.Second.{spends-none, small_prime}
-use Rattle.demands.proofs.Apart.{kept, count_passes, held-apart}
-use Rattle.demands.proofs.Matched.{matched_bytes}
+use Rattle.demands.proofs.Benches.{kept, inputs_back, coins_back, triples_back, ended_pass}
+use Rattle.demands.proofs.Apart.{held-apart}
+use Rattle.demands.proofs.Computed.{points_of}
+use Rattle.demands.proofs.Matched.{matched_bytes, shape, joint_bytes}
 
 -- ---- what answers say
-recorded_passed :
-    (bytes figures coins : List ℕ) (room : ℕ) → record_answer bytes figures coins room ≡ Ok tt
-    → (plan_check bytes ≡ Ok tt) × (length (numbers coins) ≡ coin_count (plan_of bytes))
-unfolding record_answer record_checks plan_check given_checks list_checks
-recorded_passed bytes figures coins room passed =
-    let rest : List Checked = given_checks (plan_of bytes) figures coins ++ (need refusal.BufferLength (eqb room (record_size (plan_of bytes))) ∷ []) in
+pub record Recorded (bytes coins triples : List ℕ) : Type 0 where
+  pub passes : plan_check bytes ≡ Ok tt
+  pub coins_long : length (numbers coins) ≡ coin_count (plan_of bytes)
+  pub triples_long : length (numbers triples) ≡ party_count (plan_of bytes) * triple_numbers (plan_of bytes)
+
+recorded_passed : (bytes figures coins triples : List ℕ) (room : ℕ) → record_answer bytes figures coins triples room ≡ Ok tt → Recorded bytes coins triples
+unfolding record_answer record_checks plan_check given_checks
+recorded_passed bytes figures coins triples room passed =
+    let rest : List Checked =
+    given_checks (plan_of bytes) figures coins triples
+    ++ (need refusal.BufferLength (eqb room (record_size (plan_of bytes)))
+    ∷ broken_check (plan_of bytes) (at_end (plan_of bytes) (numbers figures) (numbers coins) (numbers triples)) ∷ []) in
     let a = passed_both _ _ (sym (first_of-append (plan_checks bytes) rest) ∙ passed) in
-    (a.0, holds-numbers (coin_count (plan_of bytes)) coins (passed-need refusal.CoinCount _ (first_passed rest a.1 2)))
+    record {
+      passes = a.0;
+      coins_long = holds-numbers (coin_count (plan_of bytes)) coins (passed-need refusal.CoinCount _ (first_passed rest a.1 2));
+      triples_long = holds-numbers (party_count (plan_of bytes) * triple_numbers (plan_of bytes)) triples (passed-need refusal.Triples _ (first_passed rest a.1 5));
+    }
 
 read_passed : (bytes stored : List ℕ) (room : ℕ) → bench_read_answer bytes stored room ≡ Ok tt → (plan_check bytes ≡ Ok tt) × (record_ok (plan_of bytes) stored ≡ true)
 unfolding bench_read_answer bench_read_checks plan_check
@@ -94,74 +106,69 @@ module _ (bytes stored : List ℕ) (passes : plan_check bytes ≡ Ok tt) (ok : r
     plant-gives out fits = kept _ _ out (plant-passes (length out) fits)
 
 -- ---- the record of a run
-module _ (bytes figures coins out : List ℕ) (passed : record_answer bytes figures coins (length out) ≡ Ok tt) where
-  plan-passes : plan_check bytes ≡ Ok tt
-  plan-passes = (recorded_passed bytes figures coins (length out) passed).0
+module _ (bytes figures coins triples out : List ℕ) (passed : record_answer bytes figures coins triples (length out) ≡ Ok tt) where
+  abbrev plan : Plan
+  plan = plan_of bytes
 
-  full : length (numbers coins) ≡ coin_count (plan_of bytes)
-  full = (recorded_passed bytes figures coins (length out) passed).1
+  said : Recorded bytes coins triples
+  said = recorded_passed bytes figures coins triples (length out) passed
 
-  stored_is : record_after bytes figures coins out ≡ record_of (plan_of bytes) (numbers figures) (numbers coins)
+  proper : Valid plan
+  proper = valid bytes said.passes
+
+  tabled : Tabled plan (numbers triples) (triples_of plan (numbers triples))
+  tabled = tabled_list plan proper (numbers triples) said.triples_long
+
+  stored_is : record_after bytes figures coins triples out ≡ record_of plan (numbers figures) (numbers coins) (numbers triples)
   unfolding record_after
   stored_is = kept _ _ out passed
 
-  small : record_size (plan_of bytes) < limit
-  small = record_few (plan_of bytes) (views-few bytes plan-passes) (parties-few bytes plan-passes)
+  small : record_size plan < limit
+  small = record_few plan (views-few bytes said.passes) (parties-few bytes said.passes)
 
-  stored_ok : record_ok (plan_of bytes) (record_after bytes figures coins out) ≡ true
-  stored_ok =
-      ap (record_ok (plan_of bytes)) stored_is
-      ∙ reading.run_ok (plan_of bytes) (valid bytes plan-passes) (spends-none bytes plan-passes) (numbers figures) (numbers coins) full small
+  stored_ok : record_ok plan (record_after bytes figures coins triples out) ≡ true
+  stored_ok = ap (record_ok plan) stored_is ∙ reading.run_ok plan proper (numbers figures) (numbers coins) (numbers triples) _ said.coins_long tabled small
 
-  body-stored : (i : ℕ) → 1 ≤ i → i ≤ party_count (plan_of bytes)
-      → body_of (plan_of bytes) (record_after bytes figures coins out) i ≡ bytes_of (view_of (plan_of bytes) (numbers figures) (numbers coins) [] i)
+  body-stored : (i : ℕ) → 1 ≤ i → i ≤ party_count plan
+      → body_of plan (record_after bytes figures coins triples out) i ≡ bytes_of (view_of plan (numbers figures) (numbers coins) (numbers triples) i)
   body-stored i l m =
-      ap (λ (r : List ℕ). body_of (plan_of bytes) r i) stored_is
-      ∙ reading.run-body (plan_of bytes) (valid bytes plan-passes) (spends-none bytes plan-passes) (numbers figures) (numbers coins) full i l m
+      ap (λ (r : List ℕ). body_of plan r i) stored_is ∙ reading.run-body plan proper (numbers figures) (numbers coins) (numbers triples) _ said.coins_long tabled i l m
 
-  bodies-stored : bodies_of (plan_of bytes) (record_after bytes figures coins out) ≡ bytes_of (view (plan_of bytes) (parties (plan_of bytes)) (numbers figures) (numbers coins) [])
-  bodies-stored =
-      ap (bodies_of (plan_of bytes)) stored_is
-      ∙ reading.run-bodies (plan_of bytes) (valid bytes plan-passes) (spends-none bytes plan-passes) (numbers figures) (numbers coins) full
+  bodies-stored : bodies_of plan (record_after bytes figures coins triples out) ≡ bytes_of (view plan (parties plan) (numbers figures) (numbers coins) (numbers triples))
+  bodies-stored = ap (bodies_of plan) stored_is ∙ reading.run-bodies plan proper (numbers figures) (numbers coins) (numbers triples) _ said.coins_long tabled
 
-  read_back : ReadBack bytes figures coins (record_after bytes figures coins out)
+  read_back : ReadBack bytes figures coins triples (record_after bytes figures coins triples out)
   unfolding body_size
   read_back = record {
-    long = reading.ok-size (plan_of bytes) (record_after bytes figures coins out) stored_ok;
+    long = reading.ok-size plan (record_after bytes figures coins triples out) stored_ok;
     bench = λ b fits. (
-      bench_passes bytes _ plan-passes stored_ok (length b) fits,
-      bench-gives bytes _ plan-passes stored_ok b fits ∙ bodies-stored,
+      bench_passes bytes _ said.passes stored_ok (length b) fits,
+      bench-gives bytes _ said.passes stored_ok b fits ∙ bodies-stored,
     );
     plant = λ i b l m fits. (
-      plant-passes bytes _ plan-passes stored_ok i l m (length b) fits,
-      plant-gives bytes _ plan-passes stored_ok i l m b fits ∙ body-stored i l m,
+      plant-passes bytes _ said.passes stored_ok i l m (length b) fits,
+      plant-gives bytes _ said.passes stored_ok i l m b fits ∙ body-stored i l m,
     );
   }
 
 pub round_trip : RoundTrip
-round_trip bytes figures coins out passed = read_back bytes figures coins out passed
+round_trip bytes figures coins triples out passed = read_back bytes figures coins triples out passed
 
 -- ---- parties run apart
-run_passes : (bytes xs coins : List ℕ) (room : ℕ) → Given bytes xs coins → room ≡ record_size (plan_of bytes) → record_answer bytes (bytes_of xs) (bytes_of coins) room ≡ Ok tt
-unfolding record_answer record_checks given_checks list_checks plan_check
-run_passes bytes xs coins room given fits =
-    let s : (plan_of bytes).p ≤ limit = small_prime bytes given.passes in
-    both_pass (plan_checks bytes) _ given.passes
-    (next_passes _ _ (count_passes refusal.InputCount (input_count (plan_of bytes)) xs given.inputs.count)
-    (next_passes _ _ (values_pass refusal.InputValue (plan_of bytes).p xs s given.inputs.small)
-    (next_passes _ _ (count_passes refusal.CoinCount (coin_count (plan_of bytes)) coins given.settings.count)
-    (next_passes _ _ (values_pass refusal.CoinValue (plan_of bytes).p coins s given.settings.small)
-    (next_passes _ _ (need-true refusal.BufferLength _ (eq-eqb room (record_size (plan_of bytes)) fits)) first_of-nil)))))
+run_passes : (bytes xs coins ts : List ℕ) (room : ℕ) → Given bytes xs coins ts → room ≡ record_size (plan_of bytes) → record_answer bytes (bytes_of xs) (bytes_of coins) (bytes_of ts) room ≡ Ok tt
+unfolding record_answer record_checks plan_check
+run_passes bytes xs coins ts room given fits =
+    both_pass (plan_checks bytes) _ given.passes (ended_pass bytes xs coins ts given _ (eq-eqb room (record_size (plan_of bytes)) fits))
 
 pub shown-apart : ShownApart
 unfolding body_size
-shown-apart bytes xs coins stored out i lent is-bytes given room l m whole fits =
-    let passed : record_answer bytes (bytes_of xs) (bytes_of coins) (length stored) ≡ Ok tt = run_passes bytes xs coins (length stored) given whole in
-    let s : (plan_of bytes).p ≤ limit = small_prime bytes given.passes in (
+shown-apart bytes xs coins ts stored out i lent is-bytes given room l m whole fits =
+    let passed : record_answer bytes (bytes_of xs) (bytes_of coins) (bytes_of ts) (length stored) ≡ Ok tt = run_passes bytes xs coins ts (length stored) given whole in (
       passed,
-      ((round_trip bytes (bytes_of xs) (bytes_of coins) stored passed).plant i out l m fits).1
-          ∙ ap₂ (λ (x c : List ℕ). bytes_of (view_of (plan_of bytes) x c [] i)) (back (plan_of bytes).p xs s given.inputs.small) (back (plan_of bytes).p coins s given.settings.small)
-          ∙ held-apart bytes xs coins lent is-bytes given room i l m,
+      ((round_trip bytes (bytes_of xs) (bytes_of coins) (bytes_of ts) stored passed).plant i out l m fits).1
+          ∙ ap₂ (λ (x c : List ℕ). bytes_of (view_of (plan_of bytes) x c (numbers (bytes_of ts)) i)) (inputs_back bytes xs coins ts given) (coins_back bytes xs coins ts given)
+          ∙ ap (λ (t : List ℕ). bytes_of (view_of (plan_of bytes) xs coins t i)) (triples_back bytes xs coins ts given)
+          ∙ held-apart bytes xs coins ts lent is-bytes given room i l m,
     )
 
 -- ---- bodies one after the other
@@ -212,57 +219,89 @@ only_member (suc k) l m =
     ∙ same_true (members (2 ^ k)) (suc k ∷ []) (nothing_passes (λ k. same_bytes (members (2 ^ k)) (suc k ∷ [])) 15 refl k m)
 
 -- where the bench gives this set's view, party i's reader gives the same of the stored run
-module _ (bytes : List ℕ) (i : ℕ) (l : 1 ≤ i) (m : i ≤ party_count (plan_of bytes)) (figures coins given : List ℕ)
-    (passed : bench_answer bytes (only i) figures coins (length given) ≡ Ok tt) where
-  two : (first_of (plan_checks bytes) ≡ Ok tt) × (first_of (run_checks (plan_of bytes) (only i) figures coins (length given)) ≡ Ok tt)
+module _ (bytes : List ℕ) (i : ℕ) (l : 1 ≤ i) (m : i ≤ party_count (plan_of bytes)) (figures coins triples given : List ℕ)
+    (passed : bench_answer bytes (only i) figures coins triples (length given) ≡ Ok tt) where
+  two : (first_of (plan_checks bytes) ≡ Ok tt) × (first_of (run_checks (plan_of bytes) (only i) figures coins triples (length given)) ≡ Ok tt)
   unfolding bench_answer
-  two = passed_both _ _ (sym (first_of-append (plan_checks bytes) (run_checks (plan_of bytes) (only i) figures coins (length given))) ∙ passed)
+  two = passed_both _ _ (sym (first_of-append (plan_checks bytes) (run_checks (plan_of bytes) (only i) figures coins triples (length given))) ∙ passed)
 
-  each : (k : ℕ) → get_or (run_checks (plan_of bytes) (only i) figures coins (length given)) k (Ok tt) ≡ Ok tt
-  each = first_passed _ two.1
+  -- after refusal 9 those of what the run is given, and after 19 refusal 20
+  given-passed : first_of (given_checks (plan_of bytes) figures coins triples) ≡ Ok tt
+  unfolding run_checks first_of
+  given-passed = (passed_both _ _ (sym (first_of-append (given_checks (plan_of bytes) figures coins triples) _) ∙ (passed_both _ _ two.1).1)).0
 
-  record-passes : (room : ℕ) → room ≡ record_size (plan_of bytes) → record_answer bytes figures coins room ≡ Ok tt
-  unfolding record_answer record_checks given_checks list_checks run_checks
+  none_broken : broken_check (plan_of bytes) (at_end (plan_of bytes) (numbers figures) (numbers coins) (numbers triples)) ≡ Ok tt
+  unfolding run_checks first_of
+  none_broken =
+      let a = passed_both _ _ (sym (first_of-append (given_checks (plan_of bytes) figures coins triples) _) ∙ (passed_both _ _ two.1).1) in
+      (passed_both _ _ (passed_both _ _ a.1).1).0
+
+  record-passes : (room : ℕ) → room ≡ record_size (plan_of bytes) → record_answer bytes figures coins triples room ≡ Ok tt
+  unfolding record_answer record_checks
   record-passes room fits =
       both_pass (plan_checks bytes) _ two.0
-      (next_passes _ _ (each 1)
-      (next_passes _ _ (each 2)
-      (next_passes _ _ (each 3)
-      (next_passes _ _ (each 4)
-      (next_passes _ _ (need-true refusal.BufferLength _ (eq-eqb room (record_size (plan_of bytes)) fits)) first_of-nil)))))
+      (both_pass (given_checks (plan_of bytes) figures coins triples) _ given-passed
+      (next_passes _ _ (need-true refusal.BufferLength _ (eq-eqb room (record_size (plan_of bytes)) fits)) (next_passes _ _ none_broken first_of-nil)))
 
   module _ (stored : List ℕ) (whole : length stored ≡ record_size (plan_of bytes)) (out : List ℕ) (fits : length out ≡ body_size (plan_of bytes) i) where
-    stored-run : ReadBack bytes figures coins (record_after bytes figures coins stored)
-    stored-run = round_trip bytes figures coins stored (record-passes (length stored) whole)
+    stored-run : ReadBack bytes figures coins triples (record_after bytes figures coins triples stored)
+    stored-run = round_trip bytes figures coins triples stored (record-passes (length stored) whole)
 
-    one_passes : plant_read_answer bytes (record_after bytes figures coins stored) i (length out) ≡ Ok tt
+    one_passes : plant_read_answer bytes (record_after bytes figures coins triples stored) i (length out) ≡ Ok tt
     unfolding body_size
     one_passes = (stored-run.plant i out l m fits).0
 
-    one-view : view (plan_of bytes) (members (only i)) (numbers figures) (numbers coins) [] ≡ view_of (plan_of bytes) (numbers figures) (numbers coins) [] i
+    one-view : view (plan_of bytes) (members (only i)) (numbers figures) (numbers coins) (numbers triples) ≡ view_of (plan_of bytes) (numbers figures) (numbers coins) (numbers triples) i
     unfolding view flat_map plan_check
     one-view =
-        ap (λ (ms : List ℕ). flat_map (view_of (plan_of bytes) (numbers figures) (numbers coins) []) ms) (only_member i l (omega (arith, m, parties-few bytes two.0)))
-        ∙ append-nil (view_of (plan_of bytes) (numbers figures) (numbers coins) [] i)
+        ap (λ (ms : List ℕ). flat_map (view_of (plan_of bytes) (numbers figures) (numbers coins) (numbers triples)) ms) (only_member i l (omega (arith, m, parties-few bytes two.0)))
+        ∙ append-nil (view_of (plan_of bytes) (numbers figures) (numbers coins) (numbers triples) i)
 
-    as-bench : plant_read_after bytes (record_after bytes figures coins stored) i out ≡ view_after bytes (only i) figures coins given
+    as-bench : plant_read_after bytes (record_after bytes figures coins triples stored) i out ≡ view_after bytes (only i) figures coins triples given
     unfolding body_size view_after
     as-bench = (stored-run.plant i out l m fits).1 ∙ ap bytes_of (sym one-view) ∙ sym (kept _ _ given passed)
+
+-- two runs that show a bench the same
+same_stored : (bytes : List ℕ) (i : ℕ) (first coins ts second moved us view stored stored' out out' : List ℕ) → 1 ≤ i → i ≤ party_count (plan_of bytes)
+    → SameBytes bytes (only i) first coins ts second moved us view view
+    → length stored ≡ record_size (plan_of bytes) → length stored' ≡ record_size (plan_of bytes)
+    → length out ≡ body_size (plan_of bytes) i → length out' ≡ body_size (plan_of bytes) i
+    → SameBody bytes i first coins ts second moved us stored stored' out out'
+same_stored bytes i first coins ts second moved us view stored stored' out out' l m same whole whole' fits fits' = record {
+  first-stored = record-passes bytes i l m first coins ts view same.first_answers (length stored) whole;
+  second-stored = record-passes bytes i l m second moved us view same.second_answers (length stored') whole';
+  first_read = one_passes bytes i l m first coins ts view same.first_answers stored whole out fits;
+  second_read = one_passes bytes i l m second moved us view same.second_answers stored' whole' out' fits';
+  same =
+      as-bench bytes i l m first coins ts view same.first_answers stored whole out fits
+      ∙ same.same
+      ∙ sym (as-bench bytes i l m second moved us view same.second_answers stored' whole' out' fits');
+}
 
 pub same_shown : SameShown
 same_shown bytes i first second coins matched stored stored' out out' b0 b1 b2 b3 l m passed whole whole' fits fits' =
     let n : ℕ = width * view_count (plan_of bytes) (members (only i)) in
     let view : List ℕ = replicate n 0 in
-    let moved : List ℕ = matched_after bytes (only i) first second coins matched in
-    let same : SameBytes bytes (only i) first second coins matched view view =
-    matched_bytes bytes (only i) first second coins matched view view b0 b1 b2 b3 passed (length-replicate n 0) (length-replicate n 0) in
+    same_stored bytes i first coins [] second (matched_after bytes (only i) first second coins matched) [] view stored stored' out out' l m
+    (matched_bytes bytes (only i) first second coins matched view view b0 b1 b2 b3 passed (length-replicate n 0) (length-replicate n 0)) whole whole' fits fits'
+
+-- a preparing plan has the main plan's parties
+prep_party : (prep bytes : List ℕ) (i : ℕ) → prepared_ok (plan_of prep) (plan_of bytes) ≡ true → i ≤ party_count (plan_of bytes) → i ≤ party_count (plan_of prep)
+unfolding party_count
+prep_party prep bytes i shape m = omega (arith, m, ap length (points_of (plan_of prep) (plan_of bytes) shape))
+
+pub both_shown : BothShown
+both_shown prep bytes i first second coins matched p0 b0 b1 b2 b3 l m passed =
+    let both : JointlyMatched prep bytes (only i) first second coins (prepared_after prep bytes (only i) first second coins matched) =
+    joint_bytes prep bytes (only i) first second coins matched p0 b0 b1 b2 b3 passed in
+    let n : ℕ = width * view_count (plan_of prep) (members (only i)) in
+    let k : ℕ = width * view_count (plan_of bytes) (members (only i)) in
     record {
-      first-stored = record-passes bytes i l m first coins view same.first_answers (length stored) whole;
-      second-stored = record-passes bytes i l m second moved view same.second_answers (length stored') whole';
-      first_read = one_passes bytes i l m first coins view same.first_answers stored whole out fits;
-      second_read = one_passes bytes i l m second moved view same.second_answers stored' whole' out' fits';
-      same =
-          as-bench bytes i l m first coins view same.first_answers stored whole out fits
-          ∙ same.same
-          ∙ sym (as-bench bytes i l m second moved view same.second_answers stored' whole' out' fits');
+      preparing = λ stored stored' out out'.
+          same_stored prep i _ _ [] _ _ [] (replicate n 0) stored stored' out out' l
+          (prep_party prep bytes i (shape prep bytes (only i) first second coins matched p0 b0 b1 b2 b3 passed) m)
+          (both.preparing (replicate n 0) (replicate n 0) (length-replicate n 0) (length-replicate n 0));
+      main = λ stored stored' out out'.
+          same_stored bytes i _ _ _ _ _ _ (replicate k 0) stored stored' out out' l m
+          (both.main (replicate k 0) (replicate k 0) (length-replicate k 0) (length-replicate k 0));
     }

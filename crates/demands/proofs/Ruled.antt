@@ -49,7 +49,7 @@ module _ (rule : Rule) (plan : Plan) where
 
 pub same_results : SameResults
 unfolding under party_count
-same_results first second xs coins coins' lent lent' rule bytes bytes' same given given' room room' i from1 upto =
-    (demand2 second xs coins' lent' bytes' given' room').results i from1 (rw same upto)
+same_results first second xs coins coins' ts ts' lent lent' rule bytes bytes' same given given' room room' i from1 upto =
+    (demand2 second xs coins' ts' lent' bytes' given' room').results i from1 (rw same upto)
     ∙ ap bytes_of (ap (λ (plan : Plan). granted plan xs i) same ∙ granted-under rule (plan_of first) xs i)
-    ∙ sym ((demand2 first xs coins lent bytes given room).results i from1 upto)
+    ∙ sym ((demand2 first xs coins ts lent bytes given room).results i from1 upto)

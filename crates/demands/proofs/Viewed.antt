@@ -18,7 +18,7 @@ use Rattle.plan.specs.Refusals.{first_of}
 use Rattle.plan.specs.Plans.{Plan}
 use Rattle.plan.specs.File.{plan_checks, plan_check, plan_of}
 use Rattle.plan.proofs.Refusals.{first_of-append, passed_both, passed-need, passed_found}
-use Rattle.plan.proofs.Valid.{valid, plain, plain_no_7}
+use Rattle.plan.proofs.Valid.{valid}
 use Rattle.plan_coalition.specs.Coalitions.{members}
 use Rattle.seat_messages.specs.Calls.{unless_refused}
 use Rattle.seat_admission.specs.Parts.{list_checks}
@@ -74,7 +74,7 @@ views-counted bytes set figures coins out e = record {
 }
 
 pub views_once : ViewsOnce
-views_once bytes set xs given passes rule exact small = record {
-  ones = once-each (plan_of bytes) (valid bytes passes) rule (plain_no_7 (plan_of bytes) (plain bytes passes)) set exact xs given small;
-  views = once-all (plan_of bytes) (valid bytes passes) rule (plain_no_7 (plan_of bytes) (plain bytes passes)) set exact xs given small;
+views_once bytes set xs given passes rule none exact small = record {
+  ones = once-each (plan_of bytes) (valid bytes passes) rule none set exact xs given small;
+  views = once-all (plan_of bytes) (valid bytes passes) rule none set exact xs given small;
 }

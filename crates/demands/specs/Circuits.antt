@@ -30,11 +30,11 @@ pub record SameBits (c : Circuit) (bytes xs : List ℕ) : Type 0 where
   -- what the plan grants to party 1 is the circuit's output bits in wire order, and to any other nothing
   pub granted_bits : granted (plan_of bytes) xs 1 ≡ circuit_bits c xs
   pub granted-none : (i : ℕ) → (i ≡ 1 → ⊥) → granted (plan_of bytes) xs i ≡ []
-  -- and in every run of parties apart these bits are what party 1's last call writes
+  -- and in every run of parties apart, which spends no triple, these bits are what party 1's last call writes
   pub results :
       (coins : List ℕ) (lent : ℕ → ℕ → List ℕ) → Coins (plan_of bytes) coins
       → ((i k : ℕ) → length (lent i k) ≡ width * written_count (plan_of bytes) i k)
-      → (apart.answer_of 1 (apart.run bytes xs coins lent (last_call (plan_of bytes)))).out ≡ bytes_of (circuit_bits c xs)
+      → (apart.answer_of 1 (apart.run bytes xs coins [] lent (last_call (plan_of bytes)))).out ≡ bytes_of (circuit_bits c xs)
 
 -- for every text that imports, and every list of figures of 0 and 1 with its count
 abbrev pub Imported : Type 0
@@ -102,4 +102,6 @@ pub record CircuitSums : Type 0 where
   -- above 65,535 the file has version 3
   pub third : code_of (import_answer 3 1 65537 inverter 77) ≡ 0
   pub third_longer : code_of (import_answer 3 1 65537 inverter 39) ≡ 19
-  pub no_outs : answer_for 3 1 11 "0 1\n1 1\n0\n" 24 ≡ 6
+  -- no output is a plan without outs, no wire is none
+  pub no_outs : answer_for 3 1 11 "0 1\n1 1\n0\n" 24 ≡ 0
+  pub no_wires : answer_for 3 1 11 "0 0\n0\n0\n" 18 ≡ 6

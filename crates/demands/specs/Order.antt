@@ -5,7 +5,7 @@ use Rattle.plan.specs.Refusals.{number_of}
 
 -- the numbers in checking order
 unfoldable pub checking_order : List ℕ
-checking_order = 23 ∷ 27 ∷ 24 ∷ 1 ∷ 2 ∷ 3 ∷ 4 ∷ 5 ∷ 6 ∷ 7 ∷ 8 ∷ 25 ∷ 26 ∷ 31 ∷ 28 ∷ 9 ∷ 10 ∷ 11 ∷ 12 ∷ 13 ∷ 30 ∷ 14 ∷ 15 ∷ 16 ∷ 17 ∷ 18 ∷ 19 ∷ 20 ∷ 21 ∷ 22 ∷ []
+checking_order = 23 ∷ 27 ∷ 24 ∷ 1 ∷ 2 ∷ 3 ∷ 4 ∷ 5 ∷ 6 ∷ 7 ∷ 8 ∷ 25 ∷ 26 ∷ 31 ∷ 28 ∷ 9 ∷ 10 ∷ 11 ∷ 12 ∷ 13 ∷ 29 ∷ 30 ∷ 14 ∷ 15 ∷ 16 ∷ 17 ∷ 18 ∷ 19 ∷ 20 ∷ 21 ∷ 22 ∷ []
 
 unfoldable pub rank_in : List ℕ → ℕ → ℕ
 rank_in [] m = 0

@@ -10,46 +10,48 @@ use Rattle.plan.specs.Plans.{party_count, parties, written_count}
 use Rattle.plan.specs.File.{plan_of}
 use Rattle.run_protocol.specs.Rounds.{view_of, view, view_count_of, view_count}
 use Rattle.match_agreement.specs.MatchCalls.{match_answer, matched_after}
+use Rattle.match_prepared.specs.PreparedCalls.{prepared_answer, prepared_after}
 use Rattle.record_laws.specs.Records.{body_size, record_size, record_answer, record_after, bench_read_answer, bench_read_after, body_of, plant_read_answer, plant_read_after}
 use Rattle.demands.specs.Apart as apart
 use Rattle.demands.specs.Demands.{Given}
+use Rattle.demands.specs.Further.{draw_bytes, preparing_bytes, main_bytes, triple_bytes}
 use Rattle.demands.specs.Sums.{like_k, inputs1, coins1}
 
--- ---- what was stored of a run is read by both: the bench's reader gives all parties' views, one after the other, a plant's reader that plant's
--- view, whatever their buffers held
-pub record ReadBack (bytes figures coins stored : List ℕ) : Type 0 where
+-- ---- what was stored of a run, with any triples, is read by both: the bench's reader gives all parties' views, one after the other, a plant's reader
+-- that plant's view, whatever their buffers held
+pub record ReadBack (bytes figures coins triples stored : List ℕ) : Type 0 where
   pub long : length stored ≡ record_size (plan_of bytes)
   pub bench :
       (out : List ℕ) → length out ≡ width * view_count (plan_of bytes) (parties (plan_of bytes))
       → (bench_read_answer bytes stored (length out) ≡ Ok tt)
-      × (bench_read_after bytes stored out ≡ bytes_of (view (plan_of bytes) (parties (plan_of bytes)) (numbers figures) (numbers coins) []))
+      × (bench_read_after bytes stored out ≡ bytes_of (view (plan_of bytes) (parties (plan_of bytes)) (numbers figures) (numbers coins) (numbers triples)))
   pub plant :
       (i : ℕ) (out : List ℕ) → 1 ≤ i → i ≤ party_count (plan_of bytes) → length out ≡ width * view_count_of (plan_of bytes) i
       → (plant_read_answer bytes stored i (length out) ≡ Ok tt)
-      × (plant_read_after bytes stored i out ≡ bytes_of (view_of (plan_of bytes) (numbers figures) (numbers coins) [] i))
+      × (plant_read_after bytes stored i out ≡ bytes_of (view_of (plan_of bytes) (numbers figures) (numbers coins) (numbers triples) i))
 
 -- for all lent bytes, where the writer refuses nothing
 abbrev pub RoundTrip : Type 0
 RoundTrip =
-    (bytes figures coins out : List ℕ) → record_answer bytes figures coins (length out) ≡ Ok tt
-    → ReadBack bytes figures coins (record_after bytes figures coins out)
+    (bytes figures coins triples out : List ℕ) → record_answer bytes figures coins triples (length out) ≡ Ok tt
+    → ReadBack bytes figures coins triples (record_after bytes figures coins triples out)
 
 -- for all runs: the record is written, and a plant's reader gives byte for byte what that party held and received where the parties run apart
 abbrev pub ShownApart : Type 0
 ShownApart =
-    (bytes xs coins stored out : List ℕ) (i : ℕ) (lent : ℕ → ℕ → List ℕ) → all_below 256 bytes ≡ true → Given bytes xs coins
+    (bytes xs coins ts stored out : List ℕ) (i : ℕ) (lent : ℕ → ℕ → List ℕ) → all_below 256 bytes ≡ true → Given bytes xs coins ts
     → ((j k : ℕ) → length (lent j k) ≡ width * written_count (plan_of bytes) j k)
     → 1 ≤ i → i ≤ party_count (plan_of bytes) → length stored ≡ record_size (plan_of bytes) → length out ≡ body_size (plan_of bytes) i
-    → (record_answer bytes (bytes_of xs) (bytes_of coins) (length stored) ≡ Ok tt)
-    × (plant_read_after bytes (record_after bytes (bytes_of xs) (bytes_of coins) stored) i out ≡ apart.held_by bytes xs coins lent i)
+    → (record_answer bytes (bytes_of xs) (bytes_of coins) (bytes_of ts) (length stored) ≡ Ok tt)
+    × (plant_read_after bytes (record_after bytes (bytes_of xs) (bytes_of coins) (bytes_of ts) stored) i out ≡ apart.held_by bytes xs coins ts lent i)
 
--- ---- two runs, the second with these coins, stored and read by party i: no call is refused, and its reader gives the same bytes
-pub record SameBody (bytes : List ℕ) (i : ℕ) (first coins second moved stored stored' out out' : List ℕ) : Type 0 where
-  pub first-stored : record_answer bytes first coins (length stored) ≡ Ok tt
-  pub second-stored : record_answer bytes second moved (length stored') ≡ Ok tt
-  pub first_read : plant_read_answer bytes (record_after bytes first coins stored) i (length out) ≡ Ok tt
-  pub second_read : plant_read_answer bytes (record_after bytes second moved stored') i (length out') ≡ Ok tt
-  pub same : plant_read_after bytes (record_after bytes first coins stored) i out ≡ plant_read_after bytes (record_after bytes second moved stored') i out'
+-- ---- two runs, the second with these coins and triples, stored and read by party i: no call is refused, and its reader gives the same bytes
+pub record SameBody (bytes : List ℕ) (i : ℕ) (first coins ts second moved ts' stored stored' out out' : List ℕ) : Type 0 where
+  pub first-stored : record_answer bytes first coins ts (length stored) ≡ Ok tt
+  pub second-stored : record_answer bytes second moved ts' (length stored') ≡ Ok tt
+  pub first_read : plant_read_answer bytes (record_after bytes first coins ts stored) i (length out) ≡ Ok tt
+  pub second_read : plant_read_answer bytes (record_after bytes second moved ts' stored') i (length out') ≡ Ok tt
+  pub same : plant_read_after bytes (record_after bytes first coins ts stored) i out ≡ plant_read_after bytes (record_after bytes second moved ts' stored') i out'
 
 -- the coalition of party i alone
 abbrev pub only : ℕ → ℕ
@@ -64,7 +66,30 @@ SameShown =
     → match_answer bytes (only i) first second coins (length matched) ≡ Ok tt
     → length stored ≡ record_size (plan_of bytes) → length stored' ≡ record_size (plan_of bytes)
     → length out ≡ body_size (plan_of bytes) i → length out' ≡ body_size (plan_of bytes) i
-    → SameBody bytes i first coins second (matched_after bytes (only i) first second coins matched) stored stored' out out'
+    → SameBody bytes i first coins [] second (matched_after bytes (only i) first second coins matched) [] stored stored' out out'
+
+-- and where that of a preparing run and its main run together does: the records of both
+pub record SameBoth (prep bytes : List ℕ) (i : ℕ) (first second coins moved : List ℕ) : Type 0 where
+  pub preparing :
+      (stored stored' out out' : List ℕ)
+      → length stored ≡ record_size (plan_of prep) → length stored' ≡ record_size (plan_of prep)
+      → length out ≡ body_size (plan_of prep) i → length out' ≡ body_size (plan_of prep) i
+      → SameBody prep i (draw_bytes (plan_of prep) coins) (preparing_bytes (plan_of prep) coins) []
+      (draw_bytes (plan_of prep) moved) (preparing_bytes (plan_of prep) moved) [] stored stored' out out'
+  pub main :
+      (stored stored' out out' : List ℕ)
+      → length stored ≡ record_size (plan_of bytes) → length stored' ≡ record_size (plan_of bytes)
+      → length out ≡ body_size (plan_of bytes) i → length out' ≡ body_size (plan_of bytes) i
+      → SameBody bytes i first (main_bytes (plan_of prep) coins) (triple_bytes (plan_of prep) coins)
+      second (main_bytes (plan_of prep) moved) (triple_bytes (plan_of prep) moved) stored stored' out out'
+
+abbrev pub BothShown : Type 0
+BothShown =
+    (prep bytes : List ℕ) (i : ℕ) (first second coins matched : List ℕ)
+    → all_below 256 prep ≡ true → all_below 256 bytes ≡ true → all_below 256 first ≡ true → all_below 256 second ≡ true → all_below 256 coins ≡ true
+    → 1 ≤ i → i ≤ party_count (plan_of bytes)
+    → prepared_answer prep bytes (only i) first second coins (length matched) ≡ Ok tt
+    → SameBoth prep bytes i first second coins (prepared_after prep bytes (only i) first second coins matched)
 
 -- ---- any record that the bench's reader takes, and a buffer for each party: every party's reader takes it, and the bench's gives what they give, one
 -- after the other
@@ -106,7 +131,7 @@ changed at number = sets stored_k at (bytes_from 4 number)
 
 -- the answers of the writer and of the two readers, with buffers of so many bytes
 unfoldable pub write_for : List ℕ → List ℕ → ℕ → ℕ
-write_for figures coins room = code_of (record_answer (like_k 3 1 11 0) (bytes_of figures) (bytes_of coins) room)
+write_for figures coins room = code_of (record_answer (like_k 3 1 11 0) (bytes_of figures) (bytes_of coins) [] room)
 
 unfoldable pub read_all : List ℕ → ℕ → ℕ
 read_all stored room = code_of (bench_read_answer (like_k 3 1 11 0) stored room)
@@ -116,7 +141,7 @@ read_one stored i room = code_of (plant_read_answer (like_k 3 1 11 0) stored i r
 
 pub record RecordSums : Type 0 where
   pub size : record_size (plan_of (like_k 3 1 11 0)) ≡ 128
-  pub written : record_after (like_k 3 1 11 0) (bytes_of inputs1) (bytes_of coins1) (replicate 128 9) ≡ stored_k
+  pub written : record_after (like_k 3 1 11 0) (bytes_of inputs1) (bytes_of coins1) [] (replicate 128 9) ≡ stored_k
   pub shown : plant_read_after (like_k 3 1 11 0) stored_k 3 (replicate 40 9) ≡ bytes_of (7 ∷ 10 ∷ 3 ∷ 7 ∷ 4 ∷ 7 ∷ 10 ∷ 7 ∷ 4 ∷ 2 ∷ [])
   pub writes : write_for inputs1 coins1 128 ≡ 0
   pub short : write_for inputs1 coins1 127 ≡ 19

@@ -33,11 +33,11 @@ pub record SameValue (x : Tree) (p i : ℕ) (bytes xs : List ℕ) : Type 0 where
   -- what the plan grants to party i is the formula's value, and to any other nothing
   pub granted_value : granted (plan_of bytes) xs i ≡ formula_value p (names_of x) xs x ∷ []
   pub granted-none : (j : ℕ) → (j ≡ i → ⊥) → granted (plan_of bytes) xs j ≡ []
-  -- and in every run of parties apart this value is what party i's last call writes
+  -- and in every run of parties apart, which spends no triple, this value is what party i's last call writes
   pub results :
       (coins : List ℕ) (lent : ℕ → ℕ → List ℕ) → Coins (plan_of bytes) coins
       → ((j k : ℕ) → length (lent j k) ≡ width * written_count (plan_of bytes) j k)
-      → (apart.answer_of i (apart.run bytes xs coins lent (last_call (plan_of bytes)))).out ≡ bytes_of (formula_value p (names_of x) xs x ∷ [])
+      → (apart.answer_of i (apart.run bytes xs coins [] lent (last_call (plan_of bytes)))).out ≡ bytes_of (formula_value p (names_of x) xs x ∷ [])
 
 -- for every sheet that compiles, and all figures
 abbrev pub Compiled : Type 0

@@ -81,11 +81,11 @@ shares_of w = map (wire_at (share_table K inputs1 coins1 []) w) K.points
 
 -- the bench's answer for K, a set, figures and P1's coins, with a buffer of so many numbers
 unfoldable pub bench_of : ℕ → List ℕ → ℕ → ℕ
-bench_of set xs room = code_of (bench_answer (like_k 3 1 11 0) set (bytes_of xs) (bytes_of coins1) room)
+bench_of set xs room = code_of (bench_answer (like_k 3 1 11 0) set (bytes_of xs) (bytes_of coins1) [] room)
 
 -- the answer to seat 3's last call in P1's run, with this mail
 unfoldable pub last_call_of : List ℕ → ℕ
-last_call_of mail = code_of (call_answer (like_k 3 1 11 0) 3 [] (bytes_of (7 ∷ [])) (bytes_of (3 ∷ 10 ∷ 3 ∷ 5 ∷ 4 ∷ [])) (bytes_of mail) width)
+last_call_of mail = code_of (call_answer (like_k 3 1 11 0) 3 [] (bytes_of (7 ∷ [])) [] (bytes_of (3 ∷ 10 ∷ 3 ∷ 5 ∷ 4 ∷ [])) (bytes_of mail) width)
 
 -- P5's second list
 abbrev pub inputs5 : List ℕ
@@ -149,5 +149,5 @@ pub record Sums : Type 0 where
       ≡ 20 + 256 * 4
   -- the premises of demands 2 and 3 are met, for the set {3}
   pub bytes_met : all_below 256 (like_k 3 1 11 0) ≡ true
-  pub given_met : Given (like_k 3 1 11 0) inputs1 coins1
+  pub given_met : Given (like_k 3 1 11 0) inputs1 coins1 []
   pub alike_met : Alike (like_k 3 1 11 0) 4 inputs1 inputs5

@@ -5,7 +5,7 @@ use Rattle.std.specs.Prelude.{Ok, ℕ, ◌+◌, ◌*◌, ◌^◌, ◌<◌, ◌�
 use Rattle.numbers.specs.Bytes.{numbers, bytes_of, all_below}
 use Rattle.plan.specs.declared.Rule.TheVariants.{Reduction}
 use Rattle.plan.specs.Refusals.{code_of}
-use Rattle.plan.specs.Plans.{Plan}
+use Rattle.plan.specs.Plans.{Plan, kind_count}
 use Rattle.plan.specs.File.{plan_check, plan_of}
 use Rattle.run_protocol.specs.Settings.{Coins}
 use Rattle.count_laws.specs.Settings.{setting_count, setting_coins, held_coins, views_of, other_dealings}
@@ -34,7 +34,8 @@ abbrev pub ViewsCounted : Type 0
 ViewsCounted =
     (bytes : List ℕ) (set : ℕ) (figures coins out : List ℕ) → count_answer bytes set figures coins (length out) ≡ Ok tt → Counted bytes set figures coins out
 
--- ---- exactly t members, under the rule of versions 1 to 3: no view has two settings, and there are p to the power e views
+-- ---- exactly t members, under the rule of versions 1 to 3: no view has two settings, and there are p to the power e views; a plan that spends triples
+-- is not counted
 pub record Once (plan : Plan) (set : ℕ) (xs given : List ℕ) : Type 0 where
   pub ones : (i : ℕ) → i < length (rows_of (views_of plan set xs given)) → (get_or (rows_of (views_of plan set xs given)) i no_row).count ≡ 1
   pub views : length (rows_of (views_of plan set xs given)) ≡ plan.p ^ (plan.t * other_dealings plan set)
@@ -42,7 +43,7 @@ pub record Once (plan : Plan) (set : ℕ) (xs given : List ℕ) : Type 0 where
 abbrev pub ViewsOnce : Type 0
 ViewsOnce =
     (bytes : List ℕ) (set : ℕ) (xs given : List ℕ) → plan_check bytes ≡ Ok tt → (plan_of bytes).rule ≡ Reduction
-    → Exactly (plan_of bytes) set → all_below (plan_of bytes).p given ≡ true
+    → kind_count (plan_of bytes) 7 ≡ 0 → Exactly (plan_of bytes) set → all_below (plan_of bytes).p given ≡ true
     → Once (plan_of bytes) set xs given
 
 -- ---- worked lists: n = 2, t = 1, the inputs of parties 1 and 2 added, one out for party 1; and the two bytes of p

@@ -38,12 +38,14 @@ use Rattle.plan.specs.Refusals.{Checked}
 use Rattle.plan.specs.declared.Refusal.{Refusal}
 use Rattle.plan.specs.declared.Refusal.TheVariants as refusal
 use Rattle.plan.specs.Refusals.{and_then, first_of, need, unless_found}
-use Rattle.plan.specs.Plans.{Plan, parties, input_owners_at, input_owners, input_count, coin_count}
+use Rattle.plan.specs.Plans.{Plan, parties, kind_count, input_owners_at, input_owners, input_count, coin_count}
 use Rattle.plan.specs.File.{gate_at, out_at, plan_of}
 use Rattle.plan.specs.Planned.{Planned}
 use Rattle.plan_coalition.specs.Coalitions.{set_fits, set_ok, in_set}
 use Rattle.plan.proofs.Planned.{plan_p, plan_n, plan_t, plan_gates, plan_gate, plan_outs, plan_out}
 use Rattle.plan.proofs.Refusals.{and_then_passed, and_then_refused, and_then_end, first_of-append, need-true, need-false, passed_both, passed-need, passed_found}
+use Rattle.plan_counts.specs.declared.Tally.{Tally}
+use Rattle.plan_counts.specs.Counts.{Tallied}
 use Rattle.seat_admission.specs.Parts.{list_checks}
 use Rattle.run_protocol.specs.Ideal.{inputs_taken, values}
 use Rattle.run_protocol.proofs.Values.{values_length}
@@ -94,26 +96,46 @@ module _ (bs : List ℕ) (h : Header) (coins : List ℕ) (room : ℕ) (k : Plann
   coins_listed : ℕ → ℕ → Checked
   coins_listed p n = first_of (list_checks refusal.CoinCount refusal.CoinValue p n coins)
 
-  coin-parts : first_of (coin_checks (plan_of bs) coins room) ≡ and_then c (need refusal.BufferLength (eqb room (width * d)))
-  unfolding coin_checks list_checks coins_listed first_of and_then
+  -- what is left to check
+  ending : ℕ → List Checked
+  ending n = need refusal.Triples (eqb (kind_count (plan_of bs) 7) 0) ∷ need refusal.BufferLength (eqb room (width * n)) ∷ []
+
+  coin-parts : first_of (coin_checks (plan_of bs) coins room) ≡ and_then c (first_of (ending d))
+  unfolding coin_checks list_checks coins_listed ending
   coin-parts =
-      first_of-append (list_checks refusal.CoinCount refusal.CoinValue (plan_of bs).p (coin_count (plan_of bs)) coins) (need refusal.BufferLength (eqb room (width * coin_count (plan_of bs))) ∷ [])
-      ∙ ap (and_then (coins_listed (plan_of bs).p (coin_count (plan_of bs)))) (and_then_end (need refusal.BufferLength (eqb room (width * coin_count (plan_of bs)))))
-      ∙ ap (λ (p : ℕ). and_then (coins_listed p (coin_count (plan_of bs))) (need refusal.BufferLength (eqb room (width * coin_count (plan_of bs))))) (plan_p k)
-      ∙ ap (λ (n : ℕ). and_then (coins_listed h.field.p n) (need refusal.BufferLength (eqb room (width * n)))) (sym ed)
-      ∙ ap (λ (x : Checked). and_then x (need refusal.BufferLength (eqb room (width * d)))) (sym ec)
+      first_of-append (list_checks refusal.CoinCount refusal.CoinValue (plan_of bs).p (coin_count (plan_of bs)) coins) (ending (coin_count (plan_of bs)))
+      ∙ ap (λ (p : ℕ). and_then (coins_listed p (coin_count (plan_of bs))) (first_of (ending (coin_count (plan_of bs))))) (plan_p k)
+      ∙ ap (λ (n : ℕ). and_then (coins_listed h.field.p n) (first_of (ending n))) (sym ed)
+      ∙ ap (λ (x : Checked). and_then x (first_of (ending d))) (sym ec)
 
   pub pair_coins : (r : Refusal) → c ≡ Err r → Err r ≡ first_of (coin_checks (plan_of bs) coins room)
   pair_coins r e = sym (coin-parts ∙ and_then_refused c _ r e)
 
-  module _ (e : c ≡ Ok tt) where
-    pub pair_room : (room ≡ width * d → ⊥) → Err refusal.BufferLength ≡ first_of (coin_checks (plan_of bs) coins room)
-    pair_room n = sym (coin-parts ∙ and_then_passed c _ e ∙ need-false refusal.BufferLength (eqb room (width * d)) (ne_eqb room (width * d) n))
+  module _ (e : c ≡ Ok tt) (i : ℕ) (y : Tally) (ty : Tallied (plan_of bs).gates i y) where
+    spent-is : y.spends ≡ kind_count (plan_of bs) 7
+    unfolding kind_count
+    spent-is = ty.spends
 
-    pub pair_buffer : room ≡ width * d → Ok tt ≡ first_of (coin_checks (plan_of bs) coins room)
-    pair_buffer q = sym (coin-parts ∙ and_then_passed c _ e ∙ need-true refusal.BufferLength (eqb room (width * d)) (eq-eqb room (width * d) q))
+    pub pair_spends : (y.spends ≡ 0 → ⊥) → Err refusal.Triples ≡ first_of (coin_checks (plan_of bs) coins room)
+    unfolding ending first_of and_then need
+    pair_spends n =
+        sym (coin-parts ∙ and_then_passed c _ e ∙ ap (λ (b : Bool). first_of (need refusal.Triples b ∷ need refusal.BufferLength (eqb room (width * d)) ∷ [])) (ne_eqb (kind_count (plan_of bs) 7) 0 (λ z. n (spent-is ∙ z))))
 
-pub ruleset coining = (rules, not-true, not-false, pair_coins, pair_room, pair_buffer)
+    module _ (none : y.spends ≡ 0) where
+      room-left : first_of (coin_checks (plan_of bs) coins room) ≡ need refusal.BufferLength (eqb room (width * d))
+      unfolding ending first_of
+      room-left =
+          coin-parts ∙ and_then_passed c _ e
+          ∙ and_then_passed (need refusal.Triples (eqb (kind_count (plan_of bs) 7) 0)) _ (need-true refusal.Triples (eqb (kind_count (plan_of bs) 7) 0) (eq-eqb (kind_count (plan_of bs) 7) 0 (sym spent-is ∙ none)))
+          ∙ and_then_end (need refusal.BufferLength (eqb room (width * d)))
+
+      pub pair_room : (room ≡ width * d → ⊥) → Err refusal.BufferLength ≡ first_of (coin_checks (plan_of bs) coins room)
+      pair_room n = sym (room-left ∙ need-false refusal.BufferLength (eqb room (width * d)) (ne_eqb room (width * d) n))
+
+      pub pair_buffer : room ≡ width * d → Ok tt ≡ first_of (coin_checks (plan_of bs) coins room)
+      pair_buffer q = sym (room-left ∙ need-true refusal.BufferLength (eqb room (width * d)) (eq-eqb room (width * d) q))
+
+pub ruleset coining = (rules, not-true, not-false, pair_coins, pair_spends, pair_room, pair_buffer)
 
 -- ---- one input
 not_or : (a b : Bool) → a ≡ true → (not a || b) ≡ b
@@ -432,10 +454,12 @@ matchable bs h set xs ys coins room c k e p =
     let l : Listed (plan_of bs) set xs ys = listed (plan_of bs) set xs ys a.0 in
     let d = passed_both _ _ b.0 in
     let f = passed_both _ _ d.1 in
-    let g = passed_both _ _ f.1 in
+    let s = passed_both _ _ f.1 in
+    let g = passed_both _ _ s.1 in
     let m = passed_both _ _ b.1 in
     record {
       set_ok_lem = l.set_ok_lem;
+      no-spend = eqb-true (kind_count (plan_of bs) 7) 0 (passed-need refusal.Triples _ s.0);
       agree = m.0;
       first_below = rw (← plan_p k) l.first_below;
       second_below = rw (← plan_p k) l.second_below;

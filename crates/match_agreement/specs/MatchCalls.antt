@@ -5,7 +5,7 @@ use Rattle.numbers.specs.Bytes.{width, numbers, bytes_of, holds_count, first_ove
 use Rattle.plan.specs.Refusals.{Checked}
 use Rattle.plan.specs.declared.Refusal.TheVariants as refusal
 use Rattle.plan.specs.Refusals.{first_of, need, unless_found}
-use Rattle.plan.specs.Plans.{Plan, input_owners, input_count, coin_count}
+use Rattle.plan.specs.Plans.{Plan, input_owners, input_count, coin_count, kind_count}
 use Rattle.plan.specs.File.{plan_checks, plan_of}
 use Rattle.plan_coalition.specs.Coalitions.{members, set_ok, in_set}
 use Rattle.seat_messages.specs.Calls.{unless_refused}
@@ -25,7 +25,7 @@ outs_agree plan set vs ws =
     (first_failing (λ o. not (in_set set (get_or plan.outs o (record { party = 0; wire = 0 })).party) || eqb (get_or vs (get_or plan.outs o (record { party = 0; wire = 0 })).wire 0) (get_or ws (get_or plan.outs o (record { party = 0; wire = 0 })).wire 0))
     (length plan.outs))
 
--- refusals 9 to 13, 19, 21 and 22: both counts of inputs come before both lists' numbers
+-- refusals 9 to 13, 29, 19, 21 and 22: both counts of inputs come before both lists' numbers. A plan that spends triples is not matched alone
 unfoldable pub pair_checks : Plan → ℕ → List ℕ → List ℕ → List ℕ → ℕ → List Checked
 pair_checks plan set xs ys coins room =
     need refusal.Coalition (set_ok plan set)
@@ -35,6 +35,7 @@ pair_checks plan set xs ys coins room =
     ∷ unless_found refusal.InputValue (first_over plan.p (numbers ys))
     ∷ need refusal.CoinCount (holds_count (coin_count plan) coins)
     ∷ unless_found refusal.CoinValue (first_over plan.p (numbers coins))
+    ∷ need refusal.Triples (eqb (kind_count plan 7) 0)
     ∷ need refusal.BufferLength (eqb room (width * coin_count plan))
     ∷ inputs_agree plan set (numbers xs) (numbers ys)
     ∷ outs_agree plan set (values plan (numbers xs)) (values plan (numbers ys))

@@ -6,7 +6,7 @@ use Rattle.plan.specs.declared.Output.{Output}
 use Rattle.plan.specs.Refusals.{Checked}
 use Rattle.plan.specs.declared.Refusal.TheVariants as refusal
 use Rattle.plan.specs.Refusals.{need, unless_found}
-use Rattle.plan.specs.Plans.{Plan, input_owners, input_count, coin_count}
+use Rattle.plan.specs.Plans.{Plan, input_owners, input_count, coin_count, kind_count}
 use Rattle.plan.specs.File.{plan_of}
 use Rattle.plan_coalition.specs.Coalitions.{set_ok, in_set}
 use Rattle.run_protocol.specs.Ideal.{values}
@@ -22,11 +22,12 @@ input_checks plan set xs ys =
     ∷ unless_found refusal.InputValue (first_over plan.p (numbers ys))
     ∷ []
 
--- refusals 12, 13 and 19
+-- refusals 12, 13, 29 and 19
 unfoldable pub coin_checks : Plan → List ℕ → ℕ → List Checked
 coin_checks plan coins room =
     need refusal.CoinCount (holds_count (coin_count plan) coins)
     ∷ unless_found refusal.CoinValue (first_over plan.p (numbers coins))
+    ∷ need refusal.Triples (eqb (kind_count plan 7) 0)
     ∷ need refusal.BufferLength (eqb room (width * coin_count plan))
     ∷ []
 
@@ -63,4 +64,5 @@ pub record Matchable (bs : List ℕ) (h : Header) (set : ℕ) (xs ys coins : Lis
   pub coins_below : all_below h.field.p (numbers coins) ≡ true
   pub coins_long : length coins ≡ width * coin_count (plan_of bs)
   pub room_long : room ≡ width * coin_count (plan_of bs)
+  pub no-spend : kind_count (plan_of bs) 7 ≡ 0
   pub agree : inputs_agree (plan_of bs) set (numbers xs) (numbers ys) ≡ Ok tt

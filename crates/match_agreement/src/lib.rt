@@ -1,4 +1,4 @@
-// Refusals 9 to 13, 19, 21 and 22 of a matching, in their order.
+// Refusals 9 to 13, 29, 19, 21 and 22 of a matching, in their order.
 #![tactic(auto)]
 
 ghost use Rattle.std.specs.Prelude.{◌≡◌, true, suc, ◌<◌, ◌≤◌, length};
@@ -34,7 +34,7 @@ fn out_agrees(set: u16, out: Output, before: &[u64], after: &[u64]) -> bool
 impl InputPair<'_> {
     // Refusals 9 to 11.
     #[tactic(auto, using(crate::proofs::AgreeLaws::inputting))]
-    fn check_inputs(&self) -> Result<(), Refusal>
+    pub fn check_inputs(&self) -> Result<(), Refusal>
         ensures { result ≡ first_of (input_checks (plan_of self.now.plan.now.bytes.now) self.now.set self.now.first.now self.now.second.now) }
     {
         if !plan_coalition::set_ok(self.plan.header.n, self.plan.header.t, self.set) {
@@ -57,13 +57,16 @@ impl InputPair<'_> {
         Ok(())
     }
 
-    // Refusals 12, 13 and 19, for a buffer of so many bytes.
+    // Refusals 12, 13, 29 and 19, for a buffer of so many bytes.
     #[tactic(auto, using(crate::proofs::AgreeLaws::coining))]
     fn check_coins(&self, coins: &[u8], room: usize) -> Result<(), Refusal>
         ensures { result ≡ first_of (coin_checks (plan_of self.now.plan.now.bytes.now) coins.now room) }
     {
         let count = plan_counts::coin_count(self.plan);
         seat_admission::check_coins(coins, count, self.plan.header.field.p)?;
+        if plan_counts::tally_of(self.plan, 0).spends != 0 {
+            return Err(Refusal::Triples);
+        }
         if room != numbers::WIDTH * count {
             return Err(Refusal::BufferLength);
         }
@@ -159,7 +162,7 @@ impl InputPair<'_> {
 
     // Refusals 21 and 22.
     #[tactic(auto, using(crate::proofs::AgreeLaws::both_agreeing))]
-    fn check_agree(&self) -> Result<(), Refusal>
+    pub fn check_agree(&self) -> Result<(), Refusal>
         requires first_value { all_below self.now.plan.now.header.field.p (numbers self.now.first.now) ≡ true }
         requires second_value { all_below self.now.plan.now.header.field.p (numbers self.now.second.now) ≡ true }
         ensures { result ≡ first_of (agree_checks (plan_of self.now.plan.now.bytes.now) self.now.set (numbers self.now.first.now) (numbers self.now.second.now)) }
@@ -173,7 +176,7 @@ impl InputPair<'_> {
         Ok(())
     }
 
-    // The first refusal of 9 to 13, 19, 21 and 22 that falls on the lists, a setting of coins, and a buffer of so many bytes.
+    // The first refusal of 9 to 13, 29, 19, 21 and 22 that falls on the lists, a setting of coins, and a buffer of so many bytes.
     #[tactic(auto, using(crate::proofs::AgreeLaws::pairing))]
     pub fn check(&self, coins: &[u8], room: usize) -> Result<(), Refusal>
         ensures { result ≡ first_of (pair_checks (plan_of self.now.plan.now.bytes.now) self.now.set self.now.first.now self.now.second.now coins.now room) }

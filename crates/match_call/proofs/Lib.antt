@@ -3,4 +3,5 @@ pub mod LowestLaws
 pub mod TruncatedLaws
 pub mod StepMatchLaws
 pub mod RunsLaws
+pub mod AloneLaws
 pub mod PairLaws

@@ -269,11 +269,11 @@ module _ (bs : List ℕ) (h : Header) (set : ℕ) (es : List ℕ) (w : Equipped 
           ∙ share_prefix plan (gate_at bs g) s' block _ (omega (arith, block-long (numbers out) (numbers out') block at (taken g) inside moves.front fits))
 
       new-coins :
-          (xs ys before after : List ℕ)
-          → ((s s' : Before) → Holds plan h.n g xs (drop at (numbers coins)) before s → Holds plan h.n g ys s'.coins after s' → Follows plan (members set) (gate_at bs g) s s'
+          (xs ys before after ts ts' : List ℕ) (spent : ℕ)
+          → ((s s' : Before) → Holds plan h.n g xs (drop at (numbers coins)) ts spent before s → Holds plan h.n g ys s'.coins ts' spent after s' → Follows plan (members set) (gate_at bs g) s s'
           → block ≡ matched_at plan (members set) (gate_at bs g) s s')
-          → NewCoins plan (members set) h.n (gate_at bs g) g xs ys (drop at (numbers coins)) at before after out out' r
-      new-coins xs ys before after is = record {
+          → NewCoins plan (members set) h.n (gate_at bs g) g xs ys (drop at (numbers coins)) ts ts' spent at before after out out' r
+      new-coins xs ys before after ts ts' spent is = record {
         place = moves.place;
         taking = second-taking;
         coins =
@@ -303,7 +303,7 @@ module _ (bs : List ℕ) (h : Header) (set : ℕ) (es : List ℕ) (w : Equipped 
         step-lent : Lent h.field.p at (h.t * length (dealers_in h gate)) coins out
         step-lent = rw coins_are lent
 
-        module _ (xs ys before after : List ℕ) where
+        module _ (xs ys before after ts ts' : List ℕ) (spent : ℕ) where
           block : List ℕ
           block = moved_blocks h.field.p h.t set es (dealers_in h gate) (dealt_in h gate before xs) (dealt_in h gate after ys) (drop at (numbers coins))
 
@@ -313,7 +313,7 @@ module _ (bs : List ℕ) (h : Header) (set : ℕ) (es : List ℕ) (w : Equipped 
               blocks_below h.field.p h.t set es _ _ _ (drop at (numbers coins)) (pos equipped-sized.ready.prime) (all_below-drop h.field.p at (numbers coins) lent.below)
 
           module _ (sb : Standing h.field.p h.n g before) (sa : Standing h.field.p h.n g after) (s s' : Before)
-              (hb : Holds plan h.n g xs (drop at (numbers coins)) before s) (ha : Holds plan h.n g ys s'.coins after s') where
+              (hb : Holds plan h.n g xs (drop at (numbers coins)) ts spent before s) (ha : Holds plan h.n g ys s'.coins ts' spent after s') where
             -- what is dealt in both runs
             first-dealt : dealt_in h gate before xs ≡ dealt_at plan gate s
             first-dealt = dealt-by bs h w.planned g before xs sb.room s hb.rows hb.inputs gate even step_kept step-major
@@ -356,10 +356,10 @@ module _ (bs : List ℕ) (h : Header) (set : ℕ) (es : List ℕ) (w : Equipped 
               → Advanced at (h.t * length (dealers_in h gate))
               (moved_blocks h.field.p h.t set es (dealers_in h gate) (dealt_in h gate before xs) (dealt_in h gate after ys) (drop at (numbers coins))) out out' r
               → Standing h.field.p h.n g before → Standing h.field.p h.n g after
-              → NewCoins plan (members set) h.n (gate_at bs g) g xs ys (drop at (numbers coins)) at before after out out' r
+              → NewCoins plan (members set) h.n (gate_at bs g) g xs ys (drop at (numbers coins)) ts ts' spent at before after out out' r
           unfolding block
           gate-matched out' r same moves sb sa =
-              new-coins g at coins out lent out' block r same (rw coins_are at moves) block-small xs ys before after (λ s s' hb ha f. block-matched sb sa s s' hb ha)
+              new-coins g at coins out lent out' block r same (rw coins_are at moves) block-small xs ys before after ts ts' spent (λ s s' hb ha f. block-matched sb sa s s' hb ha)
 
     -- ---- a multiply by truncation
     module _ (low : ℕ) (spares : List ℕ) (bp bt : ℕ) (dealers : List ℕ) (v : Absorbing bs h set low spares bp bt dealers) (by : h.rule ≡ Truncation) (a b : ℕ) (em : gate ≡ Multiply a b) where
@@ -388,7 +388,7 @@ module _ (bs : List ℕ) (h : Header) (set : ℕ) (es : List ℕ) (w : Equipped 
         cut-lent : Lent h.field.p at (3 * h.t * h.n) coins out
         cut-lent = rw cut-coins lent
 
-        module _ (xs ys before after : List ℕ) where
+        module _ (xs ys before after ts ts' : List ℕ) (spent : ℕ) where
           -- the change that the code finds
           found : List ℕ
           found = change_by h.field.p (h.t + h.t + 1) dealers (changes_of h.field.p h.n (h.t + h.t + 1) a b before after)
@@ -403,7 +403,7 @@ module _ (bs : List ℕ) (h : Header) (set : ℕ) (es : List ℕ) (w : Equipped 
               (all_below-drop h.field.p at (numbers coins) lent.below)
 
           module _ (sb : Standing h.field.p h.n g before) (sa : Standing h.field.p h.n g after) (s s' : Before)
-              (hb : Holds plan h.n g xs (drop at (numbers coins)) before s) (ha : Holds plan h.n g ys s'.coins after s') where
+              (hb : Holds plan h.n g xs (drop at (numbers coins)) ts spent before s) (ha : Holds plan h.n g ys s'.coins ts' spent after s') where
             dealers-are : dealers ≡ dealer_points plan
             unfolding dealer_points
             dealers-are =
@@ -482,10 +482,10 @@ module _ (bs : List ℕ) (h : Header) (set : ℕ) (es : List ℕ) (w : Equipped 
               (truncated_coins h.field.p h.n h.t set low es spares (change_by h.field.p (h.t + h.t + 1) dealers (changes_of h.field.p h.n (h.t + h.t + 1) a b before after))
               (drop at (numbers coins))) out out' r
               → Standing h.field.p h.n g before → Standing h.field.p h.n g after
-              → NewCoins plan (members set) h.n (gate_at bs g) g xs ys (drop at (numbers coins)) at before after out out' r
+              → NewCoins plan (members set) h.n (gate_at bs g) g xs ys (drop at (numbers coins)) ts ts' spent at before after out out' r
           unfolding cut-block found
           cut-new out' r same moves sb sa =
-              new-coins g at coins out lent out' cut-block r same (rw cut-coins at moves) cut-small xs ys before after (cut-matched sb sa)
+              new-coins g at coins out lent out' cut-block r same (rw cut-coins at moves) cut-small xs ys before after ts ts' spent (cut-matched sb sa)
 
 -- what the coins of a multiply by truncation move by
 pub truncating :
@@ -506,7 +506,7 @@ truncating bs h set es low spares bp bt dealers w v =
     }
 
 -- of the turn of gate g
-module _ (bs : List ℕ) (h : Header) (set : ℕ) (es : List ℕ) (w : Equipped bs h set es) (g : ℕ) (xs ys before after : List ℕ) (at next : ℕ) (coins out : List ℕ) (turn : Turn bs h g xs ys before after at coins out) (gate : Gate) (eg : gate ≡ gate_at bs g) where
+module _ (bs : List ℕ) (h : Header) (set : ℕ) (es : List ℕ) (w : Equipped bs h set es) (g : ℕ) (xs ys before after : List ℕ) (at next : ℕ) (coins out ts ts' : List ℕ) (spent : ℕ) (turn : Turn bs h g xs ys before after at coins out ts ts' spent) (gate : Gate) (eg : gate ≡ gate_at bs g) where
   pub turn-kept : gate_ok h.n h.field.p g gate ≡ true
   turn-kept = step_kept bs h set es w g gate turn.gate eg
 
@@ -526,26 +526,26 @@ module _ (bs : List ℕ) (h : Header) (set : ℕ) (es : List ℕ) (w : Equipped 
         (out' : List ℕ) (r : ℕ) → length out' ≡ length out
         → Advanced at (coins_in h gate)
         (gate_block h set low es spares dealers gate before after (drop next (numbers xs)) (drop next (numbers ys)) (drop at (numbers coins))) out out' r
-        → NewCoins (plan_of bs) (members set) h.n (gate_at bs g) g (drop next (numbers xs)) (drop next (numbers ys)) (drop at (numbers coins)) at before after out out' r
+        → NewCoins (plan_of bs) (members set) h.n (gate_at bs g) g (drop next (numbers xs)) (drop next (numbers ys)) (drop at (numbers coins)) (numbers ts) (numbers ts') spent at before after out out' r
     unfolding coins_in gate_block
     turn-matched out' r same moves = by (sorted (plan_of bs) h (plan_rule w.planned) gate)
       where
         by :
             Sort (plan_of bs) h gate
-            → NewCoins (plan_of bs) (members set) h.n (gate_at bs g) g (drop next (numbers xs)) (drop next (numbers ys)) (drop at (numbers coins)) at before after out out' r
+            → NewCoins (plan_of bs) (members set) h.n (gate_at bs g) g (drop next (numbers xs)) (drop next (numbers ys)) (drop at (numbers coins)) (numbers ts) (numbers ts') spent at before after out out' r
         by (all_deal e q) =
-            gate-matched bs h set es w g gate turn.gate eg e at coins out turn.lent (drop next (numbers xs)) (drop next (numbers ys)) before after out' r same (rw q at moves)
+            gate-matched bs h set es w g gate turn.gate eg e at coins out turn.lent (drop next (numbers xs)) (drop next (numbers ys)) before after (numbers ts) (numbers ts') spent out' r same (rw q at moves)
             turn.first turn.second
         by (truncated a b em rule q) =
-            cut-new bs h set es w g gate turn.gate eg low spares bp bt dealers v rule a b em at coins out turn.lent (drop next (numbers xs)) (drop next (numbers ys)) before after
+            cut-new bs h set es w g gate turn.gate eg low spares bp bt dealers v rule a b em at coins out turn.lent (drop next (numbers xs)) (drop next (numbers ys)) before after (numbers ts) (numbers ts') spent
             out' r same (unfold operands_of in rw (em) at (rw q at moves)) turn.first turn.second
 
 -- As it is: answers name this set, since the check leaves their goals open by `using` alone.
 pub ruleset matching_coins = (rules, es-long, es-below, equipped-sized, truncating, turn-kept, turn-major, turn-lent, turn-matched)
 
 -- ---- both runs
-module _ (bs : List ℕ) (h : Header) (set : ℕ) (es : List ℕ) (w : Equipped bs h set es) (g : ℕ) (xs ys before after : List ℕ) (at : ℕ) (coins out : List ℕ) (turn : Turn bs h g xs ys before after at coins out) where
-  pub turn-both : (new : List ℕ) → Taking (plan_of bs) (gate_at bs g) at (numbers new) → Both bs h g xs ys before after at coins new
+module _ (bs : List ℕ) (h : Header) (set : ℕ) (es : List ℕ) (w : Equipped bs h set es) (g : ℕ) (xs ys before after : List ℕ) (at : ℕ) (coins out ts ts' : List ℕ) (spent : ℕ) (turn : Turn bs h g xs ys before after at coins out ts ts' spent) where
+  pub turn-both : (new : List ℕ) → Taking (plan_of bs) (gate_at bs g) at (numbers new) → Both bs h g xs ys before after at coins new ts ts' spent
   turn-both new taking = record {
     planned = w.planned;
     gate = turn.gate;
@@ -555,23 +555,27 @@ module _ (bs : List ℕ) (h : Header) (set : ℕ) (es : List ℕ) (w : Equipped 
     second = turn.second;
     first_room = turn.first_room;
     second_room = turn.second_room;
+    first_spending = turn.first_spending;
+    second_spending = turn.second_spending;
     first_coins = first-taking bs h set es w g at coins out turn.lent;
     second_coins = taking;
   }
 
 pub step-matched :
-    (plan : Plan) (ms : List ℕ) (n : ℕ) (gate : Gate) (g : ℕ) (xs ys cs : List ℕ) (at : ℕ) (before after out before' after' out' : List ℕ) (r : ℕ)
-    → NewCoins plan ms n gate g xs ys cs at before after out out' r
-    → Stepped plan n gate g xs cs before before'
-    → Stepped plan n gate g ys (drop at (numbers out')) after after'
-    → Matched plan ms n gate g xs ys cs at before after out before' after' out' r
+    (plan : Plan) (ms : List ℕ) (n : ℕ) (gate : Gate) (g : ℕ) (xs ys cs ts ts' : List ℕ) (spent at : ℕ) (before after out before' after' out' : List ℕ) (r : ℕ)
+    → NewCoins plan ms n gate g xs ys cs ts ts' spent at before after out out' r
+    → Stepped plan n gate g xs cs ts spent before before'
+    → Stepped plan n gate g ys (drop at (numbers out')) ts' spent after after'
+    → Matched plan ms n gate g xs ys cs ts ts' spent at before after out before' after' out' r
 unfolding past with_coins
-step-matched plan ms n gate g xs ys cs at before after out before' after' out' r new s1 s2 = record {
+step-matched plan ms n gate g xs ys cs ts ts' spent at before after out before' after' out' r new s1 s2 = record {
   place = new.place;
+  taking = new.taking;
   first = λ s hb. s1.next s hb;
+  other = λ s' ha. s2.next (with_coins (drop at (numbers out')) s') (record { rows = ha.rows; inputs = ha.inputs; coins = refl; triples = ha.triples });
   second =
       λ s s' hb ha f.
-      s2.next (with_coins (drop at (numbers out')) s') (record { rows = ha.rows; inputs = ha.inputs; coins = refl })
+      s2.next (with_coins (drop at (numbers out')) s') (record { rows = ha.rows; inputs = ha.inputs; coins = refl; triples = ha.triples })
       ∙ ap (λ (f : ℕ → ℕ). rows_of plan.points (s'.env ++ (f ∷ []))) (new.shares s s' hb ha f);
   coins = new.coins;
 }

@@ -10,7 +10,7 @@ use match_agreement::InputPair;
 use plan::Refusal;
 
 // Matches the coins of a first list of inputs to a second one, for the coalition of a set: `matched` takes the coins with which the second
-// list gives the coalition the view that the first one gives with `coins`. Answers the first refusal of 1 to 8, 25, 26, 9 to 13, 19, 21 and 22 that
+// list gives the coalition the view that the first one gives with `coins`. Answers the first refusal of 1 to 8, 25, 26, 9 to 13, 29, 19, 21 and 22 that
 // falls on it, and then `matched` is not written.
 pub fn pair(
     plan: &[u8],

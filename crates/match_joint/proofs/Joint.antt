@@ -25,7 +25,7 @@ use Rattle.run_protocol.specs.Ideal.{values, granted}
 use Rattle.run_protocol.specs.Shares.{share_table}
 use Rattle.run_protocol.specs.Tables.{table_view_of}
 use Rattle.run_protocol.specs.Preparing.{prepares, preparing}
-use Rattle.match_joint.specs.Joint.{wire_change, spent_wires, spent_changes, moved_draws, draws_of, preparing_coins, main_coins, matched_draws, matched_preparing, matched_joint}
+use Rattle.match_joint.specs.Joint.{wire_change, spent_wires, spent_changes, moved_draws, draws_of, preparing_coins, main_coins, matched_draws, matched_preparing, matched_joint, joint_held}
 use Rattle.run_protocol.specs.Settings.{Full, Inputs, Coins}
 use Rattle.match_privacy.specs.Bijections.{Bijection}
 use Rattle.plan.proofs.Valid.{Valid}
@@ -38,11 +38,7 @@ use Rattle.run_protocol.proofs.Whole.{preparing_right}
 use Rattle.run_protocol.proofs.Prepared.{is-preparing, preparing-valid, no-kind-7, triple_values, triple-values}
 use Rattle.match_joint.proofs.Moved.{length_moved, moved_canon, moved_back, own_triples, owners_are, input_count_lem, spent_count, spent}
 
--- what the members hold of a joint list, and what they see on the two tables
-abbrev pub joint_held : Plan → Plan → List ℕ → List ℕ → List (List ℕ)
-joint_held prep plan ms c =
-    map (λ i. own_inputs prep i (draws_of prep c) ++ (own_coins prep i (preparing_coins prep c) ++ own_coins plan i (main_coins prep c))) ms
-
+-- what the members see of a joint list on the two tables
 abbrev pub joint_tables : Plan → Plan → List ℕ → List ℕ → List ℕ → List ℕ
 joint_tables prep plan ms xs c =
     flat_map (table_view_of prep (draws_of prep c) (preparing_coins prep c) []) ms

@@ -58,15 +58,24 @@ matched_joint prep plan ms xs ys cs =
     xs ys (main_coins prep cs))
 
 -- ---- what is private
+-- the triples that the joint list leads to
+abbrev pub joint_triples : Plan → List ℕ → List ℕ
+joint_triples prep c = triples_from prep (draws_of prep c) (preparing_coins prep c)
+
 -- the coalition's views of a preparing run and of the main run that spends its triples, over the joint list
 abbrev pub joint_view : Plan → Plan → List ℕ → List ℕ → List ℕ → List ℕ
 joint_view prep plan ms xs c =
     view prep ms (draws_of prep c) (preparing_coins prep c) []
-    ++ view plan ms xs (main_coins prep c) (triples_from prep (draws_of prep c) (preparing_coins prep c))
+    ++ view plan ms xs (main_coins prep c) (joint_triples prep c)
+
+-- what its members hold of the joint list: draws and coins of the preparing run, and coins of the main run
+abbrev pub joint_held : Plan → Plan → List ℕ → List ℕ → List (List ℕ)
+joint_held prep plan ms c =
+    map (λ i. own_inputs prep i (draws_of prep c) ++ (own_coins prep i (preparing_coins prep c) ++ own_coins plan i (main_coins prep c))) ms
 
 abbrev pub JointlyPrivate : Plan → Plan → List ℕ → List ℕ → List ℕ → Type 0
 JointlyPrivate prep plan ms xs ys =
     Bijection plan.p (input_count prep + coin_count prep + coin_count plan) (matched_joint prep plan ms xs ys)
-    (λ c. map (λ i. own_inputs prep i (draws_of prep c) ++ (own_coins prep i (preparing_coins prep c) ++ own_coins plan i (main_coins prep c))) ms)
+    (joint_held prep plan ms)
     (joint_view prep plan ms xs)
     (joint_view prep plan ms ys)

@@ -11,13 +11,12 @@ use Prim.Native.Nat.{ℕ, ◌≤◌}
 use lib.ListN.{length}
 use Rattle.plan.specs.Plans.{Plan, party_count, kind_count, own_inputs}
 use Rattle.plan.specs.File.{plan_check, plan_of}
-use Rattle.plan.proofs.Valid.{Valid, valid, plain, plain_no_7}
+use Rattle.plan.proofs.Valid.{Valid, valid}
 use Rattle.plan_coalition.specs.Coalitions.{members, set_ok}
 use Rattle.run_protocol.specs.Rounds.{view_of, view}
 use Rattle.run_protocol.specs.Ideal.{granted}
-use Rattle.run_protocol.specs.Tables.{table_view_of}
+use Rattle.run_protocol.specs.Tables.{table_view_of, Tabled}
 use Rattle.run_protocol.specs.Settings.{Full, Inputs, Coins}
-use Rattle.run_protocol.proofs.Expected.{Tabled}
 use Rattle.run_protocol.proofs.Runs.{view-table}
 use Rattle.run_protocol.proofs.Given.{tabled-none}
 use Rattle.match_privacy.specs.Matching.{is_member}
@@ -78,8 +77,8 @@ private plan valid none ms xs ys a =
 
 -- for a plan that is read from a file, and the members that a set names
 pub private_read :
-    (bytes : List ℕ) (set : ℕ) (xs ys : List ℕ) → plan_check bytes ≡ Ok tt → set_ok (plan_of bytes) set ≡ true → Inputs (plan_of bytes) xs → Inputs (plan_of bytes) ys
+    (bytes : List ℕ) (set : ℕ) (xs ys : List ℕ) → plan_check bytes ≡ Ok tt → kind_count (plan_of bytes) 7 ≡ 0 → set_ok (plan_of bytes) set ≡ true → Inputs (plan_of bytes) xs → Inputs (plan_of bytes) ys
     → map (λ i. own_inputs (plan_of bytes) i xs) (members set) ≡ map (λ i. own_inputs (plan_of bytes) i ys) (members set)
     → map (granted (plan_of bytes) xs) (members set) ≡ map (granted (plan_of bytes) ys) (members set) → Private (plan_of bytes) (members set) xs ys
-private_read bytes set xs ys h ok first second agree grants =
-    private (plan_of bytes) (valid bytes h) (plain_no_7 (plan_of bytes) (plain bytes h)) (members set) xs ys (agreeing-set (plan_of bytes) set ok xs ys first second agree grants)
+private_read bytes set xs ys h none ok first second agree grants =
+    private (plan_of bytes) (valid bytes h) none (members set) xs ys (agreeing-set (plan_of bytes) set ok xs ys first second agree grants)

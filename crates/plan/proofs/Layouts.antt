@@ -20,7 +20,7 @@ use Rattle.numbers.specs.Bytes.{number_at, word_at}
 use Rattle.numbers.proofs.Bytes.{word_number, number_same}
 use Rattle.numbers.proofs.Ways.{byte-none, word_some}
 use Rattle.plan.specs.declared.Gate.{Gate}
-use Rattle.plan.specs.declared.Gate.TheVariants.{Input, Add, Scale, Offset, Multiply, Random}
+use Rattle.plan.specs.declared.Gate.TheVariants.{Input, Add, Scale, Offset, Multiply, Random, Spend}
 use Rattle.plan.specs.declared.Layout.{Layout}
 use Rattle.plan.specs.File.{layout_for, layout_of, field_at, gate_start, gate_place, out_place, point_place, gate_of, gate_from, gate_at, out_at, point_at}
 use Rattle.plan.specs.Planned.{Gated}
@@ -53,9 +53,13 @@ module _ (k s a b : ℕ) where
   pub gate-random : (r : Gate) → s ≡ 0 → k ≡ 6 → r ≡ gate_of 6 0 a b → r ≡ gate_of k s a b
   gate-random r z e h = rw (z, e) h
 
-  pub gate-other : s ≡ 0 → (k ≡ 1 → ⊥) → (k ≡ 2 → ⊥) → (k ≡ 3 → ⊥) → (k ≡ 4 → ⊥) → (k ≡ 5 → ⊥) → (k ≡ 6 → ⊥) → Input 0 ≡ gate_of k s a b
+  pub gate-spend : s ≡ 0 → k ≡ 7 → Spend a b ≡ gate_of k s a b
   unfolding gate_of
-  gate-other z e1 e2 e3 e4 e5 e6 = rw (z, ne_eqb k 1 e1, ne_eqb k 2 e2, ne_eqb k 3 e3, ne_eqb k 4 e4, ne_eqb k 5 e5, ne_eqb k 6 e6)
+  gate-spend z e = rw (z, e)
+
+  pub gate-other : s ≡ 0 → (k ≡ 1 → ⊥) → (k ≡ 2 → ⊥) → (k ≡ 3 → ⊥) → (k ≡ 4 → ⊥) → (k ≡ 5 → ⊥) → (k ≡ 6 → ⊥) → (k ≡ 7 → ⊥) → Input 0 ≡ gate_of k s a b
+  unfolding gate_of
+  gate-other z e1 e2 e3 e4 e5 e6 e7 = rw (z, ne_eqb k 1 e1, ne_eqb k 2 e2, ne_eqb k 3 e3, ne_eqb k 4 e4, ne_eqb k 5 e5, ne_eqb k 6 e6, ne_eqb k 7 e7)
 
 pub input-some : (a b : ℕ) → b ≡ 0 → Input a ≡ gate_of 1 0 a b
 unfolding gate_of
@@ -94,9 +98,9 @@ module _ (P : Gate → Type 0) (k second a b : ℕ) (none : P (Input 0)) where
 
   pub gate_read :
       (k ≡ 1 → P (Input a)) → (k ≡ 2 → P (Add a b)) → (k ≡ 3 → P (Scale a b)) → (k ≡ 4 → P (Offset a b)) → (k ≡ 5 → P (Multiply a b)) → (k ≡ 6 → P Random)
-      → P (gate_of k second a b)
+      → (k ≡ 7 → P (Spend a b)) → P (gate_of k second a b)
   unfolding gate_of
-  gate_read h1 h2 h3 h4 h5 h6 =
+  gate_read h1 h2 h3 h4 h5 h6 h7 =
       either (eqb second 0) _ (Input 0)
       (λ s.
       kind 1 _ _ (λ e. either (eqb b 0) (Input a) (Input 0) (λ z. h1 e) none)
@@ -104,7 +108,8 @@ module _ (P : Gate → Type 0) (k second a b : ℕ) (none : P (Input 0)) where
       (kind 3 (Scale a b) _ h3
       (kind 4 (Offset a b) _ h4
       (kind 5 (Multiply a b) _ h5
-      (kind 6 _ (Input 0) (λ e. either (eqb a 0 && eqb b 0) Random (Input 0) (λ z. h6 e) none) none))))))
+      (kind 6 _ _ (λ e. either (eqb a 0 && eqb b 0) Random (Input 0) (λ z. h6 e) none)
+      (kind 7 (Spend a b) (Input 0) h7 none)))))))
       none
 
 -- ---- the layouts
@@ -308,4 +313,4 @@ pub ruleset fielding = (rules, field_number, field_high)
 
 pub ruleset starting = (rules, start_high)
 
-pub ruleset reading = (rules, byte-none, word_some, long-some, layout_first, layout_second, layout_third, layout_read, number_of_two, number_of_four, cut_there, point-none, point-two, point-four, size-some, out_places, out_some, number_read, place_of, place_there, gate-two, gate-four, gated_next, gate_second, gate-input, gate-add, gate-scale, gate-offset, gate-multiply, gate-random, gate-other, input-some, input_none, random-some, random_first, random_second)
+pub ruleset reading = (rules, byte-none, word_some, long-some, layout_first, layout_second, layout_third, layout_read, number_of_two, number_of_four, cut_there, point-none, point-two, point-four, size-some, out_places, out_some, number_read, place_of, place_there, gate-two, gate-four, gated_next, gate_second, gate-input, gate-add, gate-scale, gate-offset, gate-multiply, gate-random, gate-spend, gate-other, input-some, input_none, random-some, random_first, random_second)

@@ -90,7 +90,7 @@ between-true a b x h = let t = both_true (leb a x) (leb x b) h in (leb-true a x 
 
 pub record Laid (bs : List ℕ) : Type 0 where
   pub gates : between 1 1024 (gate_count_at bs) ≡ true
-  pub outs : between 1 64 (out_count_at bs) ≡ true
+  pub outs : leb (out_count_at bs) 64 ≡ true
   pub long : length bs ≡ point_place bs (n_at bs)
 
 pub laid : (bs : List ℕ) → layout_ok bs ≡ true → Laid bs
@@ -100,7 +100,7 @@ laid bs h =
     let b = both_true (eqb (field_at bs 1) _) _ a.1 in
     let c = both_true (between 1 1024 (gate_count_at bs)) _ b.1 in
     let d = both_true (eqb (field_at bs 3) (out_place bs 0)) _ c.1 in
-    let e = both_true (between 1 64 (out_count_at bs)) _ d.1 in
+    let e = both_true (leb (out_count_at bs) 64) _ d.1 in
     let f = both_true (cond (eqb (layout_of bs).point 0) true (eqb (field_at bs 5) (point_place bs 0))) (eqb (length bs) (point_place bs (n_at bs))) e.1 in
     record { gates = c.0; outs = e.0; long = eqb-true (length bs) (point_place bs (n_at bs)) f.1 }
 
@@ -117,7 +117,7 @@ planned bs x h k =
     let l : Laid bs = laid bs q.layout in
     let n = between-true 1 15 (n_at bs) q.parties in
     let g = between-true 1 1024 (gate_count_at bs) l.gates in
-    let o = between-true 1 64 (out_count_at bs) l.outs in
+    let o : out_count_at bs ≤ 64 = leb-true (out_count_at bs) 64 l.outs in
     let threshold : t_at bs < n_at bs = ltb-true (t_at bs) (n_at bs) q.threshold in
     let above : n_at bs < p_at bs = modulus_above (n_at bs) (p_at bs) q.modulus in
     let small : p_at bs < 2147483648 = modulus_small (n_at bs) (p_at bs) q.modulus in
@@ -131,8 +131,7 @@ planned bs x h k =
       p-high = omega arith;
       gates_low = omega (arith, g.0);
       gates-high = omega (arith, g.1);
-      outs_low = omega (arith, o.0);
-      outs-high = omega (arith, o.1);
+      outs-high = omega arith;
     }
 
 -- ---- the plan by its contents

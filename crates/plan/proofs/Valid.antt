@@ -1,21 +1,21 @@
 -- What the proofs use of a plan, and that a plan that passes has it.
 --     Valid, valid            all that the protocol asks: 2t < n only where there is a gate of kind 5 or 7
 --     Sized, sized            what its lists and calls need beside
---     Plain, plain            what a plan file may have: kinds 1 to 6
 --     points-apart            no two points are the same
---     none_or_majority        no gate of kind 5, or 2t < n
---     plain_no_7              a plain plan has no gate of kind 7
+--     some-dealt              there is an input or a random wire
+--     few_spends              how many gates of a plan that passes spend a triple
+--     none_or_majority        no gate of kinds 5 and 7, or 2t < n
 -- Assumes nothing.
 use Rattle.std.proofs.Common.{Option, Some, None, Ok}
-use Prim.Native.Nat.{ℕ, zero, suc, ◌+◌, ◌*◌, ◌%◌, ◌<◌, ◌≤◌}
+use Prim.Native.Nat.{ℕ, zero, suc, ◌+◌, ◌-◌, ◌*◌, ◌%◌, ◌<◌, ◌≤◌}
 use native.Mathlib.Nat.{mod-eq_of_lt}
 use native.Mathlib.Omega.{arith}
 use mathlib.Core.Path.{◌≡◌, refl, sym, ap, subst}
 use mathlib.Core.Logic.{◌≢◌, ◌⊎◌, inl, inr}
 use mathlib.Core.Bool.{Bool, true, false, cond, ◌||◌}
 use mathlib.Core.List.{List, [], ◌∷◌}
-use borrow.Author.Tests.{ltb-true, eqb-false, ne_eqb, not-true}
-use lib.Dec.{T, eqb, ltb}
+use borrow.Author.Tests.{ltb-true, leb-true, eqb-false, not-true}
+use lib.Dec.{T, eqb, ltb, leb}
 use lib.ListN.{length, get_or}
 use Rattle.numbers.specs.Tables.{tab, first_failing, count_where}
 use Rattle.numbers.specs.Bytes.{limit}
@@ -30,13 +30,11 @@ use Rattle.sharing_laws.specs.Interp.{All, Distinct}
 use Rattle.sharing_laws.proofs.Shares.{distinct-tab}
 use Rattle.sharing_laws.proofs.Alls.{all-tab, all_at}
 use Rattle.plan.specs.declared.Gate.{Gate}
-use Rattle.plan.specs.declared.Gate.TheVariants.{Input, Scale, Offset}
-use Rattle.plan.specs.declared.Rule.TheVariants.{Reduction}
+use Rattle.plan.specs.declared.Gate.TheVariants.{Input, Add, Scale, Offset, Multiply, Random, Spend}
 use Rattle.plan.specs.declared.Header.{Header}
 use Rattle.plan.specs.Plans.{Plan, party_count, kind_of, is_kind, kind_count, multiplying}
-use Rattle.plan.specs.File.{version_at, n_at, t_at, p_at, gate_count_at, out_count_at, gate_of, gate_from, gate_at, out_at, point_at, gate_ok, out_ok, gate_kept, out_kept, found_none, point_apart, point_kept, plan_check, plan_of}
+use Rattle.plan.specs.File.{n_at, t_at, p_at, gate_count_at, out_count_at, gate_at, out_at, point_at, gate_ok, out_ok, spends_kept, gate_kept, out_kept, found_none, point_apart, point_kept, plan_check, plan_of}
 use Rattle.plan.specs.Planned.{Planned}
-use Rattle.plan.proofs.Layouts.{gate_read}
 use Rattle.plan.proofs.Planned.{Passing, passing, passing_majority, laid, between-true, modulus_prime, modulus_small, plan_t, plan_p, plan_n, plan_gates, plan_gate}
 
 pub record Valid (plan : Plan) : Type 0 where
@@ -55,9 +53,6 @@ pub record Sized (plan : Plan) : Type 0 where
   pub few : plan.p ≤ limit
   pub short : length plan.gates + 3 * kind_count plan 7 ≤ 4096
 
-pub record Plain (plan : Plan) : Type 0 where
-  pub kinds : (g : ℕ) → kind_of (get_or plan.gates g (Input 0)) ≤ 6
-
 -- ---- no two points are the same
 apart_from : (p : ℕ) (xs : List ℕ) → Distinct p xs → (i j : ℕ) → j < i → i < length xs → get_or xs i 0 ≢ get_or xs j 0
 apart_from p [] d i j l m e = omega arith
@@ -70,23 +65,21 @@ unfolding party_count
 points-apart plan valid = apart_from plan.p plan.points valid.distinct
 
 -- ---- a plan that passes
--- whatever its bytes, a gate that is read has kind 1 to 6
-kind_read : (second kind a b : ℕ) → kind_of (gate_of kind second a b) ≤ 6
-unfolding kind_of
-kind_read second kind a b =
-    gate_read (λ x. kind_of x ≤ 6) kind second a b (omega arith)
-    (λ e. omega arith) (λ e. omega arith) (λ e. omega arith) (λ e. omega arith) (λ e. omega arith) (λ e. omega arith)
-
-kinds_read : (f : ℕ → Gate) (n g : ℕ) → ((i : ℕ) → kind_of (f i) ≤ 6) → kind_of (get_or (tab f n) g (Input 0)) ≤ 6
-unfolding tab kind_of
-kinds_read f zero g h = omega arith
-kinds_read f (suc n) zero h = h 0
-kinds_read f (suc n) (suc g) h = kinds_read (λ i. f (suc i)) n g (λ i. h (suc i))
-
 none_found : (f : Option ℕ) → found_none f ≡ true → f ≡ None
 unfolding found_none
 none_found (Some i) e = let z : ◌≡◌ {A = ℕ} 0 1 = cc in absurd (omega arith)
 none_found None e = refl
+
+-- the first gate reads no wire
+first-gate : (n p : ℕ) (x : Gate) (gs : List Gate) → gate_ok n p 0 x ≡ true → 1 ≤ count_where (is_kind 1) (x ∷ gs) + count_where (is_kind 6) (x ∷ gs)
+unfolding gate_ok count_where is_kind kind_of
+first-gate n p (Input s) gs e = omega arith
+first-gate n p (Add a b) gs e = absurd (omega (arith, ltb-true a 0 (both_true (ltb a 0) (ltb b 0) e).0))
+first-gate n p (Scale a c) gs e = absurd (omega (arith, ltb-true a 0 (both_true (ltb a 0) (ltb c p) e).0))
+first-gate n p (Offset a c) gs e = absurd (omega (arith, ltb-true a 0 (both_true (ltb a 0) (ltb c p) e).0))
+first-gate n p (Multiply a b) gs e = absurd (omega (arith, ltb-true a 0 (both_true (ltb a 0) (ltb b 0) e).0))
+first-gate n p Random gs e = omega arith
+first-gate n p (Spend a b) gs e = absurd (omega (arith, ltb-true a 0 (both_true (ltb a 0) (ltb b 0) e).0))
 
 module _ (bs : List ℕ) (h : plan_check bs ≡ (Ok tt)) where
   checks : Passing bs
@@ -109,9 +102,12 @@ module _ (bs : List ℕ) (h : plan_check bs ≡ (Ok tt)) where
   below_n : t_at bs < n_at bs
   below_n = ltb-true (t_at bs) (n_at bs) checks.threshold
 
-  gates-kept : (g : ℕ) → g < gate_count_at bs → gate_ok (n_at bs) (p_at bs) g (gate_at bs g) ≡ true
+  kept_parts : (g : ℕ) → g < gate_count_at bs → (gate_ok (n_at bs) (p_at bs) g (gate_at bs g) ≡ true) × (spends_kept bs g ≡ true)
   unfolding gate_kept
-  gates-kept g l = nothing_passes (gate_kept bs) (gate_count_at bs) checks.gates g l
+  kept_parts g l = both_true (gate_ok (n_at bs) (p_at bs) g (gate_at bs g)) (spends_kept bs g) (nothing_passes (gate_kept bs) (gate_count_at bs) checks.gates g l)
+
+  gates-kept : (g : ℕ) → g < gate_count_at bs → gate_ok (n_at bs) (p_at bs) g (gate_at bs g) ≡ true
+  gates-kept g l = (kept_parts g l).0
 
   outs-kept : (o : ℕ) → o < out_count_at bs → out_ok (n_at bs) (gate_count_at bs) (out_at bs o) ≡ true
   unfolding out_kept
@@ -160,38 +156,43 @@ module _ (bs : List ℕ) (h : plan_check bs ≡ (Ok tt)) where
             );
       }
 
-  -- and it is plain
-  pub plain : Plain (plan_of bs)
-  unfolding plan_of party_count gate_at gate_from
-  plain =
-      record {
-        kinds = λ g. kinds_read (gate_at bs) (gate_count_at bs) g (λ i. kind_read _ _ _ _);
-      }
+  some-gates : 1 ≤ gate_count_at bs
+  some-gates = (between-true 1 1024 (gate_count_at bs) (laid bs checks.layout).gates).0
 
--- ---- of kinds above 6 a plain plan has none
-none_above : (k : ℕ) → 6 < k → (gs : List Gate) → ((g : ℕ) → kind_of (get_or gs g (Input 0)) ≤ 6) → count_where (is_kind k) gs ≡ 0
-unfolding count_where is_kind
-none_above k l [] h = refl
-none_above k l (x ∷ gs) h = rw (ne_eqb (kind_of x) k (λ e. omega (arith, h 0))) (none_above k l gs (λ g. h (suc g)))
+  -- something is dealt: the first gate is an input or a random wire
+  pub some-dealt : 1 ≤ kind_count (plan_of bs) 1 + kind_count (plan_of bs) 6
+  unfolding plan_of kind_count tab
+  some-dealt = by (gate_count_at bs) some-gates (gates-kept 0 some-gates)
+    where
+      by : (c : ℕ) → 1 ≤ c → gate_ok (n_at bs) (p_at bs) 0 (gate_at bs 0) ≡ true → 1 ≤ count_where (is_kind 1) (tab (gate_at bs) c) + count_where (is_kind 6) (tab (gate_at bs) c)
+      by zero l e = absurd (omega arith)
+      by (suc c) l e = first-gate (n_at bs) (p_at bs) (gate_at bs 0) (tab (λ k. gate_at bs (suc k)) c) e
 
-module _ (plan : Plan) (p : Plain plan) where
-  pub plain_no_7 : kind_count plan 7 ≡ 0
-  unfolding kind_count
-  plain_no_7 = none_above 7 (omega arith) plan.gates p.kinds
+  -- the last gate's count is that of all
+  pub few_spends : kind_count (plan_of bs) 7 ≤ 341
+  unfolding plan_of kind_count spends_kept
+  few_spends =
+      let last : suc (gate_count_at bs - 1) ≡ gate_count_at bs = omega (arith, some-gates) in
+      let kept : leb (count_where (is_kind 7) (tab (gate_at bs) (gate_count_at bs))) 341 ≡ true = rw last at (kept_parts (gate_count_at bs - 1) (omega (arith, some-gates))).1 in
+      leb-true _ 341 kept
 
--- ---- no gate of kind 5, or 2t < n
-none_or : (P : Type 0) (gs : List Gate) → ((g : ℕ) → g < length gs → multiplying (get_or gs g (Input 0)) ≡ true → P) → (count_where (is_kind 5) gs ≡ 0) ⊎ P
+-- ---- no gate of kinds 5 and 7, or 2t < n
+abbrev NoneMultiplies : List Gate → Type 0
+NoneMultiplies gs = (count_where (is_kind 5) gs ≡ 0) × (count_where (is_kind 7) gs ≡ 0)
+
+none_or : (P : Type 0) (gs : List Gate) → ((g : ℕ) → g < length gs → multiplying (get_or gs g (Input 0)) ≡ true → P) → NoneMultiplies gs ⊎ P
 unfolding count_where multiplying
-none_or P [] h = inl refl
-none_or P (x ∷ gs) h = pick (is_kind 5 x) refl (h 0 (omega arith)) (none_or P gs (λ g l. h (suc g) (omega arith)))
+none_or P [] h = inl (refl, refl)
+none_or P (x ∷ gs) h = pick (is_kind 5 x) (is_kind 7 x) (h 0 (omega arith)) (none_or P gs (λ g l. h (suc g) (omega arith)))
   where
     pick :
-        (t : Bool) → is_kind 5 x ≡ t → ((is_kind 5 x || is_kind 7 x) ≡ true → P) → (count_where (is_kind 5) gs ≡ 0) ⊎ P
-        → (cond t (suc (count_where (is_kind 5) gs)) (count_where (is_kind 5) gs) ≡ 0) ⊎ P
-    pick true e m r = inr (m (rw e))
-    pick false e m r = r
+        (t s : Bool) → ((t || s) ≡ true → P) → NoneMultiplies gs ⊎ P
+        → ((cond t (suc (count_where (is_kind 5) gs)) (count_where (is_kind 5) gs) ≡ 0) × (cond s (suc (count_where (is_kind 7) gs)) (count_where (is_kind 7) gs) ≡ 0)) ⊎ P
+    pick true s m r = inr (m refl)
+    pick false true m r = inr (m refl)
+    pick false false m r = r
 
-pub none_or_majority : (plan : Plan) → Valid plan → (kind_count plan 5 ≡ 0) ⊎ (plan.t + plan.t < party_count plan)
+pub none_or_majority : (plan : Plan) → Valid plan → ((kind_count plan 5 ≡ 0) × (kind_count plan 7 ≡ 0)) ⊎ (plan.t + plan.t < party_count plan)
 unfolding kind_count
 none_or_majority plan valid = none_or (plan.t + plan.t < party_count plan) plan.gates valid.majority
 
@@ -207,8 +208,8 @@ module _ (bs : List ℕ) (h : Header) (k : Planned bs h) where
   pub planned_or : (kind_count (plan_of bs) 5 ≡ 0) ⊎ (2 * h.t < h.n)
   planned_or = by (none_or_majority (plan_of bs) (valid bs k.passes))
     where
-      by : (kind_count (plan_of bs) 5 ≡ 0) ⊎ ((plan_of bs).t + (plan_of bs).t < party_count (plan_of bs)) → (kind_count (plan_of bs) 5 ≡ 0) ⊎ (2 * h.t < h.n)
-      by (inl e) = inl e
+      by : ((kind_count (plan_of bs) 5 ≡ 0) × (kind_count (plan_of bs) 7 ≡ 0)) ⊎ ((plan_of bs).t + (plan_of bs).t < party_count (plan_of bs)) → (kind_count (plan_of bs) 5 ≡ 0) ⊎ (2 * h.t < h.n)
+      by (inl e) = inl e.0
       by (inr l) = inr (omega (arith, plan_t k, plan_n k))
 
   -- 2t < n where a gate of the plan multiplies

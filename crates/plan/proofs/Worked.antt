@@ -4,8 +4,9 @@
 use Rattle.std.proofs.Common.{Ok, Err}
 use Prim.Native.Nat.{ℕ, ◌/◌, ◌%◌}
 use mathlib.Core.Path.{◌≡◌, refl}
+use mathlib.Core.Bool.{true, false}
 use mathlib.Core.List.{List, [], ◌∷◌, ◌++◌, map, flat_map}
-use lib.ListN.{take}
+use lib.ListN.{take, drop}
 use Rattle.numbers.specs.Tables.{tab, first_from, first_failing, count_where}
 use Rattle.numbers.specs.Bytes.{number_at, word_at}
 use Rattle.field.specs.Prime.{divisor_from, divisor_of, is_prime}
@@ -14,7 +15,7 @@ use Rattle.plan.specs.declared.Refusal.TheVariants as refusal
 use Rattle.plan.specs.Refusals.{first_of, and_then, need, unless_found}
 use Rattle.plan.specs.declared.Step.TheVariants.{DealInputs, DealProduct, SendOuts}
 use Rattle.plan.specs.Plans.{party_count, parties, dealer_count, kind_of, is_kind, kind_count, multiplying, operands_of, is_input_of, wires_from, input_wires, out_wires_of, out_wires, input_owners_at, input_owners, first_dealings, multiply_dealings, dealings_at, coin_owners_at, coin_owners, multiply_steps, steps_at, steps_from, steps, step_at, last_call, input_count, coin_count, own_out_count, received, sent_by, mail_count, written_count, per_multiply, sent_count}
-use Rattle.plan.specs.File.{magic, same_bytes, between, layout_for, field_at, gate_start, gate_place, out_place, point_place, gate_of, gate_from, gate_at, out_at, point_at, gate_ok, out_ok, majority_ok, gate_kept, out_kept, majority_kept, found_none, point_apart, point_kept, points_placed, layout_ok, majority_check, points_check, plan_checks, plan_check, plan_of}
+use Rattle.plan.specs.File.{magic, same_bytes, between, layout_for, field_at, gate_start, gate_place, out_place, point_place, gate_of, gate_from, gate_at, out_at, point_at, gate_ok, out_ok, majority_ok, spends_kept, gate_kept, out_kept, majority_kept, found_none, point_apart, point_kept, points_placed, layout_ok, majority_check, points_check, plan_checks, plan_check, plan_of}
 
 -- the contents of a plan of four gates and one out, with its version, n, t, byte 7 and p
 contents : ℕ → ℕ → ℕ → ℕ → ℕ → List ℕ
@@ -154,9 +155,59 @@ third =
     ∷ row (take 31 (wide 3 3 1 (point4 11 0) 72 [])) (Err refusal.Layout)
     ∷ []
 
-pub plans_worked : map (λ r. plan_check r.bytes) (worked ++ (faults ++ (pointed ++ third))) ≡ map (λ r. r.answer) (worked ++ (faults ++ (pointed ++ third)))
-unfolding contents input1 input2 multiply add out body plan k single row worked faults kept pointed wide wide_body point4 third plan_check first_of and_then plan_checks need unless_found first_failing first_from magic same_bytes between gate_of gate_from gate_at out_at gate_ok out_ok is_kind kind_of multiplying majority_ok gate_kept out_kept majority_kept found_none point_apart point_kept points_placed layout_ok majority_check points_check layout_for field_at gate_start gate_place out_place point_place point_at number_at word_at is_prime divisor_of divisor_from
+-- a gate of kind 7: plan K with one in the place of its multiply; wires of its own and later ones, its second byte, and kind 8; 25 as for a multiply, and
+-- in a version 3 plan
+spend : ℕ → ℕ → ℕ → ℕ → List ℕ
+spend kind second a b = kind ∷ second ∷ a ∷ 0 ∷ b ∷ 0 ∷ []
+
+spent_body : List ℕ → List ℕ → List ℕ
+spent_body gate o = input1 ++ (input2 ++ (gate ++ (add ++ o)))
+
+wide_spent : List ℕ
+wide_spent = take 20 wide_body ++ (7 ∷ 0 ∷ 0 ∷ 0 ∷ 0 ∷ 0 ∷ 1 ∷ 0 ∷ 0 ∷ 0 ∷ drop 30 wide_body)
+
+pub spending : List Row
+spending =
+    row (contents 1 3 1 0 11 ++ spent_body (spend 7 0 0 1) out) (Ok tt)
+    ∷ row (contents 1 3 1 0 11 ++ spent_body (spend 7 0 1 1) out) (Ok tt)
+    ∷ row (contents 1 3 1 0 11 ++ spent_body (spend 7 0 0 2) out) (Err (refusal.GateRule 2))
+    ∷ row (contents 1 3 1 0 11 ++ spent_body (spend 7 0 3 1) out) (Err (refusal.GateRule 2))
+    ∷ row (contents 1 3 1 0 11 ++ spent_body (spend 7 1 0 1) out) (Err (refusal.GateRule 2))
+    ∷ row (contents 1 3 1 0 11 ++ spent_body (spend 8 0 0 1) out) (Err (refusal.GateRule 2))
+    ∷ row (contents 1 4 2 0 11 ++ spent_body (spend 7 0 0 1) out) (Err refusal.Majority)
+    ∷ row (contents 1 2 1 0 11 ++ spent_body (spend 7 0 0 1) (2 ∷ 3 ∷ 0 ∷ [])) (Err refusal.Majority)
+    ∷ row (wide 3 3 1 (point4 101 0) 72 (wide_spent ++ (point4 7 0 ++ (point4 40 0 ++ point4 3 0)))) (Ok tt)
+    ∷ row (wide 4 3 1 (point4 101 0) 72 (wide_spent ++ (point4 7 0 ++ (point4 40 0 ++ point4 3 0)))) (Ok tt)
+    ∷ []
+
+-- so many outs of plan K as its contents say; none is a plan
+counted_outs : ℕ → List ℕ → List ℕ
+counted_outs o rest = take 16 k ++ (o ∷ 0 ∷ (input1 ++ (input2 ++ (multiply ++ (add ++ rest)))))
+
+pub outless : List Row
+outless =
+    row (counted_outs 0 []) (Ok tt)
+    ∷ row (counted_outs 1 []) (Err refusal.Layout)
+    ∷ row (counted_outs 0 out) (Err refusal.Layout)
+    ∷ row (counted_outs 2 (out ++ out)) (Ok tt)
+    ∷ row (counted_outs 64 (flat_map (λ i. out) (tab (λ i. i) 64))) (Ok tt)
+    ∷ row (counted_outs 65 (flat_map (λ i. out) (tab (λ i. i) 65))) (Err refusal.Layout)
+    ∷ []
+
+pub rows : List Row
+rows = worked ++ (faults ++ (pointed ++ (third ++ (spending ++ outless))))
+
+pub plans_worked : map (λ r. plan_check r.bytes) rows ≡ map (λ r. r.answer) rows
+unfolding contents input1 input2 multiply add out body plan k single row worked faults kept pointed wide wide_body point4 third spend spent_body wide_spent spending counted_outs outless rows tab count_where flat_map plan_check first_of and_then plan_checks need unless_found first_failing first_from magic same_bytes between gate_of gate_from gate_at out_at gate_ok out_ok is_kind kind_of multiplying majority_ok spends_kept gate_kept out_kept majority_kept found_none point_apart point_kept points_placed layout_ok majority_check points_check layout_for field_at gate_start gate_place out_place point_place point_at number_at word_at is_prime divisor_of divisor_from
 plans_worked = refl
+
+-- one input, then gates of kind 7 alone: gate 341 is the 341st of them, and the next is one too many
+pub many_spent : List ℕ
+many_spent = contents 1 3 1 0 11 ++ (input1 ++ flat_map (λ i. spend 7 0 0 0) (tab (λ i. i) 342))
+
+pub limit_worked : map (gate_kept many_spent) (1 ∷ 341 ∷ 342 ∷ []) ≡ true ∷ true ∷ false ∷ []
+unfolding contents input1 spend many_spent flat_map tab count_where gate_of gate_from gate_at gate_ok is_kind kind_of spends_kept gate_kept layout_for field_at gate_start gate_place number_at word_at between
+limit_worked = refl
 
 -- K's steps
 pub steps_worked : steps (plan_of k) ≡ DealInputs ∷ DealProduct 2 0 1 ∷ SendOuts ∷ []

@@ -1,6 +1,6 @@
 -- The plan file of versions 1 to 4: its checks, 1 to 8, 25 and 26, and the plan that it stands for.
 use Rattle.std.specs.Prelude.{Option, Some, None, ℕ, suc, ◌+◌, ◌*◌, Bool, true, false, cond, not, ◌&&◌, List, [], ◌∷◌, eqb, leb, ltb, length, take, get_or}
-use Rattle.numbers.specs.Tables.{tab, first_failing}
+use Rattle.numbers.specs.Tables.{tab, first_failing, count_where}
 use Rattle.numbers.specs.Bytes.{number_at, word_at}
 use Rattle.field.specs.Prime.{is_prime}
 use Rattle.plan.specs.declared.Gate.{Gate}
@@ -11,7 +11,7 @@ use Rattle.plan.specs.declared.Output.{Output}
 use Rattle.plan.specs.declared.Layout.{Layout}
 use Rattle.plan.specs.declared.Refusal.TheVariants as refusal
 use Rattle.plan.specs.Refusals.{Checked, first_of, need, unless_found}
-use Rattle.plan.specs.Plans.{Plan, multiplying}
+use Rattle.plan.specs.Plans.{Plan, is_kind, multiplying}
 
 -- the ASCII letters POOL
 unfoldable pub magic : List ℕ
@@ -86,7 +86,8 @@ gate_of kind second a b =
     (cond (eqb kind 3) (Scale a b)
     (cond (eqb kind 4) (Offset a b)
     (cond (eqb kind 5) (Multiply a b)
-    (cond (eqb kind 6) (cond (eqb a 0 && eqb b 0) Random (Input 0)) (Input 0)))))))
+    (cond (eqb kind 6) (cond (eqb a 0 && eqb b 0) Random (Input 0))
+    (cond (eqb kind 7) (Spend a b) (Input 0))))))))
     (Input 0)
 
 -- the gate at a place, its a and b of w bytes
@@ -120,9 +121,17 @@ out_ok n gates o = between 1 n o.party && ltb o.wire gates
 unfoldable pub majority_ok : ℕ → ℕ → Gate → Bool
 majority_ok n t g = cond (multiplying g) (ltb (2 * t) n) true
 
+-- as many gates of a plan may spend a triple: a plan that prepares their triples has three gates for each
+abbrev pub spend_limit : ℕ
+spend_limit = 341
+
+-- of the gates up to gate g no more spend one
+unfoldable pub spends_kept : List ℕ → ℕ → Bool
+spends_kept bs g = leb (count_where (is_kind 7) (tab (gate_at bs) (suc g))) spend_limit
+
 -- gate g of a plan keeps its rule, and out o its own; gate g has its majority
 unfoldable pub gate_kept : List ℕ → ℕ → Bool
-gate_kept bs g = gate_ok (n_at bs) (p_at bs) g (gate_at bs g)
+gate_kept bs g = gate_ok (n_at bs) (p_at bs) g (gate_at bs g) && spends_kept bs g
 
 unfoldable pub out_kept : List ℕ → ℕ → Bool
 out_kept bs o = out_ok (n_at bs) (gate_count_at bs) (out_at bs o)
@@ -152,7 +161,7 @@ layout_ok bs =
     && (eqb (field_at bs 1) (gate_place bs 0)
     && (between 1 1024 (gate_count_at bs)
     && (eqb (field_at bs 3) (out_place bs 0)
-    && (between 1 64 (out_count_at bs)
+    && (leb (out_count_at bs) 64
     && points_placed bs))))
 
 -- refusals 3 to 5, by n, t and p

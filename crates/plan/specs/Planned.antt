@@ -24,7 +24,6 @@ pub record Planned (bs : List ℕ) (h : Header) : Type 0 where
   pub p-high : h.field.p < 2147483648
   pub gates_low : 1 ≤ h.gates
   pub gates-high : h.gates ≤ 1024
-  pub outs_low : 1 ≤ h.outs
   pub outs-high : h.outs ≤ 64
 
 -- the file has all bytes of its first so many gates, and this layout

@@ -29,6 +29,7 @@ number_of refusal.InputCount = 10
 number_of (refusal.InputValue i) = 11
 number_of refusal.CoinCount = 12
 number_of (refusal.CoinValue i) = 13
+number_of refusal.Triples = 29
 number_of refusal.Settings = 30
 number_of refusal.StateCount = 14
 number_of refusal.StateValue = 15

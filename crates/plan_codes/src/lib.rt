@@ -34,6 +34,7 @@ pub fn number(r: Refusal) -> u64
         Refusal::InputValue(_) => 11,
         Refusal::CoinCount => 12,
         Refusal::CoinValue(_) => 13,
+        Refusal::Triples => 29,
         Refusal::Settings => 30,
         Refusal::StateCount => 14,
         Refusal::StateValue => 15,

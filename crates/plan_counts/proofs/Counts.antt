@@ -60,7 +60,7 @@ module _ (n p g kind : ℕ) where
 
   kind_of_lem : (second a b : ℕ) → Has (gate_of kind second a b)
   unfolding kind_of
-  kind_of_lem second a b = gate_read Has kind second a b no_party (λ e h. e) (λ e h. e) (λ e h. e) (λ e h. e) (λ e h. e) (λ e h. e)
+  kind_of_lem second a b = gate_read Has kind second a b no_party (λ e h. e) (λ e h. e) (λ e h. e) (λ e h. e) (λ e h. e) (λ e h. e) (λ e h. e)
 
 pub kind_byte : (bs : List ℕ) (h : Header) (g k : ℕ) → Planned bs h → g < h.gates → k ≡ get_or bs (gate_place bs g) 0 → k ≡ kind_of (gate_at bs g)
 unfolding gate_at gate_from

@@ -15,11 +15,12 @@ use lib.Seq.{take_all}
 use Rattle.numbers.specs.Tables.{count_where}
 use Rattle.plan.specs.declared.Gate.{Gate}
 use Rattle.plan.specs.declared.Header.{Header}
-use Rattle.plan.specs.Plans.{party_count, is_kind, input_owners_at, input_owners, coin_owners_at, coin_owners, steps_from, last_call, input_count, own_input_count, coin_count, own_coin_count}
+use Rattle.plan.specs.Plans.{party_count, is_kind, kind_count, input_owners_at, input_owners, coin_owners_at, coin_owners, steps_from, last_call, input_count, own_input_count, coin_count, own_coin_count, triple_numbers, triple_at}
 use Rattle.plan.specs.Kinds.{multiply_coins, own_multiply_coins, multiply_rounds, own_draws, own_random_coins}
 use Rattle.plan.specs.File.{plan_of}
 use Rattle.plan.specs.Planned.{Planned}
 use Rattle.plan.proofs.Planned.{plan_n, plan_t, plan_rule}
+use Rattle.plan.proofs.Valid.{few_spends}
 use Rattle.plan.proofs.Counts.{steps-below, last-call}
 use Rattle.plan.proofs.KindCounts.{own-inputs-of, inputs-of, own-coins-of, coins-of, steps-of}
 use Rattle.plan_counts.specs.declared.Tally.{Tally}
@@ -60,6 +61,20 @@ module _ (bs : List ℕ) (h : Header) (p : Planned bs h) (i : ℕ) (c : Tally) (
       ap₂ (λ (x y : ℕ). x * y) (ap₂ (λ (x y : ℕ). x * y) (plan_t p) (plan_n p)) (sym t.randoms) in
       omega (arith, a1, a2, a3, coins-of (plan_of bs) (plan_of bs).gates)
 
+  pub triples-all : h.n * (3 * c.spends) ≡ party_count (plan_of bs) * triple_numbers (plan_of bs)
+  unfolding triple_numbers kind_count
+  triples-all = rw (plan_n p, t.spends)
+
+  all-few : c.spends ≤ 341
+  unfolding kind_count
+  all-few = rw t.spends (few_spends bs p.passes)
+
+  pub all-triples-few : h.n * (3 * c.spends) ≤ 15345
+  all-triples-few = mul-le-mul {n₁ = h.n} {m₁ = 3 * c.spends} {n₂ = 15} {m₂ = 1023} p.n-high (omega (arith, all-few))
+
+  pub all-triples-fit : Fits w64 (h.n * (3 * c.spends))
+  all-triples-fit = record { fits = omega (arith, all-triples-few) }
+
   last-all : (r : ℕ) → r ≡ multiply_rounds h.rule → r * c.multiplies + c.randoms + c.spends + 2 ≡ last_call (plan_of bs)
   unfolding steps-below
   last-all r e =
@@ -81,6 +96,15 @@ module _ (s : Seat) (r : ℕ) where
       r ≡ s.plan.now.header.t * s.tally.own + own_multiply_coins (plan_of s.plan.now.bytes.now) s.plan.now.header.rule s.party * s.tally.multiplies + own_random_coins (plan_of s.plan.now.bytes.now) s.party * s.tally.randoms
       → r ≡ own_coin_count (plan_of s.plan.now.bytes.now) s.party
   seat_coins = own-coins-all s.plan.now.bytes.now s.plan.now.header s.plan.now.planned s.party s.tally s.tallied r
+
+  pub seat_triples : 3 * s.tally.spends ≡ triple_numbers (plan_of s.plan.now.bytes.now)
+  unfolding triple_numbers kind_count
+  seat_triples = ap (λ (n : ℕ). 3 * n) s.tallied.spends
+
+-- below a gate
+pub triples-below : (bs : List ℕ) (i g : ℕ) (c : Tally) → Tallied (take g (plan_of bs).gates) i c → 3 * c.spends ≡ triple_at (plan_of bs) g
+unfolding triple_at
+triples-below bs i g c t = ap (λ (n : ℕ). 3 * n) t.spends
 
 pub drawn_as : (a d e x : ℕ) → d ≡ e → a + d * x ≡ a + e * x
 drawn_as a d e x q = rw q
@@ -128,6 +152,12 @@ module _ (c : Tally) (few : c.own + c.multiplies + c.randoms ≤ 1024) where
         own-coins-fit = record { fits = omega (arith, own-coins-few) }
 
 module _ (i : ℕ) (gs : List Gate) (c : Tally) (t : Tallied gs i c) where
+  pub triples-few : 3 * c.spends ≤ 3072
+  triples-few = omega (arith, t.few)
+
+  pub triples-fit : Fits w64 (3 * c.spends)
+  triples-fit = record { fits = omega (arith, triples-few) }
+
   module _ (r : ℕ) (l : r ≤ 3) where
     pub last-few : r * c.multiplies + c.randoms + c.spends + 2 ≤ 3074
     last-few = omega (arith, t.few, times r c.multiplies 3 l)
@@ -185,7 +215,7 @@ module _ (i : ℕ) (gs : List Gate) (c : Tally) (t : Tallied gs i c) where
 -- As it is: answers name this set, since the check leaves their goals open by `using` alone.
 pub ruleset summing = (rules, drawn_as, coins_as, drawn-few, drawn-fits, inputs-fit, own-fits, dealt-fits, two_fit, random-fits, own-coins-few, own-coins-fit)
 
-pub ruleset seats = (rules, seat-last, seat_inputs, seat_coins, last-few, rounds-fit, last-fits, last-fits-2, last-fits-3)
+pub ruleset seats = (rules, seat-last, seat_inputs, seat_coins, seat_triples, triples-few, triples-fit, last-few, rounds-fit, last-fits, last-fits-2, last-fits-3)
 
 -- As it is: answers name this set, since the check leaves their goals open by `using` alone.
-pub ruleset sizing = (rules, own-inputs-are, own-coins-are, inputs-all, coins-all, inputs-few, draws-fit, all-inputs-fit, first-fits, both-fit, randoms-fit, coins-few, multiplies-fit, two-fit, coins-fit)
+pub ruleset sizing = (rules, own-inputs-are, own-coins-are, triples-below, triples-few, triples-fit, triples-all, all-triples-few, all-triples-fit, inputs-all, coins-all, inputs-few, draws-fit, all-inputs-fit, first-fits, both-fit, randoms-fit, coins-few, multiplies-fit, two-fit, coins-fit)

@@ -3,7 +3,7 @@
 --     stepped-product             the gate of a product's step
 -- Assumes nothing.
 use mathlib.Core.Path.{◌≡◌, refl, sym, ap, subst, ◌∙◌}
-use mathlib.Core.Bool.{Bool, true, false, cond}
+use mathlib.Core.Bool.{cond}
 use mathlib.Core.List.{List, [], ◌∷◌, ◌++◌, append_assoc}
 use Prim.Native.Nat.{ℕ, zero, suc, ◌+◌, ◌-◌, ◌<◌, ◌≤◌}
 use native.Mathlib.Numerals.{add-one}
@@ -13,7 +13,6 @@ use borrow.Author.Tests.{eq-eqb, ne_eqb}
 use lib.Dec.{eqb}
 use lib.ListN.{length, get_or, drop, drop_of_length-le, get_or-append}
 use lib.Seq.{drop-cons, get_or-append-add}
-use Rattle.numbers.specs.Tables.{count_where}
 use Rattle.plan.specs.declared.Gate.{Gate}
 use Rattle.plan.specs.declared.Gate.TheVariants.{Input, Add, Scale, Offset, Multiply, Random, Spend}
 use Rattle.plan.specs.declared.Rule.{Rule}
@@ -21,12 +20,11 @@ use Rattle.plan.specs.declared.Rule.TheVariants.{Reduction, Truncation}
 use Rattle.plan.specs.declared.Step.{Step}
 use Rattle.plan.specs.declared.Step.TheVariants.{DealInputs, DealProduct, DealZero, DealMasked, SendTruncated, SendOuts}
 use Rattle.plan.specs.declared.Header.{Header}
-use Rattle.plan.specs.Plans.{Plan, kind_of, is_kind, kind_count, multiply_steps, steps_at, steps_from, steps, step_at}
+use Rattle.plan.specs.Plans.{Plan, kind_of, multiply_steps, steps_at, steps_from, steps, step_at}
 use Rattle.plan.specs.File.{gate_at, plan_of}
 use Rattle.plan.specs.Planned.{Planned}
 use Rattle.plan.specs.Kinds.{multiply_rounds}
 use Rattle.plan.proofs.Planned.{plan_rule, plan_gates, plan_gate}
-use Rattle.plan.proofs.Valid.{plain, plain_no_7}
 use Rattle.plan_counts.specs.Counts.{IsGate, Stepped}
 
 -- ---- a gate's steps
@@ -98,24 +96,13 @@ no_steps rule g (Multiply a b) l = absurd (omega arith)
 no_steps rule g Random l = absurd (omega arith)
 no_steps rule g (Spend a b) l = absurd (omega arith)
 
--- a plan file has no gate that spends
-no-spend : (gs : List Gate) (g a b : ℕ) → count_where (is_kind 7) gs ≡ 0 → g < length gs → get_or gs g (Input 0) ≡ Spend a b → ⊥
-unfolding count_where is_kind kind_of
-no-spend [] g a b none l e = omega arith
-no-spend (x ∷ gs) zero a b none l e = omega (arith, (rw e at none))
-no-spend (x ∷ gs) (suc g) a b none l e = no-spend gs g a b (rest (is_kind 7 x) (count_where (is_kind 7) gs) none) (omega arith) e
-  where
-    rest : (t : Bool) (n : ℕ) → cond t (suc n) n ≡ 0 → n ≡ 0
-    rest true n q = absurd (omega arith)
-    rest false n q = q
-
-stepped_at : (plan : Plan) (g j : ℕ) (x : Gate) → kind_count plan 7 ≡ 0 → IsGate plan g x → Stepped plan (get_or (steps_at plan.rule g x) j SendOuts)
-unfolding Stepped steps_at multiply_steps kind_of kind_count
-stepped_at plan g j (Input s) none i = tt
-stepped_at plan g j (Add a b) none i = tt
-stepped_at plan g j (Scale a c) none i = tt
-stepped_at plan g j (Offset a c) none i = tt
-stepped_at plan g j (Multiply a b) none i = of plan.rule refl j
+stepped_at : (plan : Plan) (g j : ℕ) (x : Gate) → IsGate plan g x → Stepped plan (get_or (steps_at plan.rule g x) j SendOuts)
+unfolding Stepped steps_at multiply_steps kind_of
+stepped_at plan g j (Input s) i = tt
+stepped_at plan g j (Add a b) i = tt
+stepped_at plan g j (Scale a c) i = tt
+stepped_at plan g j (Offset a c) i = tt
+stepped_at plan g j (Multiply a b) i = of plan.rule refl j
   where
     of : (q : Rule) → plan.rule ≡ q → (j : ℕ) → Stepped plan (get_or (multiply_steps q g a b) j SendOuts)
     of Reduction e zero = (i, e)
@@ -124,9 +111,10 @@ stepped_at plan g j (Multiply a b) none i = of plan.rule refl j
     of Truncation e (suc zero) = (i, e)
     of Truncation e (suc (suc zero)) = (record { within = i.within; is = ap kind_of i.is }, e)
     of Truncation e (suc (suc (suc j))) = tt
-stepped_at plan g zero Random none i = i
-stepped_at plan g (suc j) Random none i = tt
-stepped_at plan g j (Spend a b) none i = absurd (no-spend plan.gates g a b none i.within i.is)
+stepped_at plan g zero Random i = i
+stepped_at plan g (suc j) Random i = tt
+stepped_at plan g zero (Spend a b) i = i
+stepped_at plan g (suc j) (Spend a b) i = tt
 
 -- ---- the pass: at gate g, the step is the one after so many that are left
 pub record Stepping (bs : List ℕ) (rule : Rule) (gates k left g : ℕ) : Type 0 where
@@ -177,7 +165,7 @@ module _ (bs : List ℕ) (h : Header) (p : Planned bs h) where
     step_of gate s eg q =
         let is : IsGate (plan_of bs) g gate = record { within = rw (plan_gates p) l; is = plan_gate p g l ∙ sym eg } in
         subst (Stepped (plan_of bs)) (sym (q ∙ ap (λ (rule : Rule). get_or (steps_at rule g gate) left SendOuts) (sym (plan_rule p))))
-        (stepped_at (plan_of bs) g left gate (plain_no_7 (plan_of bs) (plain bs p.passes)) is)
+        (stepped_at (plan_of bs) g left gate is)
 
   module _ (k left g : ℕ) (w : Stepping bs h.rule h.gates k left g) where
     pub step-none : h.gates ≤ g → SendOuts ≡ step_at (plan_of bs) (suc k)

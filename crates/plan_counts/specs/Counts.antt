@@ -2,7 +2,7 @@
 use Rattle.std.specs.Prelude.{ℕ, ◌+◌, ◌<◌, ◌≤◌, ◌≡◌, Bool, List, eqb, length, get_or}
 use Rattle.numbers.specs.Tables.{count_where}
 use Rattle.plan.specs.declared.Gate.{Gate}
-use Rattle.plan.specs.declared.Gate.TheVariants.{Input, Multiply, Random}
+use Rattle.plan.specs.declared.Gate.TheVariants.{Input, Multiply, Random, Spend}
 use Rattle.plan.specs.declared.Rule.TheVariants.{Reduction, Truncation}
 use Rattle.plan.specs.declared.Step.{Step}
 use Rattle.plan.specs.declared.Step.TheVariants.{DealInputs, DealProduct, DealZero, DealMasked, SendTruncated, DealDraws, OpenSpent, SendOuts}
@@ -34,7 +34,7 @@ pub record HasKind (plan : Plan) (g k : ℕ) : Type 0 where
   pub within : g < length plan.gates
   pub is : kind_of (get_or plan.gates g (Input 0)) ≡ k
 
--- a step is one of its gate's, by the plan's rule; a plan file has no gate that opens what it spends
+-- a step is one of its gate's, by the plan's rule
 unfoldable pub Stepped : Plan → Step → Type 0
 Stepped plan DealInputs = Unit
 Stepped plan (DealProduct g a b) = IsGate plan g (Multiply a b) × (plan.rule ≡ Reduction)
@@ -42,5 +42,5 @@ Stepped plan (DealZero g) = HasKind plan g 5 × (plan.rule ≡ Truncation)
 Stepped plan (DealMasked g a b) = IsGate plan g (Multiply a b) × (plan.rule ≡ Truncation)
 Stepped plan (SendTruncated g) = HasKind plan g 5 × (plan.rule ≡ Truncation)
 Stepped plan (DealDraws g) = IsGate plan g Random
-Stepped plan (OpenSpent g a b) = ⊥
+Stepped plan (OpenSpent g a b) = IsGate plan g (Spend a b)
 Stepped plan SendOuts = Unit

@@ -6,7 +6,7 @@ ghost use mathlib.Core.List.{flat_map};
 ghost use Rattle.numbers.specs.Tables.{count_where};
 ghost use Rattle.plan.specs.declared.Step.TheVariants.{SendOuts};
 ghost use Rattle.plan.specs.File.{between, gate_at, plan_of};
-ghost use Rattle.plan.specs.Plans.{kind_of, is_input_of, input_owners_at, coin_owners_at, multiply_steps, steps_at, step_at, last_call, input_count, own_input_count, coin_count, own_coin_count};
+ghost use Rattle.plan.specs.Plans.{party_count, kind_of, is_input_of, input_owners_at, coin_owners_at, multiply_steps, steps_at, step_at, last_call, input_count, own_input_count, coin_count, own_coin_count, triple_numbers, triple_at};
 ghost use Rattle.plan.specs.Kinds.{multiply_coins, own_multiply_coins, multiply_rounds, own_draws, own_random_coins};
 ghost use Rattle.plan_counts.specs.Counts.{Tallied, Stepped};
 
@@ -85,6 +85,14 @@ impl<'a> Seat<'a> {
         ensures { record { eq : result ≡ own_coin_count (plan_of self.now.plan.now.bytes.now) self.now.party; le : result ≤ 43008 } }
     {
         coins_in(self.plan, self.party, self.tally)
+    }
+
+    // The numbers of its triples: three for each gate that spends one.
+    #[tactic(auto, using(crate::proofs::Sizes::seats))]
+    pub fn own_triples(&self) -> usize
+        ensures { record { eq : result ≡ triple_numbers (plan_of self.now.plan.now.bytes.now); le : result ≤ 3072 } }
+    {
+        3 * self.tally.spends
     }
 }
 
@@ -405,6 +413,14 @@ pub fn coin_count(plan: &PlanFile) -> usize
     h.t * c.inputs + multiply_coins(plan) * c.multiplies + h.t * h.n * c.randoms
 }
 
+// The triples of a run: every party's.
+#[tactic(auto, using(crate::proofs::Sizes::sizing))]
+pub fn triple_count(plan: &PlanFile) -> usize
+    ensures { record { eq : result ≡ party_count (plan_of plan.now.bytes.now) * triple_numbers (plan_of plan.now.bytes.now); le : result ≤ 15345 } }
+{
+    plan.header.n * (3 * tally_of(plan, 0).spends)
+}
+
 // Party i's inputs at gates below g.
 #[tactic(auto, using(crate::proofs::Sizes::sizing))]
 pub fn inputs_below(plan: &PlanFile, i: usize, g: usize) -> usize
@@ -427,6 +443,15 @@ pub fn coins_below(plan: &PlanFile, i: usize, g: usize) -> usize
     } }
 {
     coins_in(plan, i, tally_below(plan, i, g))
+}
+
+// The place of gate g's triple among a party's: past those of the gates below it.
+#[tactic(auto, using(crate::proofs::Sizes::sizing))]
+pub fn triple_at(plan: &PlanFile, g: usize) -> usize
+    requires g_le_gates { g ≤ plan.now.header.gates }
+    ensures { record { eq : result ≡ triple_at (plan_of plan.now.bytes.now) g; le : result ≤ 3072 } }
+{
+    3 * tally_below(plan, 0, g).spends
 }
 
 // ---- steps

@@ -17,7 +17,7 @@ use borrow.Author.Tests.{ltb-true, eqb-true, eqb-false, eq-eqb, ne_eqb, le-leb, 
 use lib.Dec.{eqb, leb, ltb}
 use lib.ListN.{length, take, drop, get_or, length-append, get_or-append}
 use lib.Seq.{get_or-append-add, get_or-take, get_or-drop}
-use Rattle.numbers.specs.Tables.{tab, first_failing}
+use Rattle.numbers.specs.Tables.{tab, first_failing, count_where}
 use Rattle.numbers.specs.Bytes.{number_at, bytes_from, word_at, all_below}
 use Rattle.numbers.proofs.Tables.{is-tab, length-tab, get_or-tab}
 use Rattle.numbers.proofs.Bytes.{span, number_same, length-bytes_from, bytes_number}
@@ -32,9 +32,9 @@ use Rattle.plan.specs.declared.Rule.TheVariants.{Reduction}
 use Rattle.plan.specs.Refusals.{Checked}
 use Rattle.plan.specs.declared.Refusal.TheVariants as refusal
 use Rattle.plan.specs.Refusals.{and_then, first_of, need, unless_found}
-use Rattle.plan.specs.Plans.{Plan, party_count, kind_of, operands_of}
+use Rattle.plan.specs.Plans.{Plan, party_count, kind_of, is_kind, operands_of}
 use Rattle.plan.proofs.Layouts.{gate_read}
-use Rattle.plan.specs.File.{version_at, rule_for, layout_for, field_at, gate_start, gate_place, out_place, point_place, point_at, points_placed, magic, same_bytes, between, gate_of, gate_from, gate_at, out_at, gate_ok, out_ok, gate_kept, out_kept, gate_count_at, out_count_at, n_at, t_at, p_at, parties_ok, threshold_ok, modulus_ok, layout_ok, majority_check, points_check, plan_checks, plan_check, plan_of}
+use Rattle.plan.specs.File.{version_at, rule_for, layout_for, field_at, gate_start, gate_place, out_place, point_place, point_at, points_placed, magic, same_bytes, between, gate_of, gate_from, gate_at, out_at, gate_ok, out_ok, spends_kept, gate_kept, out_kept, gate_count_at, out_count_at, n_at, t_at, p_at, parties_ok, threshold_ok, modulus_ok, layout_ok, majority_check, points_check, plan_checks, plan_check, plan_of}
 use Rattle.plan.proofs.Layouts.{layout_rows}
 use Rattle.plan.proofs.Planned.{between-true, modulus_small, modulus_above}
 use Rattle.plan_reading.proofs.Ways.{majority-all, majority-there, points-pass}
@@ -150,7 +150,7 @@ gate_of_kind (Spend a b) low = absurd (omega arith)
 -- such is every gate that is read, whatever its bytes
 pub gate-readable : (kind second a b : ℕ) → Readable (gate_of kind second a b)
 unfolding gate_of kind_of operands_of
-gate-readable kind second a b = gate_read Readable kind second a b refl (λ e. refl) (λ e. refl) (λ e. refl) (λ e. refl) (λ e. refl) (λ e. refl)
+gate-readable kind second a b = gate_read Readable kind second a b refl (λ e. refl) (λ e. refl) (λ e. refl) (λ e. refl) (λ e. refl) (λ e. refl) (λ e. refl)
 
 -- ---- the file
 abbrev no_out : Output
@@ -346,11 +346,11 @@ module _ (v : ℕ) (plan : Plan) where
         by false e =
             rw (points-offset (eqb-false (layout_for v).point 0 e), eq-eqb (out_start v (length plan.gates) (length plan.outs)) (out_start v (length plan.gates) (length plan.outs) + (layout_for v).point * 0) (omega arith))
 
-    pub layout-back : layout_ok (file_as v plan) ≡ (between 1 1024 (length plan.gates) && between 1 64 (length plan.outs))
+    pub layout-back : layout_ok (file_as v plan) ≡ (between 1 1024 (length plan.gates) && leb (length plan.outs) 64)
     unfolding layout_ok
     layout-back =
         rw (seven, gates-offset, gate-place-back 0, gates-back, outs-offset, out-place-back 0, outs_back, placed-back, eq-eqb (place_in v 0) (place_in v 0) refl, eq-eqb (out_start v (length plan.gates) 0) (out_start v (length plan.gates) 0) refl)
-        (ends (between 1 1024 (length plan.gates)) (between 1 64 (length plan.outs)))
+        (ends (between 1 1024 (length plan.gates)) (leb (length plan.outs) 64))
       where
         ends : (x y : Bool) → (x && (true && (y && true))) ≡ (x && y)
         ends true true = refl
@@ -473,7 +473,7 @@ module _ (n t p : ℕ) (b : Bodies) where
     unfolding file_of_plan plan_with
     made_outs = outs_back (version_for p) (plan_with n t p b) few-gates few_outs
 
-    pub made-layout : layout_ok (file_of_plan n t p b) ≡ (between 1 1024 (length b.gates) && between 1 64 (length b.outs))
+    pub made-layout : layout_ok (file_of_plan n t p b) ≡ (between 1 1024 (length b.gates) && leb (length b.outs) 64)
     unfolding file_of_plan plan_with
     made-layout = layout-back (version_for p) (plan_with n t p b) few-gates few_outs
 
@@ -560,6 +560,13 @@ pub sound_wired : (n p : ℕ) (b : Bodies) → Sound n p b → Wired n p b
 sound_wired n p b sound =
     record { low = sound.low; gates = sound.gates; wires = λ o l. (out_parts n (length b.gates) (get_or b.outs o no_out) (sound.outs o l)).1 }
 
+-- no such gate spends a triple
+none-spent : (f : ℕ → Gate) (n : ℕ) → ((i : ℕ) → i < n → kind_of (f i) ≤ 5) → count_where (is_kind 7) (tab f n) ≡ 0
+unfolding tab count_where is_kind
+none-spent f zero h = refl
+none-spent f (suc n) h =
+    rw (ne_eqb (kind_of (f 0)) 7 (λ e. omega (arith, h 0 (omega arith)))) (none-spent (λ i. f (suc i)) n (λ i l. h (suc i) (omega arith)))
+
 -- a field of any version has room for 1,024
 pub field_room : (v : ℕ) → 65536 ≤ span (layout_for v).field
 field_room v = layout_rows (λ l. 65536 ≤ span l.field) (unfold span in omega arith) (unfold span in omega arith) (unfold span in omega arith) v
@@ -581,13 +588,22 @@ module _ (n p : ℕ) (b : Bodies) (n-small : n ≤ 15) (p-small : p < 4294967296
   sound_room sound = wired_room (sound_wired n p b sound)
 
   module _ (wired : Wired n p b) (t : ℕ) (few_outs : length b.outs ≤ 64) where
+    its-gate : (g : ℕ) → g < length b.gates → gate_at (file_of_plan n t p b) g ≡ get_or b.gates g (Input 0)
+    its-gate g l = made-gate n t p b few-gates few_outs n-small (wired_room wired) g l
+
+    spends-pass : (g : ℕ) → g < length b.gates → spends_kept (file_of_plan n t p b) g ≡ true
+    unfolding spends_kept
+    spends-pass g l =
+        ap (λ (k : ℕ). leb k 341)
+        (none-spent (gate_at (file_of_plan n t p b)) (suc g) (λ i m. let k : i < length b.gates = omega arith in rw (its-gate i k) (wired.low i k)))
+
     -- 7 falls on no gate
     gates-pass : first_failing (gate_kept (file_of_plan n t p b)) (gate_count_at (file_of_plan n t p b)) ≡ None
     unfolding gate_kept
     gates-pass =
         passes-nothing (gate_kept (file_of_plan n t p b)) (gate_count_at (file_of_plan n t p b))
         (λ g l. let k : g < length b.gates = rw (made-gates n t p b few-gates few_outs) at l in
-        rw (made_n n t p b, made_p n t p b, made-gate n t p b few-gates few_outs n-small (wired_room wired) g k) (wired.gates g k))
+        rw (made_n n t p b, made_p n t p b, its-gate g k, wired.gates g k) (spends-pass g k))
 
     -- and 8 on the outs that were made
     outs_same : first_failing (out_kept (file_of_plan n t p b)) (out_count_at (file_of_plan n t p b)) ≡ first_failing (out_made n b) (length b.outs)
@@ -625,7 +641,7 @@ module _ (n t p : ℕ) (b : Bodies) (few-gates : length b.gates ≤ 1024) (few_o
   unfolding plan_check plan_checks first_of and_then need content_checks
   file_check_outs wired =
       rw (begun, version_made, made_n n t p b, made_t n t p b, made_p n t p b, made-layout n t p b few-gates few_outs)
-      (by (parties_ok n) (threshold_ok n t) (modulus_ok n p) (between 1 1024 (length b.gates) && between 1 64 (length b.outs)) refl refl)
+      (by (parties_ok n) (threshold_ok n t) (modulus_ok n p) (between 1 1024 (length b.gates) && leb (length b.outs) 64) refl refl)
     where
       rest : List Checked
       rest =

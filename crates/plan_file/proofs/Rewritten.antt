@@ -3,27 +3,28 @@
 --     same-passes   no refusal falls on it
 -- Assumes nothing.
 use Rattle.std.proofs.Common.{None, Ok}
-use Prim.Native.Nat.{ℕ, ◌<◌, ◌≤◌}
+use Prim.Native.Nat.{ℕ, suc, ◌<◌, ◌≤◌}
 use mathlib.Core.Path.{◌≡◌, refl, sym, ap, ◌∙◌}
 use mathlib.Core.Bool.{Bool, true, false, cond, ◌&&◌}
 use mathlib.Core.List.{List}
 use native.Mathlib.Omega.{arith}
-use borrow.Author.Tests.{le-leb, eqb-true, eqb-false, ne_eqb}
+use borrow.Author.Tests.{le-leb, leb-true, eqb-true, eqb-false, ne_eqb}
 use lib.Dec.{eqb, leb}
 use lib.ListN.{length, take, get_or}
-use Rattle.numbers.specs.Tables.{first_failing}
-use Rattle.numbers.proofs.Tables.{length-tab, get_or-tab}
+use Rattle.numbers.specs.Tables.{first_failing, count_where}
+use Rattle.numbers.proofs.Tables.{length-tab, get_or-tab, tab-ext}
 use Rattle.numbers.proofs.Bytes.{span}
 use Rattle.numbers.proofs.Searches.{first_ext}
 use Rattle.sharing_laws.proofs.Alls.{all_at}
+use Rattle.plan.specs.declared.Gate.{Gate}
 use Rattle.plan.specs.declared.Gate.TheVariants.{Input}
 use Rattle.plan.specs.declared.Rule.TheVariants.{Reduction, Truncation}
 use Rattle.plan.specs.declared.Layout.{Layout}
 use Rattle.plan.specs.declared.Refusal.{Refusal}
 use Rattle.plan.specs.declared.Refusal.TheVariants as refusal
 use Rattle.plan.specs.Refusals.{unless_found}
-use Rattle.plan.specs.Plans.{Plan, party_count}
-use Rattle.plan.specs.File.{magic, same_bytes, between, rule_for, layout_for, gate_start, version_at, n_at, t_at, p_at, gate_count_at, out_count_at, gate_at, out_at, point_at, gate_from, gate_kept, out_kept, majority_kept, point_apart, point_kept, layout_ok, majority_check, points_check, plan_checks, plan_check, plan_of}
+use Rattle.plan.specs.Plans.{Plan, party_count, is_kind}
+use Rattle.plan.specs.File.{magic, same_bytes, between, rule_for, layout_for, gate_start, version_at, n_at, t_at, p_at, gate_count_at, out_count_at, gate_at, out_at, point_at, gate_from, spends_kept, gate_kept, out_kept, majority_kept, point_apart, point_kept, layout_ok, majority_check, points_check, plan_checks, plan_check, plan_of}
 use Rattle.plan.proofs.Refusals.{need-true, next_passes, first_of-nil}
 use Rattle.plan.proofs.Layouts.{layout_rows}
 use Rattle.plan.proofs.Planned.{Passing, passing, laid, between-true, length_gates, length_outs}
@@ -59,7 +60,7 @@ module _ (bs : List ℕ) (passes : plan_check bs ≡ (Ok tt)) (v : ℕ) (known :
   gates_few = omega (arith, length_gates bs, (between-true 1 1024 (gate_count_at bs) (laid bs checks.layout).gates).1)
 
   outs_few : length plan.outs ≤ 64
-  outs_few = omega (arith, length_outs bs, (between-true 1 64 (out_count_at bs) (laid bs checks.layout).outs).1)
+  outs_few = omega (arith, length_outs bs, leb-true (out_count_at bs) 64 (laid bs checks.layout).outs)
 
   -- such a version has points, as wide as its fields
   points-wide : (layout_for v).point ≡ (layout_for v).field
@@ -155,10 +156,14 @@ module _ (bs : List ℕ) (passes : plan_check bs ≡ (Ok tt)) (v : ℕ) (known :
   laid-file : layout_ok file ≡ true
   laid-file = layout-back v plan gates_few outs_few ∙ rw (length_gates bs, length_outs bs, (laid bs checks.layout).gates, (laid bs checks.layout).outs)
 
+  spends-same : (g : ℕ) → g < gate_count_at bs → spends_kept file g ≡ spends_kept bs g
+  unfolding spends_kept
+  spends-same g l = ap (λ (gs : List Gate). leb (count_where (is_kind 7) gs) 341) (tab-ext (gate_at file) (gate_at bs) (suc g) (λ i m. gate_same i (omega arith)))
+
   gates-kept : first_failing (gate_kept file) (gate_count_at file) ≡ None
   gates-kept =
       ap (first_failing (gate_kept file)) gates_same
-      ∙ first_ext (gate_kept file) (gate_kept bs) (gate_count_at bs) (λ g l. unfold gate_kept in rw (n-same, p-same, gate_same g l)) ∙ checks.gates
+      ∙ first_ext (gate_kept file) (gate_kept bs) (gate_count_at bs) (λ g l. unfold gate_kept in rw (n-same, p-same, gate_same g l, spends-same g l)) ∙ checks.gates
 
   outs-kept : first_failing (out_kept file) (out_count_at file) ≡ None
   outs-kept =

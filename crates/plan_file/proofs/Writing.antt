@@ -14,7 +14,7 @@ use native.Mathlib.Omega.{arith}
 use native.Mathlib.Numerals.{add-one}
 use borrow.Author.Rules.{rules}
 use borrow.Author.Tests.{not-true, not-false, ltb-true, lt-ltb, le-ltb, eq-eqb, ne_eqb}
-use lib.Dec.{eqb, ltb}
+use lib.Dec.{eqb, leb, ltb}
 use mir.Syntax.{w64}
 use mir.Val.{Fits}
 use lib.ListN.{length, get_or, take, drop, take-append-drop, drop_of_length-le}
@@ -341,10 +341,10 @@ pub ruleset pointing = (rules, points_begin, points_next, points_end, points_sam
 
 -- ---- refusals 3 to 6
 module _ (gates outs : ℕ) (x : Bool) (ex : x ≡ between 1 1024 gates) where
-  pub counts-not : x ≡ false → false ≡ (between 1 1024 gates && between 1 64 outs)
+  pub counts-not : x ≡ false → false ≡ (between 1 1024 gates && leb outs 64)
   counts-not h = rw (← ex, h)
 
-  pub counts_on : (y : Bool) → x ≡ true → y ≡ between 1 64 outs → y ≡ (between 1 1024 gates && between 1 64 outs)
+  pub counts_on : (y : Bool) → x ≡ true → y ≡ leb outs 64 → y ≡ (between 1 1024 gates && leb outs 64)
   counts_on y h e = rw (← ex, h) e
 
 module _ (n t p gates outs : ℕ) (x : Bool) (ex : x ≡ parties_ok n) where
@@ -362,7 +362,7 @@ module _ (n t p gates outs : ℕ) (x : Bool) (ex : x ≡ parties_ok n) where
       unfolding content_checks first_of and_then need
       check-modulus h = rw (← ex, hx, ← ey, hy, above-not n p (sym em ∙ ap modulus_in h))
 
-      module _ (f : Field) (hf : m ≡ Some f) (z : Bool) (ez : z ≡ (between 1 1024 gates && between 1 64 outs)) where
+      module _ (f : Field) (hf : m ≡ Some f) (z : Bool) (ez : z ≡ (between 1 1024 gates && leb outs 64)) where
         pub check-counts : z ≡ false → Err refusal.Layout ≡ first_of (content_checks n t p gates outs)
         unfolding content_checks first_of and_then need
         check-counts h = rw (← ex, hx, ← ey, hy, (above-is n p f.p (sym em ∙ ap modulus_in hf)).0, ← ez, h)

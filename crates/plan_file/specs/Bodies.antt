@@ -1,5 +1,5 @@
 -- A plan as the bytes of a file, and a plan that is made: n, t, p and two bodies, gates and outs.
-use Rattle.std.specs.Prelude.{ℕ, zero, suc, ◌+◌, ◌*◌, ◌/◌, ◌%◌, Bool, cond, ◌&&◌, eqb, ltb, length, get_or}
+use Rattle.std.specs.Prelude.{ℕ, zero, suc, ◌+◌, ◌*◌, ◌/◌, ◌%◌, Bool, cond, ◌&&◌, eqb, leb, ltb, length, get_or}
 use mathlib.Core.List.{List, [], ◌∷◌, ◌++◌, flat_map}
 use Rattle.std.proofs.lemmas.List.Edits.{sets}
 use Rattle.numbers.specs.Tables.{tab}
@@ -93,7 +93,7 @@ content_checks n t p gates outs =
     need refusal.Parties (parties_ok n)
     ∷ need refusal.Threshold (threshold_ok n t)
     ∷ need refusal.Modulus (modulus_ok n p)
-    ∷ need refusal.Layout (between 1 1024 gates && between 1 64 outs)
+    ∷ need refusal.Layout (between 1 1024 gates && leb outs 64)
     ∷ []
 
 -- 8: an out's party, and a wire that there is

@@ -2,7 +2,7 @@
 // plan that is made. A write past the end changes nothing.
 #![tactic(auto)]
 
-ghost use Rattle.std.specs.Prelude.{◌≡◌, ◌&&◌, cond, eqb, [], ◌∷◌, ◌+◌, ◌*◌, ◌<◌, ◌≤◌, suc, length};
+ghost use Rattle.std.specs.Prelude.{◌≡◌, ◌&&◌, cond, eqb, leb, [], ◌∷◌, ◌+◌, ◌*◌, ◌<◌, ◌≤◌, suc, length};
 ghost use Rattle.numbers.specs.Tables.{tab};
 ghost use Rattle.numbers.specs.Bytes.{bytes_from};
 ghost use Rattle.plan.specs.Refusals.{first_of};
@@ -15,7 +15,7 @@ use plan::{Gate, MAGIC, Output, Refusal};
 
 #[tactic(auto, using(crate::proofs::Writing::checking))]
 fn counts_ok(gates: usize, outs: usize) -> bool
-    ensures { result ≡ (between 1 1024 gates && between 1 64 outs) }
+    ensures { result ≡ (between 1 1024 gates && leb outs 64) }
 {
     plan_reading::gates_fit(gates) && plan_reading::outs_fit(outs)
 }

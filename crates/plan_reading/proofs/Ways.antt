@@ -139,19 +139,19 @@ module _ (s : List ℕ) where
         unfolding layout_ok
         layout-gates h = rw (← ez, eq-eqb z 0 hz, ← ea, ← ed, eq-eqb a d ha, ← eg, ← et, h)
 
-        pub layout-further : t ≡ true → (r : Bool) → r ≡ (eqb (field_at s 3) (out_place s 0) && (between 1 64 (field_at s 4) && points_placed s)) → r ≡ layout_ok s
+        pub layout-further : t ≡ true → (r : Bool) → r ≡ (eqb (field_at s 3) (out_place s 0) && (leb (field_at s 4) 64 && points_placed s)) → r ≡ layout_ok s
         unfolding layout_ok
         layout-further h r e = rw (← ez, eq-eqb z 0 hz, ← ea, ← ed, eq-eqb a d ha, ← eg, ← et, h) e
 
 module _ (s : List ℕ) (at : ℕ) (ea : at ≡ out_place s 0) (b : ℕ) (eb : b ≡ field_at s 3) where
-  pub outs-displaced : (b ≡ at → ⊥) → false ≡ (eqb (field_at s 3) (out_place s 0) && (between 1 64 (field_at s 4) && points_placed s))
+  pub outs-displaced : (b ≡ at → ⊥) → false ≡ (eqb (field_at s 3) (out_place s 0) && (leb (field_at s 4) 64 && points_placed s))
   outs-displaced h = rw (← eb, ← ea, ne_eqb b at h)
 
-  module _ (hb : b ≡ at) (o : ℕ) (eo : o ≡ field_at s 4) (u : Bool) (eu : u ≡ between 1 64 o) where
-    pub outs-many : u ≡ false → false ≡ (eqb (field_at s 3) (out_place s 0) && (between 1 64 (field_at s 4) && points_placed s))
+  module _ (hb : b ≡ at) (o : ℕ) (eo : o ≡ field_at s 4) (u : Bool) (eu : u ≡ leb o 64) where
+    pub outs-many : u ≡ false → false ≡ (eqb (field_at s 3) (out_place s 0) && (leb (field_at s 4) 64 && points_placed s))
     outs-many h = rw (← eb, ← ea, eq-eqb b at hb, ← eo, ← eu, h)
 
-    pub outs-further : u ≡ true → (r : Bool) → r ≡ points_placed s → r ≡ (eqb (field_at s 3) (out_place s 0) && (between 1 64 (field_at s 4) && points_placed s))
+    pub outs-further : u ≡ true → (r : Bool) → r ≡ points_placed s → r ≡ (eqb (field_at s 3) (out_place s 0) && (leb (field_at s 4) 64 && points_placed s))
     outs-further h r e = rw (← eb, ← ea, eq-eqb b at hb, ← eo, ← eu, h) e
 
 -- the points' offset where there are points, and the end

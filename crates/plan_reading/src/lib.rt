@@ -4,7 +4,7 @@
 ghost use Rattle.std.specs.Prelude.{ℕ, option_map, Bool, Ok, Err, IfOk, IfErr, ◌≡◌, true, ◌&&◌, not, ◌<◌, eqb, ltb, leb, length, take, drop};
 ghost use Rattle.numbers.specs.Tables.{first_failing};
 ghost use Rattle.plan.specs.Refusals.{first_of};
-ghost use Rattle.plan.specs.Plans.{multiplying};
+ghost use Rattle.plan.specs.Plans.{is_kind, multiplying};
 ghost use Rattle.plan.specs.File.{magic, same_bytes, between, parties_ok, threshold_ok, field_above, gate_ok, out_ok, n_at, p_at, gate_count_at, out_count_at, field_at, out_place, point_place, gate_kept, out_kept, majority_kept, point_apart, point_kept, points_placed, layout_ok, majority_check, points_check, plan_checks, plan_check};
 ghost use Rattle.plan.specs.Planned.{HeaderOf, Planned};
 
@@ -47,7 +47,18 @@ fn first_failing<F: Fn(usize) -> bool>(n: usize, ok: F) -> Option<usize>
     None
 }
 
-// The first gate that breaks its kind's rule.
+// How many gates of a plan may spend a triple.
+const SPEND_LIMIT: usize = 341;
+
+// Whether a gate spends one.
+#[tactic(auto, unfolding(plan::specs::Plans::is_kind, plan::specs::Plans::kind_of))]
+fn spends(gate: Gate) -> bool
+    ensures { result ≡ is_kind 7 gate }
+{
+    matches!(gate, Gate::Spend(_, _))
+}
+
+// The first gate that breaks its kind's rule, or is one too many of those that spend a triple.
 #[tactic(auto, using(crate::proofs::Reading::gates))]
 fn first_bad_gate(plan: &[u8]) -> Option<usize>
     requires { layout_ok plan.now ≡ true }
@@ -56,7 +67,15 @@ fn first_bad_gate(plan: &[u8]) -> Option<usize>
     let n = plan::byte(plan, 5);
     let p = plan::field(plan, 0) as u64;
     let gates = Gates::new(plan);
-    first_failing(gates.count, |g| gate_ok(n, p, g, gates.gate(g)))
+    let mut spent = 0;
+    for g in 0..gates.count {
+        let gate = gates.gate(g);
+        spent += usize::from(spends(gate));
+        if !gate_ok(n, p, g, gate) || SPEND_LIMIT < spent {
+            return Some(g);
+        }
+    }
+    None
 }
 
 // The first out that names no party or no wire of the plan.
@@ -153,7 +172,7 @@ fn seek_point(plan: &[u8], n: usize, p: u64) -> Option<usize>
 
 // ---- refusals 3 to 6, by n, t, p and how many gates and outs there are
 
-// As it is: `parties_ok`, `gates_fit` and `outs_fit` are the same method of three ranges, and nothing else; each is named by its rule.
+// As it is: `parties_ok` and `gates_fit` are the same method of two ranges, and nothing else; each is named by its rule.
 #[tactic(auto, using(plan::proofs::Ranges::contains_is))]
 pub fn parties_ok(n: usize) -> bool
     ensures { result ≡ parties_ok n }
@@ -174,11 +193,10 @@ pub fn gates_fit(gates: usize) -> bool
     (1..=1024).contains(&gates)
 }
 
-#[tactic(auto, using(plan::proofs::Ranges::contains_is))]
 pub fn outs_fit(outs: usize) -> bool
-    ensures { result ≡ between 1 64 outs }
+    ensures { result ≡ leb outs 64 }
 {
-    (1..=64).contains(&outs)
+    outs <= 64
 }
 
 // The field of a prime above n and below 2^31.
@@ -216,7 +234,7 @@ fn layout_ok(plan: &[u8]) -> bool
 // Whether the outs follow the gates, and the points the outs.
 #[tactic(auto, using(crate::proofs::Ways::laying))]
 fn outs_placed(plan: &[u8]) -> bool
-    ensures { result ≡ (eqb (field_at plan.now 3) (out_place plan.now 0) && (between 1 64 (out_count_at plan.now) && points_placed plan.now)) }
+    ensures { result ≡ (eqb (field_at plan.now 3) (out_place plan.now 0) && (leb (out_count_at plan.now) 64 && points_placed plan.now)) }
 {
     plan::field(plan, 3) == plan::out_place(plan, 0)
         && outs_fit(plan::field(plan, 4))

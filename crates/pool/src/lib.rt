@@ -5,15 +5,16 @@ ghost use Rattle.std.specs.Prelude.{◌≡◌, ◌*◌, ◌<◌, length};
 ghost use Rattle.plan.specs.Refusals.{code_of};
 ghost use Rattle.plan.specs.File.{plan_check, plan_of};
 ghost use Rattle.plan.specs.Plans.{sent_count};
-ghost use Rattle.seat_messages.specs.Calls.{call_answer, state_after, out_after};
-ghost use Rattle.run_bench.specs.BenchCalls.{bench_answer, benched_of, view_after};
+ghost use Rattle.seat_messages.specs.Calls.{call_answer, triples_after, state_after, out_after};
+ghost use Rattle.run_bench.specs.BenchCalls.{bench_answer, benched_of, spent_after, view_after};
 ghost use Rattle.match_agreement.specs.MatchCalls.{match_answer, matched_after};
+ghost use Rattle.match_prepared.specs.PreparedCalls.{prepared_answer, prepared_after};
 ghost use Rattle.import_call.specs.Importing.{import_answer, import_after};
 ghost use Rattle.convert_call.specs.Converting.{convert_answer, convert_after};
 ghost use Rattle.sheet_call.specs.Compiling.{sheet_answer, sheet_after};
 ghost use Rattle.charge_laws.specs.Charges.{bill_of};
 ghost use Rattle.charge_call.specs.ChargeCalls.{charge_answer, charged_of, charge_after};
-ghost use Rattle.record_laws.specs.Records.{record_answer, record_after, bench_read_answer, bench_read_after, plant_read_answer, plant_read_after};
+ghost use Rattle.record_laws.specs.Records.{record_answer, record_spent, record_after, bench_read_answer, bench_read_after, plant_read_answer, plant_read_after};
 ghost use Rattle.count_laws.specs.CountCalls.{count_answer, count_after};
 ghost use Rattle.pool_views.specs.ViewSizes.{views_size};
 ghost use Rattle.pool_sizes.specs.Sizes.{seat_size, call_count, run_size, stored_size};
@@ -28,7 +29,7 @@ pub extern "C" fn pool_plan_check(plan: &[u8]) -> u64
     plan_codes::code(plan_reading::check(plan))
 }
 
-// The bytes of one of a party's lists: 0 its own figures, 1 its own coins, 2 its state, 3 a call's mail, 4 what a call writes.
+// The bytes of one of a party's lists: 0 its own figures, 1 its own coins, 2 its state, 3 a call's mail, 4 what a call writes, 5 its triples.
 #[unsafe(no_mangle)]
 pub extern "C" fn pool_seat_size(plan: &[u8], seat: u16, call: u16, what: u16) -> u64
     ensures { result ≡ seat_size plan.now seat call what }
@@ -44,7 +45,7 @@ pub extern "C" fn pool_calls(plan: &[u8]) -> u64
     pool_sizes::calls(plan)
 }
 
-// One call of a party: refusals 1 to 8, 25, 26 and 9 to 20.
+// One call of a party: refusals 1 to 8, 25, 26, 9 to 13, 29 and 14 to 20.
 // As it is: the C interface hands the figures and the coins over one by one, here and in the calls below.
 #[unsafe(no_mangle)]
 pub extern "C" fn pool_seat_call(
@@ -52,18 +53,29 @@ pub extern "C" fn pool_seat_call(
     seat: u16,
     figures: &[u8],
     coins: &[u8],
+    triples: &mut [u8],
     state: &mut [u8],
     mail: &[u8],
     out: &mut [u8],
 ) -> u64
-    ensures answer { result ≡ code_of (call_answer plan.now seat figures.now coins.now state.old mail.now (length out.old)) }
-    ensures state { state.new ≡ state_after plan.now seat figures.now coins.now state.old mail.now (length out.old) }
-    ensures out { out.new ≡ out_after plan.now seat figures.now coins.now state.old mail.now out.old }
+    ensures answer { result ≡ code_of (call_answer plan.now seat figures.now coins.now triples.old state.old mail.now (length out.old)) }
+    ensures triples { triples.new ≡ triples_after plan.now seat figures.now coins.now triples.old state.old mail.now (length out.old) }
+    ensures state { state.new ≡ state_after plan.now seat figures.now coins.now triples.old state.old mail.now (length out.old) }
+    ensures out { out.new ≡ out_after plan.now seat figures.now coins.now triples.old state.old mail.now out.old }
 {
-    plan_codes::code(seat_call::call(plan, seat as usize, figures, coins, state, mail, out))
+    plan_codes::code(seat_call::call(
+        plan,
+        seat as usize,
+        figures,
+        coins,
+        triples,
+        state,
+        mail,
+        out,
+    ))
 }
 
-// The bytes of one of a run's lists: 0 all figures, 1 all coins, 2 the view of a set.
+// The bytes of one of a run's lists: 0 all figures, 1 all coins, 2 the view of a set, 3 all triples.
 #[unsafe(no_mangle)]
 pub extern "C" fn pool_run_size(plan: &[u8], set: u16, what: u16) -> u64
     ensures { result ≡ run_size plan.now set what }
@@ -71,7 +83,7 @@ pub extern "C" fn pool_run_size(plan: &[u8], set: u16, what: u16) -> u64
     pool_sizes::run_size(plan, set, what)
 }
 
-// All parties in one machine: refusals 1 to 8, 25, 26, 9 to 13 and 19.
+// All parties in one machine: refusals 1 to 8, 25, 26, 9 to 13, 29, 19 and 20.
 // As it is: the C interface hands the set over beside the coins, here, in `pool_match` and in `pool_count`.
 #[unsafe(no_mangle)]
 pub extern "C" fn pool_bench(
@@ -79,15 +91,17 @@ pub extern "C" fn pool_bench(
     set: u16,
     figures: &[u8],
     coins: &[u8],
+    triples: &mut [u8],
     view: &mut [u8],
 ) -> u64
-    ensures answer { result ≡ answer_of (benched_of (bench_answer plan.now set figures.now coins.now (length view.old)) (sent_count (plan_of plan.now))) }
-    ensures view { view.new ≡ view_after plan.now set figures.now coins.now view.old }
+    ensures answer { result ≡ answer_of (benched_of (bench_answer plan.now set figures.now coins.now triples.old (length view.old)) (sent_count (plan_of plan.now))) }
+    ensures triples { triples.new ≡ spent_after plan.now set figures.now coins.now triples.old (length view.old) }
+    ensures view { view.new ≡ view_after plan.now set figures.now coins.now triples.old view.old }
 {
-    pool_answers::sent(run_bench::bench(plan, set, figures, coins, view))
+    pool_answers::sent(run_bench::bench(plan, set, figures, coins, triples, view))
 }
 
-// The matching of coins: refusals 1 to 8, 25, 26, 9 to 13, 19, 21 and 22.
+// The matching of coins: refusals 1 to 8, 25, 26, 9 to 13, 29, 19, 21 and 22.
 #[unsafe(no_mangle)]
 pub extern "C" fn pool_match(
     plan: &[u8],
@@ -101,6 +115,25 @@ pub extern "C" fn pool_match(
     ensures matched { matched.new ≡ matched_after plan.now set first.now second.now coins.now matched.old }
 {
     plan_codes::code(match_call::pair(plan, set, first, second, coins, matched))
+}
+
+// The matching of coins over a preparing run and the run that spends its triples: refusals 1 to 8, 25, 26, 9 to 13, 29, 19, 21 and 22.
+#[unsafe(no_mangle)]
+pub extern "C" fn pool_match_prepared(
+    preparing: &[u8],
+    plan: &[u8],
+    set: u16,
+    first: &[u8],
+    second: &[u8],
+    coins: &[u8],
+    matched: &mut [u8],
+) -> u64
+    ensures answer { result ≡ code_of (prepared_answer preparing.now plan.now set first.now second.now coins.now (length matched.old)) }
+    ensures matched { matched.new ≡ prepared_after preparing.now plan.now set first.now second.now coins.now matched.old }
+{
+    plan_codes::code(match_prepared::match_prepared(
+        preparing, plan, set, first, second, coins, matched,
+    ))
 }
 
 // The bytes of the plan that a circuit's text makes: refusals 23, 24, 3 to 6 and 25.
@@ -164,14 +197,21 @@ pub extern "C" fn pool_record_size(plan: &[u8]) -> u64
     pool_sizes::record_size(plan)
 }
 
-// A run stored: refusals 1 to 8, 25, 26, 10 to 13 and 19.
+// A run stored: refusals 1 to 8, 25, 26, 10 to 13, 29, 19 and 20.
 // As it is: what it shares with `pool_count` is that each hands the C interface's parameters to one call.
 #[unsafe(no_mangle)]
-pub extern "C" fn pool_record(plan: &[u8], figures: &[u8], coins: &[u8], file: &mut [u8]) -> u64
-    ensures answer { result ≡ code_of (record_answer plan.now figures.now coins.now (length file.old)) }
-    ensures file { file.new ≡ record_after plan.now figures.now coins.now file.old }
+pub extern "C" fn pool_record(
+    plan: &[u8],
+    figures: &[u8],
+    coins: &[u8],
+    triples: &mut [u8],
+    file: &mut [u8],
+) -> u64
+    ensures answer { result ≡ code_of (record_answer plan.now figures.now coins.now triples.old (length file.old)) }
+    ensures triples { triples.new ≡ record_spent plan.now figures.now coins.now triples.old (length file.old) }
+    ensures file { file.new ≡ record_after plan.now figures.now coins.now triples.old file.old }
 {
-    plan_codes::code(record_write::record(plan, figures, coins, file))
+    plan_codes::code(record_write::record(plan, figures, coins, triples, file))
 }
 
 // All bodies of a record, as the bench reads it: refusals 1 to 8, 25, 26, 28 and 19.

@@ -15,7 +15,7 @@ use Rattle.plan.specs.declared.Refusal.{Refusal}
 use Rattle.plan.specs.declared.Refusal.TheVariants as refusal
 use Rattle.plan.specs.Refusals.{Checked}
 use Rattle.plan.specs.Refusals.{first_of, need}
-use Rattle.plan.specs.Plans.{Plan, party_count, last_call, input_count, coin_count, own_input_count, own_coin_count, mail_count, written_count}
+use Rattle.plan.specs.Plans.{Plan, party_count, last_call, input_count, coin_count, own_input_count, own_coin_count, triple_numbers, mail_count, written_count}
 use Rattle.plan.specs.File.{between, plan_checks, plan_check, plan_of}
 use Rattle.plan.specs.Planned.{Planned}
 use Rattle.plan.proofs.Refusals.{and_then_end}
@@ -123,6 +123,10 @@ module _ (plan : Plan) (i call what s : ℕ) where
   unfolding seat_count
   count_4 k e = rw k e
 
+  pub count_5 : what ≡ 5 → s ≡ triple_numbers plan → s ≡ seat_count plan i call what
+  unfolding seat_count
+  count_5 k e = rw k e
+
 module _ (plan : Plan) (set what s : ℕ) where
   pub all_0 : what ≡ 0 → s ≡ input_count plan → s ≡ run_count plan set what
   unfolding run_count
@@ -136,15 +140,22 @@ module _ (plan : Plan) (set what s : ℕ) where
   unfolding run_count
   all_2 k e = rw k e
 
-pub all_other : (plan : Plan) (set what : ℕ) → (what ≡ 0 → ⊥) → (what ≡ 1 → ⊥) → (what ≡ 2 → ⊥) → 0 ≡ run_count plan set what
-unfolding run_count
-all_other plan set what a b c = rw (ne_eqb what 0 a, ne_eqb what 1 b, ne_eqb what 2 c) refl
+  pub all_3 : what ≡ 3 → s ≡ party_count plan * triple_numbers plan → s ≡ run_count plan set what
+  unfolding run_count
+  all_3 k e = rw k e
 
-pub count_other : (plan : Plan) (i call what : ℕ) → (what ≡ 0 → ⊥) → (what ≡ 1 → ⊥) → (what ≡ 2 → ⊥) → (what ≡ 3 → ⊥) → (what ≡ 4 → ⊥) → 0 ≡ seat_count plan i call what
+pub all_other : (plan : Plan) (set what : ℕ) → (what ≡ 0 → ⊥) → (what ≡ 1 → ⊥) → (what ≡ 2 → ⊥) → (what ≡ 3 → ⊥) → 0 ≡ run_count plan set what
+unfolding run_count
+all_other plan set what a b c d = rw (ne_eqb what 0 a, ne_eqb what 1 b, ne_eqb what 2 c, ne_eqb what 3 d) refl
+
+pub count_other :
+    (plan : Plan) (i call what : ℕ) → (what ≡ 0 → ⊥) → (what ≡ 1 → ⊥) → (what ≡ 2 → ⊥) → (what ≡ 3 → ⊥) → (what ≡ 4 → ⊥) → (what ≡ 5 → ⊥)
+    → 0 ≡ seat_count plan i call what
 unfolding seat_count
-count_other plan i call what a b c d e = rw (ne_eqb what 0 a, ne_eqb what 1 b, ne_eqb what 2 c, ne_eqb what 3 d, ne_eqb what 4 e) refl
+count_other plan i call what a b c d e f =
+    rw (ne_eqb what 0 a, ne_eqb what 1 b, ne_eqb what 2 c, ne_eqb what 3 d, ne_eqb what 4 e, ne_eqb what 5 f) refl
 
 pub ruleset sizing = (rules, contains_is, refused_then, seat_sized, run_sized, calls_counted, stored_sized, seat_out, seat_in, set_out, set_in)
 
 -- As it is: answers name this set, since the check leaves their goals open by `using` alone.
-pub ruleset counting = (rules, mail_there, mail_none, written_there, written_none, state_count, count_0, count_1, count_3, count_4, count_other, all_0, all_1, all_2, all_other)
+pub ruleset counting = (rules, mail_there, mail_none, written_there, written_none, state_count, count_0, count_1, count_3, count_4, count_5, count_other, all_0, all_1, all_2, all_3, all_other)

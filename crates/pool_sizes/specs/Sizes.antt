@@ -3,7 +3,7 @@ use Rattle.std.specs.Prelude.{ℕ, suc, ◌+◌, ◌*◌, cond, List, [], ◌∷
 use Rattle.numbers.specs.Bytes.{width}
 use Rattle.plan.specs.declared.Refusal.TheVariants as refusal
 use Rattle.plan.specs.Refusals.{first_of, need}
-use Rattle.plan.specs.Plans.{Plan, party_count, last_call, input_count, coin_count, own_input_count, own_coin_count, mail_count, written_count}
+use Rattle.plan.specs.Plans.{Plan, party_count, last_call, input_count, coin_count, own_input_count, own_coin_count, triple_numbers, mail_count, written_count}
 use Rattle.plan.specs.File.{between, plan_checks, plan_check, plan_of}
 use Rattle.plan_codes.specs.Values.{value_of}
 use Rattle.plan_coalition.specs.Coalitions.{members, set_ok}
@@ -17,26 +17,29 @@ mail_of_call plan i call = cond (leb call (last_call plan)) (mail_count plan i c
 unfoldable pub written_by_call : Plan → ℕ → ℕ → ℕ
 written_by_call plan i call = cond (leb call (last_call plan)) (written_count plan i call) 0
 
--- the numbers of a party's list: 0 its own inputs, 1 its own coins, 2 its state, 3 a call's mail, 4 what a call writes; any other: none
+-- the numbers of a party's list: 0 its own inputs, 1 its own coins, 2 its state, 3 a call's mail, 4 what a call writes, 5 its triples; any
+-- other: none
 unfoldable pub seat_count : Plan → ℕ → ℕ → ℕ → ℕ
 seat_count plan i call what =
     cond (eqb what 0) (own_input_count plan i)
     (cond (eqb what 1) (own_coin_count plan i)
     (cond (eqb what 2) (1 + length plan.gates)
     (cond (eqb what 3) (mail_of_call plan i call)
-    (cond (eqb what 4) (written_by_call plan i call) 0))))
+    (cond (eqb what 4) (written_by_call plan i call)
+    (cond (eqb what 5) (triple_numbers plan) 0)))))
 
 -- in bytes
 unfoldable pub seat_size : List ℕ → ℕ → ℕ → ℕ → ℕ
 seat_size bs i call what =
     value_of (first_of (plan_checks bs ++ (need refusal.Coalition (between 1 (party_count (plan_of bs)) i) ∷ []))) (width * seat_count (plan_of bs) i call what)
 
--- the numbers of a whole run: all inputs, all coins, a coalition's view
+-- the numbers of a whole run: all inputs, all coins, a coalition's view, all triples
 unfoldable pub run_count : Plan → ℕ → ℕ → ℕ
 run_count plan set what =
     cond (eqb what 0) (input_count plan)
     (cond (eqb what 1) (coin_count plan)
-    (cond (eqb what 2) (view_count plan (members set)) 0))
+    (cond (eqb what 2) (view_count plan (members set))
+    (cond (eqb what 3) (party_count plan * triple_numbers plan) 0)))
 
 unfoldable pub run_size : List ℕ → ℕ → ℕ → ℕ
 run_size bs set what =

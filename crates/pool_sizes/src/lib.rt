@@ -27,6 +27,7 @@ fn seat_count(seat: &Seat, call: usize, what: u16) -> usize
         2 => 1 + seat.plan.header.gates,
         3 if is_made => plan_sizes::mail_by(seat, call),
         4 if is_made => plan_sizes::written_by(seat, call),
+        5 => seat.own_triples(),
         _ => 0,
     }
 }
@@ -40,6 +41,7 @@ fn run_count(plan: &PlanFile, set: u16, what: u16) -> usize
         0 => plan_counts::input_count(plan),
         1 => plan_counts::coin_count(plan),
         2 => run_bench::checking::view_count(plan, set),
+        3 => plan_counts::triple_count(plan),
         _ => 0,
     }
 }
@@ -57,7 +59,8 @@ fn seat_bytes(bytes: &[u8], party: u16, call: u16, what: u16) -> Result<usize, R
     Ok(numbers::WIDTH * seat_count(&seat, call as usize, what))
 }
 
-// The bytes of one of a party's lists: 0 its own figures, 1 its own coins, 2 its state, 3 a call's mail, 4 what a call writes.
+// The bytes of one of a party's lists: 0 its own figures, 1 its own coins, 2 its state, 3 a call's mail, 4 what a call writes, 5 its
+// triples.
 #[tactic(auto, using(crate::proofs::Sized::sizing))]
 pub fn seat_size(plan: &[u8], seat: u16, call: u16, what: u16) -> u64
     ensures { result ≡ seat_size plan.now seat call what }
@@ -86,7 +89,7 @@ fn run_bytes(bytes: &[u8], set: u16, what: u16) -> Result<usize, Refusal>
     Ok(numbers::WIDTH * run_count(&plan, set, what))
 }
 
-// The bytes of one of a run's lists: 0 all figures, 1 all coins, 2 the view of a set.
+// The bytes of one of a run's lists: 0 all figures, 1 all coins, 2 the view of a set, 3 all triples.
 #[tactic(auto, using(crate::proofs::Sized::sizing))]
 pub fn run_size(plan: &[u8], set: u16, what: u16) -> u64
     ensures { result ≡ run_size plan.now set what }

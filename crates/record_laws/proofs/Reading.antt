@@ -23,11 +23,11 @@ use Rattle.numbers.proofs.Tables.{tab-snoc, tab-cons, tab-append, length-tab, ge
 use Rattle.numbers.proofs.Searches.{passes-nothing, first_ext}
 use Rattle.numbers.proofs.Bytes.{limit_is, number_same, bytes_number, length-bytes_from, length-bytes_of, bytes_of-nil, bytes_of-append}
 use Rattle.numbers.proofs.Rows.{flat_append, flat-snoc, flat-length, flat-part}
-use Rattle.plan.specs.Plans.{Plan, party_count, parties, coin_count, kind_count}
+use Rattle.plan.specs.Plans.{Plan, party_count, parties, coin_count}
 use Rattle.plan.specs.File.{found_none}
 use Rattle.plan.proofs.Valid.{Valid}
 use Rattle.run_protocol.specs.Rounds.{view_of, view, view_count_of, view_count}
-use Rattle.run_protocol.proofs.Given.{tabled-none}
+use Rattle.run_protocol.specs.Tables.{Tabled}
 use Rattle.run_protocol.proofs.ViewCounts.{view-count}
 use Rattle.record_laws.specs.Records.{body_size, bodies_before, body_start, record_size, content_of, contents_of, record_of, content_kept, record_ok, bodies_of, body_of}
 use Rattle.record_laws.proofs.Sizes.{before-le, size-le}
@@ -201,30 +201,30 @@ unfolding flat_map
 bytes-flat_map f [] = bytes_of-nil
 bytes-flat_map f (i ∷ is) = bytes_of-append (f i) (flat_map f is) ∙ ap (λ (l : List ℕ). bytes_of (f i) ++ l) (bytes-flat_map f is)
 
-module _ (plan : Plan) (valid : Valid plan) (none : kind_count plan 7 ≡ 0) (xs coins : List ℕ) (full : length coins ≡ coin_count plan) where
-  view_long : (i : ℕ) → 1 ≤ i → i ≤ party_count plan → length (bytes_of (view_of plan xs coins [] i)) ≡ body_size plan i
+module _ (plan : Plan) (valid : Valid plan) (xs coins ts : List ℕ) (tf : List (ℕ → ℕ)) (full : length coins ≡ coin_count plan) (tabled : Tabled plan ts tf) where
+  view_long : (i : ℕ) → 1 ≤ i → i ≤ party_count plan → length (bytes_of (view_of plan xs coins ts i)) ≡ body_size plan i
   unfolding body_size view flat_map view_count total
   view_long i l m =
-      let one : length (view_of plan xs coins [] i ++ []) ≡ view_count_of plan i + 0 =
-      view-count plan valid xs coins [] [] full (tabled-none plan [] none) (i ∷ []) ((l, m), tt) in
-      omega (arith, length-bytes_of (view_of plan xs coins [] i), one, length-append (view_of plan xs coins [] i) [])
+      let one : length (view_of plan xs coins ts i ++ []) ≡ view_count_of plan i + 0 =
+      view-count plan valid xs coins ts tf full tabled (i ∷ []) ((l, m), tt) in
+      omega (arith, length-bytes_of (view_of plan xs coins ts i), one, length-append (view_of plan xs coins ts i) [])
 
-  record_is : record_of plan xs coins ≡ contents_of plan ++ flat_map (λ i. bytes_of (view_of plan xs coins [] i)) (parties plan)
+  record_is : record_of plan xs coins ts ≡ contents_of plan ++ flat_map (λ i. bytes_of (view_of plan xs coins ts i)) (parties plan)
   unfolding record_of view
-  record_is = ap (λ (l : List ℕ). contents_of plan ++ l) (bytes-flat_map (view_of plan xs coins []) (parties plan))
+  record_is = ap (λ (l : List ℕ). contents_of plan ++ l) (bytes-flat_map (view_of plan xs coins ts) (parties plan))
 
-  views-long : length (flat_map (λ i. bytes_of (view_of plan xs coins [] i)) (parties plan)) ≡ bodies_before plan (party_count plan)
-  views-long = all_long plan (λ i. bytes_of (view_of plan xs coins [] i)) view_long
+  views-long : length (flat_map (λ i. bytes_of (view_of plan xs coins ts i)) (parties plan)) ≡ bodies_before plan (party_count plan)
+  views-long = all_long plan (λ i. bytes_of (view_of plan xs coins ts i)) view_long
 
-  pub run-size : length (record_of plan xs coins) ≡ record_size plan
+  pub run-size : length (record_of plan xs coins ts) ≡ record_size plan
   run-size = ap length record_is ∙ made-size plan _ views-long
 
-  pub run_ok : record_size plan < limit → record_ok plan (record_of plan xs coins) ≡ true
+  pub run_ok : record_size plan < limit → record_ok plan (record_of plan xs coins ts) ≡ true
   run_ok small = ap (record_ok plan) record_is ∙ made_ok_lem plan _ views-long small
 
-  pub run-body : (i : ℕ) → 1 ≤ i → i ≤ party_count plan → body_of plan (record_of plan xs coins) i ≡ bytes_of (view_of plan xs coins [] i)
-  run-body i l m = ap (λ (r : List ℕ). body_of plan r i) record_is ∙ made-body plan (λ i. bytes_of (view_of plan xs coins [] i)) view_long i l m
+  pub run-body : (i : ℕ) → 1 ≤ i → i ≤ party_count plan → body_of plan (record_of plan xs coins ts) i ≡ bytes_of (view_of plan xs coins ts i)
+  run-body i l m = ap (λ (r : List ℕ). body_of plan r i) record_is ∙ made-body plan (λ i. bytes_of (view_of plan xs coins ts i)) view_long i l m
 
-  pub run-bodies : bodies_of plan (record_of plan xs coins) ≡ bytes_of (view plan (parties plan) xs coins [])
+  pub run-bodies : bodies_of plan (record_of plan xs coins ts) ≡ bytes_of (view plan (parties plan) xs coins ts)
   unfolding record_of bodies_of
-  run-bodies = drop_at (contents_of plan) (bytes_of (view plan (parties plan) xs coins [])) (8 * party_count plan) (contents_long plan)
+  run-bodies = drop_at (contents_of plan) (bytes_of (view plan (parties plan) xs coins ts)) (8 * party_count plan) (contents_long plan)

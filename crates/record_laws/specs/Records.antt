@@ -1,6 +1,6 @@
 -- The run record: contents first, an offset from the file's start and a length in bytes for each party; then each party's inputs, coins,
 -- mail and results, which are its view of the run. All numbers have four bytes.
-use Rattle.std.specs.Prelude.{ℕ, zero, suc, ◌+◌, ◌-◌, ◌*◌, Bool, ◌&&◌, eqb, length, take, drop}
+use Rattle.std.specs.Prelude.{ℕ, zero, suc, ◌+◌, ◌-◌, ◌*◌, Bool, ◌&&◌, eqb, length, take, drop, replicate}
 use mathlib.Core.List.{List, [], ◌∷◌, ◌++◌, flat_map}
 use Rattle.numbers.specs.Tables.{tab, first_failing}
 use Rattle.numbers.specs.Bytes.{width, number_at, bytes_from, numbers, bytes_of}
@@ -10,8 +10,8 @@ use Rattle.plan.specs.Refusals.{first_of, need}
 use Rattle.plan.specs.Plans.{Plan, party_count, parties}
 use Rattle.plan.specs.File.{between, found_none, plan_checks, plan_of}
 use Rattle.seat_messages.specs.Calls.{unless_refused}
-use Rattle.run_protocol.specs.Rounds.{view, view_count_of, view_count}
-use Rattle.run_bench.specs.Checks.{given_checks}
+use Rattle.run_protocol.specs.Rounds.{at_end, view, view_count_of, view_count}
+use Rattle.run_bench.specs.BenchCalls.{broken_check, given_checks}
 
 -- ---- where the bodies stand
 -- party i's body in bytes
@@ -38,20 +38,28 @@ content_of plan k = bytes_from 4 (body_start plan k) ++ bytes_from 4 (body_size 
 unfoldable pub contents_of : Plan → List ℕ
 contents_of plan = flat_map (content_of plan) (tab (λ k. k) (party_count plan))
 
-unfoldable pub record_of : Plan → List ℕ → List ℕ → List ℕ
-record_of plan xs coins = contents_of plan ++ bytes_of (view plan (parties plan) xs coins [])
+unfoldable pub record_of : Plan → List ℕ → List ℕ → List ℕ → List ℕ
+record_of plan xs coins triples = contents_of plan ++ bytes_of (view plan (parties plan) xs coins triples)
 
--- refusals of the plan, 10 to 13 and 19
-unfoldable pub record_checks : List ℕ → List ℕ → List ℕ → ℕ → List Checked
-record_checks bs xs coins room =
-    plan_checks bs ++ (given_checks (plan_of bs) xs coins ++ (need refusal.BufferLength (eqb room (record_size (plan_of bs))) ∷ []))
+-- refusals of the plan, 10 to 13, 29, 19 and 20
+unfoldable pub record_checks : List ℕ → List ℕ → List ℕ → List ℕ → ℕ → List Checked
+record_checks bs xs coins triples room =
+    plan_checks bs
+    ++ (given_checks (plan_of bs) xs coins triples
+    ++ (need refusal.BufferLength (eqb room (record_size (plan_of bs)))
+    ∷ broken_check (plan_of bs) (at_end (plan_of bs) (numbers xs) (numbers coins) (numbers triples))
+    ∷ []))
 
-unfoldable pub record_answer : List ℕ → List ℕ → List ℕ → ℕ → Checked
-record_answer bs xs coins room = first_of (record_checks bs xs coins room)
+unfoldable pub record_answer : List ℕ → List ℕ → List ℕ → List ℕ → ℕ → Checked
+record_answer bs xs coins triples room = first_of (record_checks bs xs coins triples room)
 
--- the lent buffer afterwards
-unfoldable pub record_after : List ℕ → List ℕ → List ℕ → List ℕ → List ℕ
-record_after bs xs coins out = unless_refused (record_answer bs xs coins (length out)) (record_of (plan_of bs) (numbers xs) (numbers coins)) out
+-- the lent buffer and the lent triples afterwards
+unfoldable pub record_after : List ℕ → List ℕ → List ℕ → List ℕ → List ℕ → List ℕ
+record_after bs xs coins triples out =
+    unless_refused (record_answer bs xs coins triples (length out)) (record_of (plan_of bs) (numbers xs) (numbers coins) (numbers triples)) out
+
+unfoldable pub record_spent : List ℕ → List ℕ → List ℕ → List ℕ → ℕ → List ℕ
+record_spent bs xs coins triples room = unless_refused (record_answer bs xs coins triples room) (replicate (length triples) 0) triples
 
 -- ---- refusal 28: the contents tile the file, parties ascending, and each body has the length that the plan gives
 unfoldable pub content_kept : Plan → List ℕ → ℕ → Bool

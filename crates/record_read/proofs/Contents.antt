@@ -11,14 +11,12 @@ use native.Mathlib.Omega.{arith}
 use borrow.Author.Rules.{rules}
 use borrow.Author.Tests.{not-true, not-false, eq-eqb, ne_eqb}
 use lib.Dec.{eqb}
-use lib.ListN.{length, get_or, take, drop, set, length-set, length-drop}
-use lib.Seq.{take-suc, take-suc-set, take_all, get_or-drop}
+use lib.ListN.{length, get_or}
 use Rattle.numbers.specs.Tables.{first_failing}
 use Rattle.numbers.specs.Bytes.{width, number_at, numbers}
 use Rattle.numbers.proofs.Bytes.{get_or-numbers}
 use Rattle.numbers.proofs.Searches.{Seeking, begin, found, passed, nothing}
 use Rattle.plan.specs.declared.Header.{Header}
-use Rattle.plan.specs.declared.Refusal.{Refusal}
 use Rattle.plan.specs.declared.Refusal.TheVariants as refusal
 use Rattle.plan.specs.Refusals.{need}
 use Rattle.plan.specs.Plans.{Plan, party_count}

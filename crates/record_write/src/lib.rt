@@ -5,8 +5,11 @@
 ghost use Rattle.std.specs.Prelude.{◌≡◌, ◌+◌, ◌-◌, ◌*◌, ◌^◌, ◌≤◌, length, take};
 ghost use Rattle.numbers.specs.Bytes.{numbers, stored};
 ghost use Rattle.plan.specs.File.{plan_of};
+ghost use Rattle.seat_messages.specs.Calls.{unless_refused};
+ghost use Rattle.run_protocol.specs.Rounds.{at_end};
 ghost use Rattle.run_dealings.specs.Rows.{Given};
-ghost use Rattle.record_laws.specs.Records.{body_size, record_size, contents_of, record_of, record_answer, record_after};
+ghost use Rattle.run_bench.specs.BenchCalls.{broken_check};
+ghost use Rattle.record_laws.specs.Records.{body_size, record_size, contents_of, record_of, record_answer, record_after, record_spent};
 
 use plan::{PlanFile, Refusal};
 
@@ -60,42 +63,65 @@ fn put_contents(plan: &PlanFile, out: &mut [u8])
     }
 }
 
-// The record of a run that no refusal falls on: the contents, then the view of all parties.
+// The record of a run whose lists pass: the view of all parties, and the contents before it; or refusal 20.
 #[tactic(auto, using(crate::proofs::Recording::writing))]
-fn write_record(plan: &PlanFile, inputs: &[u8], coins: &[u8], out: &mut [u8])
-    requires given { Given (plan_of plan.now.bytes.now) inputs.now coins.now }
+fn write_record(
+    plan: &PlanFile,
+    inputs: &[u8],
+    coins: &[u8],
+    triples: &[u8],
+    out: &mut [u8],
+) -> Result<(), Refusal>
+    requires given { Given (plan_of plan.now.bytes.now) inputs.now coins.now triples.now }
     requires out_len { length out.old ≡ record_size (plan_of plan.now.bytes.now) }
-    ensures { out.new ≡ record_of (plan_of plan.now.bytes.now) (numbers inputs.now) (numbers coins.now) }
+    ensures answer { result ≡ broken_check (plan_of plan.now.bytes.now) (at_end (plan_of plan.now.bytes.now) (numbers inputs.now) (numbers coins.now) (numbers triples.now)) }
+    ensures out_after { out.new ≡ unless_refused (broken_check (plan_of plan.now.bytes.now) (at_end (plan_of plan.now.bytes.now) (numbers inputs.now) (numbers coins.now) (numbers triples.now))) (record_of (plan_of plan.now.bytes.now) (numbers inputs.now) (numbers coins.now) (numbers triples.now)) out.old }
 {
-    put_contents(plan, out);
     let set = everyone(plan.header.n);
     let bodies = 8 * plan.header.n;
-    run_bench::write_run(plan, set, inputs, coins, &mut out[bodies..]);
-}
-
-// The record of a plan that passes.
-// As it is: inputs, coins and out are the call's own. A struct of them would be no plainer: nothing is known of them before the checks, and what is known
-// after them is asked by write_record alone.
-#[tactic(auto, using(crate::proofs::Recording::recording))]
-fn record_on(plan: &PlanFile, inputs: &[u8], coins: &[u8], out: &mut [u8]) -> Result<(), Refusal>
-    ensures answer { result ≡ record_answer plan.now.bytes.now inputs.now coins.now (length out.old) }
-    ensures out { out.new ≡ record_after plan.now.bytes.now inputs.now coins.now out.old }
-{
-    run_bench::checking::check_given(plan, inputs, coins)?;
-    if out.len() != record_size(plan) {
-        return Err(Refusal::BufferLength);
-    }
-    write_record(plan, inputs, coins, out);
+    run_bench::write_run(plan, set, inputs, coins, triples, &mut out[bodies..])?;
+    put_contents(plan, &mut out[..bodies]);
     Ok(())
 }
 
-// Runs a plan on all inputs and coins and writes the record of the run; or answers the first of the plan's refusals, 10 to 13 and 19 that falls
-// on it, and writes nothing.
+// The record of a plan that passes.
+// As it is: the lists and out are the call's own. A struct of them would be no plainer: nothing is known of them before the checks, and what is known
+// after them is asked by write_record alone.
 #[tactic(auto, using(crate::proofs::Recording::recording))]
-pub fn record(bytes: &[u8], inputs: &[u8], coins: &[u8], out: &mut [u8]) -> Result<(), Refusal>
-    ensures answer { result ≡ record_answer bytes.now inputs.now coins.now (length out.old) }
-    ensures out { out.new ≡ record_after bytes.now inputs.now coins.now out.old }
+fn record_on(
+    plan: &PlanFile,
+    inputs: &[u8],
+    coins: &[u8],
+    triples: &mut [u8],
+    out: &mut [u8],
+) -> Result<(), Refusal>
+    ensures answer { result ≡ record_answer plan.now.bytes.now inputs.now coins.now triples.old (length out.old) }
+    ensures triples { triples.new ≡ record_spent plan.now.bytes.now inputs.now coins.now triples.old (length out.old) }
+    ensures out { out.new ≡ record_after plan.now.bytes.now inputs.now coins.now triples.old out.old }
+{
+    run_bench::checking::check_given(plan, inputs, coins, triples)?;
+    if out.len() != record_size(plan) {
+        return Err(Refusal::BufferLength);
+    }
+    write_record(plan, inputs, coins, triples, out)?;
+    triples.fill(0);
+    Ok(())
+}
+
+// Runs a plan on all inputs, coins and triples, writes the record of the run, and makes the triples zeros; or answers the first of the plan's refusals,
+// 10 to 13, 29, 19 and 20 that falls on it, and writes nothing.
+#[tactic(auto, using(crate::proofs::Recording::recording))]
+pub fn record(
+    bytes: &[u8],
+    inputs: &[u8],
+    coins: &[u8],
+    triples: &mut [u8],
+    out: &mut [u8],
+) -> Result<(), Refusal>
+    ensures answer { result ≡ record_answer bytes.now inputs.now coins.now triples.old (length out.old) }
+    ensures triples { triples.new ≡ record_spent bytes.now inputs.now coins.now triples.old (length out.old) }
+    ensures out { out.new ≡ record_after bytes.now inputs.now coins.now triples.old out.old }
 {
     let plan = plan_reading::read(bytes)?;
-    record_on(&plan, inputs, coins, out)
+    record_on(&plan, inputs, coins, triples, out)
 }

@@ -1,2 +1,3 @@
 pub mod BenchLaws
 pub mod RunCheckLaws
+pub mod OutLaws

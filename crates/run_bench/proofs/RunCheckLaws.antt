@@ -7,7 +7,7 @@ use Rattle.std.proofs.Common.{Ok, Err}
 use mathlib.Core.Path.{◌≡◌, sym, ap, ap₂, ◌∙◌}
 use mathlib.Core.Logic.{⊎_elim}
 use mathlib.Core.Bool.{Bool, true, false, cond}
-use mathlib.Core.List.{List, [], ◌∷◌}
+use mathlib.Core.List.{List, [], ◌∷◌, ◌++◌}
 use Prim.Native.Nat.{ℕ, suc, ◌+◌, ◌-◌, ◌*◌, ◌<◌, ◌≤◌}
 use native.Mathlib.Numerals.{add-one}
 use native.Mathlib.Nat.{mul-zero, zero-mul, mul-le-mul}
@@ -26,23 +26,23 @@ use Rattle.plan.specs.declared.Refusal.TheVariants as refusal
 use Rattle.plan.specs.Refusals.{and_then, first_of, need}
 use Rattle.plan.specs.declared.Rule.{Rule}
 use Rattle.plan.specs.declared.Rule.TheVariants.{Reduction, Truncation}
-use Rattle.plan.specs.Plans.{Plan, party_count, dealer_count, is_kind, kind_count, input_owners, coin_owners, input_count, own_input_count, coin_count, own_coin_count, own_out_count, per_multiply}
+use Rattle.plan.specs.Plans.{Plan, party_count, dealer_count, is_kind, kind_count, input_owners, coin_owners, input_count, own_input_count, coin_count, own_coin_count, own_out_count, triple_numbers, per_multiply}
 use Rattle.plan.specs.Kinds.{own_multiply_coins, own_draws, own_random_coins}
 use Rattle.plan.specs.File.{between, plan_of}
 use Rattle.plan.specs.Planned.{Planned}
 use Rattle.plan_coalition.specs.Coalitions.{in_set, members_from, members, set_fits, set_ok}
 use Rattle.plan.proofs.Refusals.{and_then_passed, and_then_refused, and_then_end, first_of-append, need-true, need-false}
 use Rattle.plan.proofs.Planned.{plan_p, plan_n, plan_t}
-use Rattle.plan.proofs.Valid.{plain, plain_no_7, planned_or}
+use Rattle.plan.proofs.Valid.{planned_or}
 use Rattle.plan.proofs.KindCounts.{own-inputs-of, own-coins-of}
 use Rattle.plan_counts.specs.declared.Tally.{Tally}
 use Rattle.plan_counts.specs.Counts.{Tallied}
 use Rattle.plan_coalition.proofs.Coalitions.{set_ok_lem}
-use Rattle.seat_admission.specs.Parts.{list_checks}
-use Rattle.run_bench.specs.Checks.{given_checks}
+use Rattle.seat_admission.specs.Parts.{list_checks, triple_checks}
+use Rattle.run_bench.specs.Checks.{lent_checks}
 use Rattle.run_protocol.specs.Rounds.{view_count_of, view_count}
 use Rattle.run_protocol.proofs.ViewCounts.{view-count-by}
-use Rattle.run_bench.specs.BenchCalls.{run_checks}
+use Rattle.run_bench.specs.BenchCalls.{given_checks}
 
 -- ---- how long a party's view is
 -- what a multiply gate has of a party's view, at most, where 2t is below n
@@ -108,10 +108,6 @@ module _ (bs : List ℕ) (h : Header) (pl : Planned bs h) where
               times c.multiplies (per_multiply plan plan.rule) 45 mail-least,
             )
 
-    spent : c.spends ≡ 0
-    unfolding kind_count
-    spent = t.spends ∙ plain_no_7 plan (plain bs pl.passes)
-
     module _ (m k x : ℕ) (em : m ≡ mail) (ek : k ≡ own_coin_count plan i) (ex : x ≡ own_input_count plan i) where
       coins-by : k ≡ plan.t * c.own + own_multiply_coins plan plan.rule i * c.multiplies + own_random_coins plan i * c.randoms
       unfolding own_coin_count coin_owners
@@ -125,9 +121,9 @@ module _ (bs : List ℕ) (h : Header) (pl : Planned bs h) where
           ex ∙ own-inputs-of plan i plan.gates
           ∙ sym (rw (t.own, t.randoms) (omega (arith, zero-mul (count_where (is_kind 7) plan.gates), zero-mul (count_where (is_kind 5) plan.gates))))
 
-      mail-by : m ≡ c.inputs + c.multiplies * per_multiply plan plan.rule + c.randoms * party_count plan
+      mail-by : m ≡ c.inputs + c.multiplies * per_multiply plan plan.rule + c.randoms * party_count plan + c.spends * (2 * party_count plan)
       unfolding kind_count
-      mail-by = em ∙ sym (rw (t.inputs, t.multiplies, t.randoms) (omega (arith, ap (λ (s : ℕ). s * (2 * party_count plan)) (sym t.spends ∙ spent), zero-mul (2 * party_count plan))))
+      mail-by = em ∙ sym (rw (t.inputs, t.multiplies, t.randoms, t.spends) (omega arith))
 
       gates-few : m + k + x ≤ 67584
       unfolding own_draws own_random_coins
@@ -144,6 +140,7 @@ module _ (bs : List ℕ) (h : Header) (pl : Planned bs h) where
             t.own_few,
             by_times plan.t c.own 14 least,
             times c.randoms (party_count plan) 15 high,
+            times c.spends (2 * party_count plan) 30 (omega (arith, high)),
             by_times (cond (between 1 (party_count plan) i) plan.t 0) c.randoms 14 (if_few (between 1 (party_count plan) i) plan.t 14 least),
             by_times (cond (between 1 (party_count plan) i) 1 0) c.randoms 1 (if_few (between 1 (party_count plan) i) 1 1 (omega arith)),
           )
@@ -230,68 +227,87 @@ module _ (plan : Plan) (set k i : ℕ) (s : Sizing plan set k i) where
 pub ruleset sizing_all = (rules, size_none, size_next, size_done, size_most)
 
 -- ---- what a run is given
-module _ (bs : List ℕ) (h : Header) (pl : Planned bs h) (inputs coins : List ℕ) where
+module _ (bs : List ℕ) (h : Header) (pl : Planned bs h) (inputs coins triples : List ℕ) where
   inputs_of : ℕ → ℕ → Checked
   inputs_of p n = first_of (list_checks refusal.InputCount refusal.InputValue p n inputs)
 
   coins_of_lem : ℕ → ℕ → Checked
   coins_of_lem p n = first_of (list_checks refusal.CoinCount refusal.CoinValue p n coins)
 
+  triples_by : ℕ → ℕ → Checked
+  triples_by p n = first_of (triple_checks p n triples)
+
+  pub all-triples-fit : (m : ℕ) → m ≤ 3072 → Fits w64 (h.n * m)
+  all-triples-fit m l = record { fits = omega (arith, mul-le-mul {n₁ = h.n} {m₁ = m} {n₂ = 15} {m₂ = 3072} pl.n-high l) }
+
   module _ (k : ℕ) (ek : k ≡ input_count (plan_of bs)) (c : Checked) (ec : c ≡ first_of (list_checks refusal.InputCount refusal.InputValue h.field.p k inputs)) where
-    given-parts : first_of (given_checks (plan_of bs) inputs coins) ≡ and_then c (first_of (list_checks refusal.CoinCount refusal.CoinValue h.field.p (coin_count (plan_of bs)) coins))
-    unfolding given_checks inputs_of coins_of_lem
+    abbrev triples_end : Checked
+    triples_end = triples_by h.field.p (party_count (plan_of bs) * triple_numbers (plan_of bs))
+
+    given-parts : first_of (given_checks (plan_of bs) inputs coins triples) ≡ and_then c (and_then (coins_of_lem h.field.p (coin_count (plan_of bs))) triples_end)
+    unfolding given_checks inputs_of coins_of_lem triples_by list_checks triple_checks
     given-parts =
         first_of-append (list_checks refusal.InputCount refusal.InputValue (plan_of bs).p (input_count (plan_of bs)) inputs)
-        (list_checks refusal.CoinCount refusal.CoinValue (plan_of bs).p (coin_count (plan_of bs)) coins)
-        ∙ ap (λ (p : ℕ). and_then (inputs_of p (input_count (plan_of bs))) (coins_of_lem p (coin_count (plan_of bs)))) (plan_p pl)
-        ∙ ap (λ (n : ℕ). and_then (inputs_of h.field.p n) (coins_of_lem h.field.p (coin_count (plan_of bs)))) (sym ek)
-        ∙ ap (λ (d : Checked). and_then d (coins_of_lem h.field.p (coin_count (plan_of bs)))) (sym ec)
+        (list_checks refusal.CoinCount refusal.CoinValue (plan_of bs).p (coin_count (plan_of bs)) coins ++ triple_checks (plan_of bs).p (party_count (plan_of bs) * triple_numbers (plan_of bs)) triples)
+        ∙ ap (and_then (inputs_of (plan_of bs).p (input_count (plan_of bs))))
+        (first_of-append (list_checks refusal.CoinCount refusal.CoinValue (plan_of bs).p (coin_count (plan_of bs)) coins) (triple_checks (plan_of bs).p (party_count (plan_of bs) * triple_numbers (plan_of bs)) triples))
+        ∙ ap (λ (p : ℕ). and_then (inputs_of p (input_count (plan_of bs))) (and_then (coins_of_lem p (coin_count (plan_of bs))) (triples_by p (party_count (plan_of bs) * triple_numbers (plan_of bs))))) (plan_p pl)
+        ∙ ap (λ (n : ℕ). and_then (inputs_of h.field.p n) (and_then (coins_of_lem h.field.p (coin_count (plan_of bs))) triples_end)) (sym ek)
+        ∙ ap (λ (d : Checked). and_then d (and_then (coins_of_lem h.field.p (coin_count (plan_of bs))) triples_end)) (sym ec)
 
-    pub given-inputs : (r : Refusal) → c ≡ Err r → ◌≡◌ {A = Checked} (Err r) (first_of (given_checks (plan_of bs) inputs coins))
+    pub given-inputs : (r : Refusal) → c ≡ Err r → ◌≡◌ {A = Checked} (Err r) (first_of (given_checks (plan_of bs) inputs coins triples))
     given-inputs r e = sym (given-parts ∙ and_then_refused c _ r e)
 
-    pub given-coins :
-        c ≡ (Ok tt) → (d : ℕ) → d ≡ coin_count (plan_of bs) → (r : Checked) → r ≡ first_of (list_checks refusal.CoinCount refusal.CoinValue h.field.p d coins)
-        → r ≡ first_of (given_checks (plan_of bs) inputs coins)
-    unfolding coins_of_lem
-    given-coins e d ed r er = er ∙ sym (given-parts ∙ and_then_passed c _ e ∙ ap (coins_of_lem h.field.p) (sym ed))
+    module _ (e : c ≡ (Ok tt)) (m : ℕ) (em : m ≡ coin_count (plan_of bs)) (d : Checked) (ed : d ≡ first_of (list_checks refusal.CoinCount refusal.CoinValue h.field.p m coins)) where
+      past-inputs : first_of (given_checks (plan_of bs) inputs coins triples) ≡ and_then d triples_end
+      unfolding coins_of_lem
+      past-inputs =
+          given-parts ∙ and_then_passed c _ e ∙ ap (λ (n : ℕ). and_then (coins_of_lem h.field.p n) triples_end) (sym em) ∙ ap (λ (x : Checked). and_then x triples_end) (sym ed)
 
-pub ruleset giving = (rules, given-inputs, given-coins)
+      pub given-coins : (r : Refusal) → d ≡ Err r → ◌≡◌ {A = Checked} (Err r) (first_of (given_checks (plan_of bs) inputs coins triples))
+      given-coins r f = sym (past-inputs ∙ and_then_refused d _ r f)
+
+      pub given-triples : d ≡ (Ok tt) → (n : ℕ) → n ≡ triple_numbers (plan_of bs) → (r : Checked) → r ≡ first_of (triple_checks h.field.p (h.n * n) triples)
+          → r ≡ first_of (given_checks (plan_of bs) inputs coins triples)
+      unfolding triples_by
+      given-triples f n en r er =
+          er ∙ sym (past-inputs ∙ and_then_passed d _ f ∙ ap₂ (λ (x y : ℕ). triples_by h.field.p (x * y)) (plan_n pl) (sym en))
+
+pub ruleset giving = (rules, all-triples-fit, given-inputs, given-coins, given-triples)
 
 -- ---- all checks
-module _ (bs : List ℕ) (h : Header) (pl : Planned bs h) (set : ℕ) (inputs coins : List ℕ) (room : ℕ) (t : Bool) (et : t ≡ set_fits h.n h.t set) where
-  run_parts :
-      first_of (run_checks (plan_of bs) set inputs coins room)
-      ≡ and_then (need refusal.Coalition (set_ok (plan_of bs) set)) (and_then (first_of (given_checks (plan_of bs) inputs coins)) (need refusal.BufferLength (eqb room (width * view_count (plan_of bs) (members set)))))
-  unfolding run_checks first_of given_checks list_checks
-  run_parts =
-      ap (and_then (need refusal.Coalition (set_ok (plan_of bs) set)))
-      (first_of-append (given_checks (plan_of bs) inputs coins) (need refusal.BufferLength (eqb room (width * view_count (plan_of bs) (members set))) ∷ [])
-      ∙ ap (and_then (first_of (given_checks (plan_of bs) inputs coins))) (and_then_end (need refusal.BufferLength (eqb room (width * view_count (plan_of bs) (members set))))))
+pub lent_parts : (bs : List ℕ) (set : ℕ) (inputs coins triples : List ℕ) (room : ℕ) → first_of (lent_checks (plan_of bs) set inputs coins triples room)
+    ≡ and_then (need refusal.Coalition (set_ok (plan_of bs) set)) (and_then (first_of (given_checks (plan_of bs) inputs coins triples)) (need refusal.BufferLength (eqb room (width * view_count (plan_of bs) (members set)))))
+unfolding lent_checks first_of
+lent_parts bs set inputs coins triples room =
+    ap (and_then (need refusal.Coalition (set_ok (plan_of bs) set)))
+    (first_of-append (given_checks (plan_of bs) inputs coins triples) (need refusal.BufferLength (eqb room (width * view_count (plan_of bs) (members set))) ∷ [])
+    ∙ ap (and_then (first_of (given_checks (plan_of bs) inputs coins triples))) (and_then_end (need refusal.BufferLength (eqb room (width * view_count (plan_of bs) (members set))))))
 
+module _ (bs : List ℕ) (h : Header) (pl : Planned bs h) (set : ℕ) (inputs coins triples : List ℕ) (room : ℕ) (t : Bool) (et : t ≡ set_fits h.n h.t set) where
   set_is : t ≡ set_ok (plan_of bs) set
   set_is = et ∙ set_ok_lem bs h set pl
 
-  pub run-set : t ≡ false → Err refusal.Coalition ≡ first_of (run_checks (plan_of bs) set inputs coins room)
-  run-set e = sym (run_parts ∙ and_then_refused (need refusal.Coalition (set_ok (plan_of bs) set)) _ refusal.Coalition (need-false refusal.Coalition (set_ok (plan_of bs) set) (sym set_is ∙ e)))
+  pub run-set : t ≡ false → Err refusal.Coalition ≡ first_of (lent_checks (plan_of bs) set inputs coins triples room)
+  run-set e = sym (lent_parts bs set inputs coins triples room ∙ and_then_refused (need refusal.Coalition (set_ok (plan_of bs) set)) _ refusal.Coalition (need-false refusal.Coalition (set_ok (plan_of bs) set) (sym set_is ∙ e)))
 
-  module _ (y : t ≡ true) (c : Checked) (ec : c ≡ first_of (given_checks (plan_of bs) inputs coins)) where
-    past-set : first_of (run_checks (plan_of bs) set inputs coins room) ≡ and_then c (need refusal.BufferLength (eqb room (width * view_count (plan_of bs) (members set))))
+  module _ (y : t ≡ true) (c : Checked) (ec : c ≡ first_of (given_checks (plan_of bs) inputs coins triples)) where
+    past-set : first_of (lent_checks (plan_of bs) set inputs coins triples room) ≡ and_then c (need refusal.BufferLength (eqb room (width * view_count (plan_of bs) (members set))))
     past-set =
-        run_parts ∙ and_then_passed (need refusal.Coalition (set_ok (plan_of bs) set)) _ (need-true refusal.Coalition (set_ok (plan_of bs) set) (sym set_is ∙ y))
+        lent_parts bs set inputs coins triples room ∙ and_then_passed (need refusal.Coalition (set_ok (plan_of bs) set)) _ (need-true refusal.Coalition (set_ok (plan_of bs) set) (sym set_is ∙ y))
         ∙ ap (λ (d : Checked). and_then d (need refusal.BufferLength (eqb room (width * view_count (plan_of bs) (members set))))) (sym ec)
 
-    pub run-given : (r : Refusal) → c ≡ Err r → ◌≡◌ {A = Checked} (Err r) (first_of (run_checks (plan_of bs) set inputs coins room))
+    pub run-given : (r : Refusal) → c ≡ Err r → ◌≡◌ {A = Checked} (Err r) (first_of (lent_checks (plan_of bs) set inputs coins triples room))
     run-given r e = sym (past-set ∙ and_then_refused c _ r e)
 
     module _ (e : c ≡ (Ok tt)) (k : ℕ) (ek : k ≡ view_count (plan_of bs) (members set)) where
-      past-given : first_of (run_checks (plan_of bs) set inputs coins room) ≡ need refusal.BufferLength (eqb room (width * view_count (plan_of bs) (members set)))
+      past-given : first_of (lent_checks (plan_of bs) set inputs coins triples room) ≡ need refusal.BufferLength (eqb room (width * view_count (plan_of bs) (members set)))
       past-given = past-set ∙ and_then_passed c _ e
 
-      pub run_room : (room ≡ width * k → ⊥) → Err refusal.BufferLength ≡ first_of (run_checks (plan_of bs) set inputs coins room)
+      pub run_room : (room ≡ width * k → ⊥) → Err refusal.BufferLength ≡ first_of (lent_checks (plan_of bs) set inputs coins triples room)
       run_room n = sym (past-given ∙ need-false refusal.BufferLength (eqb room (width * view_count (plan_of bs) (members set))) (rw (← ek) (ne_eqb room (width * k) n)))
 
-      pub run-passed : room ≡ width * k → (Ok tt) ≡ first_of (run_checks (plan_of bs) set inputs coins room)
+      pub run-passed : room ≡ width * k → (Ok tt) ≡ first_of (lent_checks (plan_of bs) set inputs coins triples room)
       run-passed q = sym (past-given ∙ need-true refusal.BufferLength (eqb room (width * view_count (plan_of bs) (members set))) (rw (← ek) (eq-eqb room (width * k) q)))
 
 pub ruleset running = (rules, not-true, not-false, run-set, run-given, run_room, run-passed)

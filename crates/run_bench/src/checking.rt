@@ -1,11 +1,11 @@
-// Refusals 9 to 13 and 19 of a run, in their order.
+// Refusals 9 to 13, 29 and 19 of a run, in their order.
 ghost use Rattle.std.specs.Prelude.{◌≡◌, cond, ◌≤◌};
 ghost use Rattle.plan.specs.Refusals.{first_of};
 ghost use Rattle.plan.specs.File.{plan_of};
 ghost use Rattle.plan_coalition.specs.Coalitions.{in_set, members};
 ghost use Rattle.run_protocol.specs.Rounds.{view_count_of, view_count};
-ghost use Rattle.run_bench.specs.Checks.{given_checks};
-ghost use Rattle.run_bench.specs.BenchCalls.{run_checks};
+ghost use Rattle.run_bench.specs.Checks.{lent_checks};
+ghost use Rattle.run_bench.specs.BenchCalls.{given_checks};
 
 use plan::{PlanFile, Refusal};
 use plan_counts::Seat;
@@ -51,30 +51,39 @@ pub fn view_count(plan: &PlanFile, set: u16) -> usize
     k
 }
 
-// Refusals 10 to 13.
+// Refusals 10 to 13 and 29.
 #[tactic(auto, using(crate::proofs::RunCheckLaws::giving))]
-pub fn check_given(plan: &PlanFile, inputs: &[u8], coins: &[u8]) -> Result<(), Refusal>
-    ensures { result ≡ first_of (given_checks (plan_of plan.now.bytes.now) inputs.now coins.now) }
+pub fn check_given(
+    plan: &PlanFile,
+    inputs: &[u8],
+    coins: &[u8],
+    triples: &[u8],
+) -> Result<(), Refusal>
+    ensures { result ≡ first_of (given_checks (plan_of plan.now.bytes.now) inputs.now coins.now triples.now) }
 {
-    seat_admission::check_inputs(inputs, plan_counts::input_count(plan), plan.header.field.p)?;
-    seat_admission::check_coins(coins, plan_counts::coin_count(plan), plan.header.field.p)
+    let p = plan.header.field.p;
+    seat_admission::check_inputs(inputs, plan_counts::input_count(plan), p)?;
+    seat_admission::check_coins(coins, plan_counts::coin_count(plan), p)?;
+    let count = plan.header.n * Seat::new(plan, 1).own_triples();
+    seat_admission::check_triples(triples, count, p)
 }
 
-// Refusals 9 to 13 and 19 of a run; `room` is the length of the buffer to be written.
+// Refusals 9 to 13, 29 and 19 of a run; `room` is the length of the buffer to be written.
 #[tactic(auto, using(crate::proofs::RunCheckLaws::running))]
 pub fn check(
     plan: &PlanFile,
     set: u16,
     inputs: &[u8],
     coins: &[u8],
+    triples: &[u8],
     room: usize,
 ) -> Result<(), Refusal>
-    ensures { result ≡ first_of (run_checks (plan_of plan.now.bytes.now) set inputs.now coins.now room) }
+    ensures { result ≡ first_of (lent_checks (plan_of plan.now.bytes.now) set inputs.now coins.now triples.now room) }
 {
     if !plan_coalition::set_ok(plan.header.n, plan.header.t, set) {
         return Err(Refusal::Coalition);
     }
-    check_given(plan, inputs, coins)?;
+    check_given(plan, inputs, coins, triples)?;
     if room != numbers::WIDTH * view_count(plan, set) {
         return Err(Refusal::BufferLength);
     }

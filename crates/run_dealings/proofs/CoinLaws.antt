@@ -1,7 +1,7 @@
 -- The coins that a gate takes.
 --     coins_input .. coins_else      by its kind, and by the rule
 -- Assumes nothing.
-use Prim.Native.Nat.{ℕ, ◌+◌, ◌*◌, ◌<◌, ◌≤◌}
+use Prim.Native.Nat.{ℕ, ◌+◌, ◌*◌, ◌≤◌}
 use mathlib.Core.Path.{◌≡◌, refl, sym, ap, ap₂, ◌∙◌}
 use mathlib.Core.List.{List, [], flat_map}
 use native.Mathlib.Nat.{mul-le-mul}

@@ -8,3 +8,4 @@ pub mod TruncationLaws
 pub mod MaskLaws
 pub mod MixtureLaws
 pub mod CoinLaws
+pub mod SpendLaws

@@ -1,21 +1,23 @@
 -- The table of shares as the code keeps it: a row for each wire, in it each party's share. The code deals by powers of the points.
-use Rattle.std.specs.Prelude.{Option, Some, None, ℕ, zero, suc, ◌+◌, ◌*◌, ◌≤◌, ◌<◌, ◌≡◌, true, cond, ltb, length, take, drop, get_or, replicate}
+use Rattle.std.specs.Prelude.{Option, Some, None, ℕ, zero, suc, ◌+◌, ◌*◌, ◌/◌, ◌≤◌, ◌<◌, ◌≡◌, true, cond, ltb, length, take, drop, get_or, replicate}
 use mathlib.Core.List.{List, ◌∷◌, map, flat_map}
 use Rattle.numbers.specs.Tables.{tab}
 use Rattle.numbers.specs.Bytes.{width, numbers, all_below}
-use Rattle.field.specs.Mod.{add, mul}
+use Rattle.field.specs.Mod.{add, mul, sub}
 use Rattle.sharing_laws.specs.Poly.{eval}
 use Rattle.sharing_laws.specs.Interp.{weights, dot}
 use Rattle.sharing_laws.specs.Basis.{sum_all, row}
+use Rattle.sharing_laws.specs.Sharing.{opened}
 use Rattle.field.specs.Field.{Ready}
 use Rattle.sharing_matrix.specs.declared.Matrix.{Matrix}
 use Rattle.plan.specs.declared.Gate.{Gate}
 use Rattle.plan.specs.declared.Rule.{Rule}
 use Rattle.plan.specs.declared.Rule.TheVariants.{Reduction, Truncation}
 use Rattle.plan.specs.declared.Header.{Header}
-use Rattle.plan.specs.Plans.{Plan, input_count, coin_count, coin_owners_at}
+use Rattle.plan.specs.Plans.{Plan, party_count, input_count, coin_count, coin_owners_at, triple_numbers}
 use Rattle.plan.specs.File.{plan_of}
-use Rattle.run_protocol.specs.Shares.{Before, gate_share, past}
+use Rattle.seat_messages.specs.Messages.{spent_share}
+use Rattle.run_protocol.specs.Shares.{Before, wire_at, gate_share, past}
 
 -- the rows of these wires, one after the other: each wire's shares at the points
 unfoldable pub rows_of : List ℕ → List (ℕ → ℕ) → List ℕ
@@ -65,6 +67,23 @@ mixed_at p ws fs x = dot p ws (map (λ f. eval p f x) fs)
 -- 0 up to X^t
 unfoldable pub truncated_at : ℕ → ℕ → List ℕ → List ℕ → List (List ℕ) → ℕ → ℕ
 truncated_at p t points vs fs x = add p (dot p (row p t points x) vs) (summed_at p fs x)
+
+-- number j of party d's next triple, d counted from 0, where n parties have as many numbers each of the list, and `at` numbers of each are spent
+unfoldable pub triple_in : ℕ → List ℕ → ℕ → ℕ → ℕ → ℕ
+triple_in n ts at d j = get_or ts (length ts / n * d + (at + j)) 0
+
+-- all parties' differences of the table's wire w and number j of their next triples
+unfoldable pub differences_of : ℕ → ℕ → ℕ → ℕ → List ℕ → ℕ → List ℕ → List ℕ
+differences_of p n w j ts at table = tab (λ d. sub p (get_or table (n * w + d) 0) (triple_in n ts at d j)) n
+
+-- all parties' shares of the product of wires a and b that spends their next triples
+unfoldable pub spent_of : ℕ → ℕ → List ℕ → ℕ → ℕ → List ℕ → ℕ → List ℕ → List ℕ
+spent_of p t points a b ts at table =
+    tab
+    (λ d.
+    spent_share p (triple_in (length points) ts at d 2) (get_or table (length points * a + d) 0) (get_or table (length points * b + d) 0)
+    (opened p t points (differences_of p (length points) a 0 ts at table)) (opened p t points (differences_of p (length points) b 1 ts at table)))
+    (length points)
 
 -- how many coefficients a dealing of t coins is worked with, for t below 16
 unfoldable pub terms : ℕ → ℕ
@@ -134,24 +153,33 @@ pub record Taking (plan : Plan) (gate : Gate) (at : ℕ) (cs : List ℕ) : Type 
   pub room : at + length (coin_owners_at plan gate) ≤ length cs
   pub below : all_below plan.p (take (length (coin_owners_at plan gate)) (drop at cs)) ≡ true
 
--- what stands before gate g, where the rows of the wires below g stand in the table, and xs and cs are the inputs and the coins from gate g on
-pub record Holds (plan : Plan) (n g : ℕ) (xs cs table : List ℕ) (s : Before) : Type 0 where
+-- k numbers are left of every party's triples past the first `at`, and all are elements
+pub record Spending (p n k at : ℕ) (ts : List ℕ) : Type 0 where
+  pub room : at + k ≤ length ts / n
+  pub below : all_below p ts ≡ true
+
+-- what stands before gate g, where the rows of the wires below g stand in the table, xs and cs are the inputs and the coins from gate g on, and `at`
+-- numbers of each party's triples are spent
+pub record Holds (plan : Plan) (n g : ℕ) (xs cs ts : List ℕ) (at : ℕ) (table : List ℕ) (s : Before) : Type 0 where
   pub rows : take (n * g) table ≡ rows_of plan.points s.env
   pub inputs : s.inputs ≡ xs
   pub coins : s.coins ≡ cs
+  pub triples : (d j : ℕ) → d < n → at + j < length ts / n → triple_in n ts at d j ≡ wire_at s.triples j (get_or plan.points d 0)
 
 -- the row of gate g's wire
-pub record Worked (plan : Plan) (n : ℕ) (gate : Gate) (g : ℕ) (xs cs table row : List ℕ) : Type 0 where
-  pub is : (s : Before) → Holds plan n g xs cs table s → take n row ≡ map (gate_share plan gate s) plan.points
+pub record Worked (plan : Plan) (n : ℕ) (gate : Gate) (g : ℕ) (xs cs ts : List ℕ) (at : ℕ) (table row : List ℕ) : Type 0 where
+  pub is : (s : Before) → Holds plan n g xs cs ts at table s → take n row ≡ map (gate_share plan gate s) plan.points
 
 -- a step over gate g: the rows of the wires below g and of wire g stand afterwards
-pub record Stepped (plan : Plan) (n : ℕ) (gate : Gate) (g : ℕ) (xs cs old new : List ℕ) : Type 0 where
-  pub next : (s : Before) → Holds plan n g xs cs old s → take (n * (g + 1)) new ≡ rows_of plan.points (past plan gate s).env
+pub record Stepped (plan : Plan) (n : ℕ) (gate : Gate) (g : ℕ) (xs cs ts : List ℕ) (at : ℕ) (old new : List ℕ) : Type 0 where
+  pub next : (s : Before) → Holds plan n g xs cs ts at old s → take (n * (g + 1)) new ≡ rows_of plan.points (past plan gate s).env
   pub rest : drop (n * (g + 1)) new ≡ drop (n * (g + 1)) old
 
--- what a run is given: a full list of inputs and a full setting of coins, lent as bytes
-pub record Given (plan : Plan) (inputs coins : List ℕ) : Type 0 where
+-- what a run is given: a full list of inputs, a full setting of coins, and all triples, lent as bytes
+pub record Given (plan : Plan) (inputs coins triples : List ℕ) : Type 0 where
   pub inputs_count : length inputs ≡ width * input_count plan
   pub inputs_below : all_below plan.p (numbers inputs) ≡ true
   pub coins_count : length coins ≡ width * coin_count plan
   pub coins_below : all_below plan.p (numbers coins) ≡ true
+  pub triples_count : length triples ≡ width * (party_count plan * triple_numbers plan)
+  pub triples_below : all_below plan.p (numbers triples) ≡ true

@@ -9,10 +9,12 @@ ghost use Rattle.field.specs.Mod.{add};
 ghost use Rattle.field.specs.Field.{Is};
 ghost use Rattle.sharing_laws.specs.Poly.{eval, padded};
 ghost use Rattle.sharing_laws.specs.Interp;
+ghost use Rattle.sharing_laws.specs.Sharing.{opened};
 ghost use Rattle.sharing_matrix.specs.Matrix.{applied};
+ghost use Rattle.run_protocol.specs.Shares.{triples_taken};
 ghost use Rattle.plan.specs.Plans.{coin_owners_at};
 ghost use Rattle.plan.specs.File.{plan_of};
-ghost use Rattle.run_dealings.specs.Rows.{terms, powers, power_rows, products_of, shared_by, draws_of, masked_of, mixed_at, summed_at, truncated_at, Powered, Dealers, Weighted, Cutting, Coined, Spaced, Rowed};
+ghost use Rattle.run_dealings.specs.Rows.{terms, powers, power_rows, products_of, shared_by, draws_of, masked_of, mixed_at, summed_at, truncated_at, triple_in, differences_of, spent_of, Powered, Dealers, Weighted, Cutting, Coined, Spaced, Rowed, Spending};
 ghost use Rattle.run_dealings.specs.Columns.{pieces_by, column_at, column_sum, share_at, mixed_coefficient, mixture_of, summed_coefficient, total_of, with_column, with_columns};
 
 use field::{Field, Sums};
@@ -225,6 +227,19 @@ pub fn draws(n: usize, inputs: &[u8]) -> [u64; 15]
     ensures { take n result ≡ draws_of n (numbers inputs.now) }
 {
     row_by(n, |j| numbers::read(inputs, j))
+}
+
+// ---- triples
+
+// Number j of party d's next triple, d counted from 0: each party has as many numbers of the list, of which `at` are spent.
+#[tactic(auto, using(crate::proofs::SpendLaws::reading))]
+fn triple_number(n: usize, triples: &[u8], at: usize, d: usize, j: usize) -> u64
+    requires triples_in_bounds { at + j < length (numbers triples.now) / n }
+    requires d_lt_n { d < n }
+    ensures { result ≡ triple_in n (numbers triples.now) at d j }
+{
+    let each = triples.len() / numbers::WIDTH / n;
+    numbers::read(triples, each * d + (at + j))
 }
 
 // ---- how dealings are worked
@@ -599,6 +614,78 @@ impl<'a> Dealings<'a> {
         add_rows(self.sums.field, &products[..n], &masks[..n])
     }
 
+    // All parties' differences of wire w and number j of their next triples.
+    #[tactic(auto, using(crate::proofs::SpendLaws::differing))]
+    pub fn differences(
+        &self,
+        w: usize,
+        j: usize,
+        triples: &[u8],
+        at: usize,
+        table: &[u64],
+    ) -> [u64; 15]
+        requires spending { Spending self.now.sums.field.p (length self.now.points.now) 3 at (numbers triples.now) }
+        requires j_bound { j < 3 }
+        requires rowed { Rowed self.now.sums.field.p (length self.now.points.now) w table.now }
+        ensures { take (length self.now.points.now) result ≡ differences_of self.now.sums.field.p (length self.now.points.now) w j (numbers triples.now) at table.now }
+    {
+        let f = self.sums.field;
+        let n = self.points.len();
+        let row = n * w;
+        let mut differences = [0u64; 15];
+        for d in 0..n {
+            differences[d] = f.sub(table[row + d], triple_number(n, triples, at, d, j));
+        }
+        differences
+    }
+
+    // What they open to.
+    #[tactic(auto, using(crate::proofs::SpendLaws::opening))]
+    fn opened_difference(&self, w: usize, j: usize, triples: &[u8], at: usize, table: &[u64]) -> u64
+        requires t_in_bounds { self.now.t < length self.now.points.now }
+        requires points_value { all_below self.now.sums.field.p self.now.points.now ≡ true }
+        requires spending { Spending self.now.sums.field.p (length self.now.points.now) 3 at (numbers triples.now) }
+        requires j_bound { j < 3 }
+        requires rowed { Rowed self.now.sums.field.p (length self.now.points.now) w table.now }
+        ensures { Is self.now.sums.field.p (opened self.now.sums.field.p self.now.t self.now.points.now (differences_of self.now.sums.field.p (length self.now.points.now) w j (numbers triples.now) at table.now)) result }
+    {
+        let shares = self.differences(w, j, triples, at, table);
+        let n = self.points.len();
+        sharing_openings::opened(self.sums.field, self.t, self.points, &shares[..n])
+    }
+
+    // The row of a gate that spends a triple: all parties open their differences of both wires, and each works its share of the product.
+    #[inline(never)]
+    #[tactic(auto, using(crate::proofs::SpendLaws::multiplying))]
+    pub fn spent_row(
+        &self,
+        a: usize,
+        b: usize,
+        triples: &[u8],
+        at: usize,
+        table: &[u64],
+    ) -> [u64; 15]
+        requires t_in_bounds { self.now.t < length self.now.points.now }
+        requires points_value { all_below self.now.sums.field.p self.now.points.now ≡ true }
+        requires spending { Spending self.now.sums.field.p (length self.now.points.now) 3 at (numbers triples.now) }
+        requires rowed { Rowed self.now.sums.field.p (length self.now.points.now) a table.now }
+        requires rowed_2 { Rowed self.now.sums.field.p (length self.now.points.now) b table.now }
+        ensures { take (length self.now.points.now) result ≡ spent_of self.now.sums.field.p self.now.t self.now.points.now a b (numbers triples.now) at table.now }
+    {
+        let f = self.sums.field;
+        let n = self.points.len();
+        let left = n * a;
+        let right = n * b;
+        let d = self.opened_difference(a, 0, triples, at, table);
+        let e = self.opened_difference(b, 1, triples, at, table);
+        let mut row = [0u64; 15];
+        for i in 0..n {
+            let c = triple_number(n, triples, at, i, 2);
+            row[i] = seat_messages::spent_share(f, c, table[left + i], table[right + i], d, e);
+        }
+        row
+    }
+
     // The row of these dealings: each receiver's pieces are weighed and summed.
     // As it is: the way is kept with the dealings. A closure would be a type parameter of `Dealings` and of each struct that keeps one, and its contract
     // would be the one that both methods have.
@@ -668,6 +755,17 @@ pub fn coins_taken(plan: &PlanFile, gate: Gate) -> usize
             Rule::Truncation => 3 * t * plan.header.n,
         },
         Gate::Random => t * plan.header.n,
+        _ => 0,
+    }
+}
+
+// The numbers of each party's triples that a gate takes.
+#[tactic(auto, using(crate::proofs::SpendLaws::taking_triples))]
+pub fn triples_taken(gate: Gate) -> usize
+    ensures { record { eq : result ≡ triples_taken gate; most : result ≤ 3 } }
+{
+    match gate {
+        Gate::Spend(_, _) => 3,
         _ => 0,
     }
 }

@@ -1,14 +1,13 @@
 -- What each way through the code of the plan's values says of its definition.
 --     taking, valuing           the inputs that a gate takes, and its value
---     no-spend                  no plan file has a gate that spends a triple
 --     drawing                   the sum of the draws
 --     taken_next                how much of a run's list the gates below gate g own, one gate more
 --     Worked, working           the values of all wires
 -- Assumes nothing.
 use mathlib.Core.Path.{◌≡◌, refl, sym, ap, ap₂, ◌∙◌}
-use mathlib.Core.Bool.{Bool, true, false, cond}
+use mathlib.Core.Bool.{true}
 use mathlib.Core.List.{List, [], ◌∷◌, ◌++◌, flat_map}
-use Prim.Native.Nat.{ℕ, zero, suc, ◌+◌, ◌*◌, ◌<◌, ◌≤◌}
+use Prim.Native.Nat.{ℕ, suc, ◌+◌, ◌*◌, ◌<◌, ◌≤◌}
 use native.Mathlib.Numerals.{add-one}
 use native.Mathlib.Nat.{add-zero}
 use native.Mathlib.Omega.{arith}
@@ -17,7 +16,7 @@ use borrow.Author.Tests.{lt-ltb}
 use lib.ListN.{length, get_or, take, drop, drop_of_length-le, set, length-set, length-append, length-take, get_or-eq_default}
 use lib.Seq.{take-suc, take-suc-set, length-take-le, get_or-take, get_or-drop, drop-drop, drop-cons}
 use Rattle.numbers.specs.Bytes.{all_below}
-use Rattle.numbers.specs.Tables.{tab, count_where}
+use Rattle.numbers.specs.Tables.{tab}
 use Rattle.numbers.proofs.Tables.{length-tab, tab-ext}
 use Rattle.numbers.proofs.Below.{append_below, all_below-drop}
 use Rattle.field.specs.Mod.{add, mul}
@@ -29,11 +28,11 @@ use Rattle.sharing_laws.proofs.Sums.{adding}
 use Rattle.plan.specs.declared.Gate.{Gate}
 use Rattle.plan.specs.declared.Gate.TheVariants.{Input, Add, Scale, Offset, Multiply, Random, Spend}
 use Rattle.plan.specs.declared.Header.{Header}
-use Rattle.plan.specs.Plans.{Plan, parties, kind_of, is_kind, kind_count, input_owners_at}
+use Rattle.plan.specs.Plans.{Plan, parties, input_owners_at}
 use Rattle.plan.specs.File.{gate_at, plan_of}
 use Rattle.plan.specs.Planned.{Planned}
 use Rattle.plan.proofs.Planned.{plan_n, plan_p, plan_gates, plan_gate}
-use Rattle.plan.proofs.Valid.{plain, plain_no_7, planned-ready, gate-kept, scale_constant, offset_constant}
+use Rattle.plan.proofs.Valid.{planned-ready, gate-kept, scale_constant, offset_constant}
 use Rattle.run_protocol.specs.Ideal.{inputs_taken, gate_value, values_from, values}
 use Rattle.run_protocol.proofs.Dealings.{sum-padded}
 
@@ -54,23 +53,7 @@ draws-added p xs n sum is =
 pub ruleset drawing = (adding, wire_below, draws-added)
 
 -- ---- a gate by its kind
--- among gates of which none has kind 7 none spends a triple
-none-spends : (gs : List Gate) → count_where (is_kind 7) gs ≡ 0 → (g a b : ℕ) → get_or gs g (Input 0) ≡ Spend a b → ⊥
-unfolding count_where is_kind kind_of
-none-spends [] z g a b e = let q : ◌≡◌ {A = ℕ} 1 7 = ap kind_of e in absurd (omega arith)
-none-spends (x ∷ gs) z zero a b e = let q : suc (count_where (is_kind 7) gs) ≡ 0 = rw e at z in omega arith
-none-spends (x ∷ gs) z (suc g) a b e = none-spends gs (rest (is_kind 7 x) (count_where (is_kind 7) gs) z) g a b e
-  where
-    rest : (t : Bool) (m : ℕ) → cond t (suc m) m ≡ 0 → m ≡ 0
-    rest true m e = absurd (omega arith)
-    rest false m e = e
-
 module _ (bs : List ℕ) (h : Header) (k : Planned bs h) (g : ℕ) where
-  -- no plan file has a gate that spends a triple
-  pub no-spend : (a b : ℕ) → g < h.gates → gate_at bs g ≡ Spend a b → ⊥
-  unfolding kind_count
-  no-spend a b l e = none-spends (plan_of bs).gates (plain_no_7 (plan_of bs) (plain bs k.passes)) g a b (plan_gate k g l ∙ e)
-
   module _ (gate : Gate) (is : gate ≡ gate_at bs g) where
     -- its constant is an element
     pub scaled-below : (a c : ℕ) → g < h.gates → gate ≡ Scale a c → c < h.field.p

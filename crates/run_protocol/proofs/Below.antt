@@ -1,6 +1,7 @@
--- Every number of the table, and of the mail that is read off it, is below p.
---     share-below     a share
---     mail_below      the mail of a step
+-- Every number of the table, and of the mail and the results that are read off it, is below p.
+--     share-below       a share
+--     mail_below        the mail of a step
+--     results_below     a party's results
 -- Assumes nothing.
 use mathlib.Core.Path.{◌≡◌, refl, sym, subst}
 use mathlib.Core.Bool.{Bool, true, false}
@@ -27,7 +28,7 @@ use Rattle.plan.specs.declared.Step.{Step}
 use Rattle.plan.specs.declared.Step.TheVariants.{DealInputs, DealProduct, DealZero, DealMasked, SendTruncated, DealDraws, OpenSpent, SendOuts}
 use Rattle.plan.specs.Plans.{Plan, party_count, point_of, dealer_points, out_wires, dealings_at}
 use Rattle.run_protocol.specs.Shares.{Before, wire_at, zero_pieces, dealt_at, sharings, pieces_at, truncated_at, multiply_share, difference_at, gate_share, share_table}
-use Rattle.run_protocol.specs.Tables.{before_gate, gate_in, table_mail}
+use Rattle.run_protocol.specs.Tables.{before_gate, gate_in, table_mail, table_results}
 use Rattle.run_protocol.proofs.Table.{length-table, table_at}
 
 opened_canon : (p t : ℕ) (points shares : List ℕ) → Canon p (opened p t points shares)
@@ -91,3 +92,10 @@ module _ (plan : Plan) where
           (λ x. pair_below plan.p _ _ (canon-lt above (sub_canon _ _)) (canon-lt above (sub_canon _ _)))
       mail_below i SendOuts =
           flat_map_below plan.p (λ x. map (λ w. wire_at (share_table plan xs cs tf) w x) (out_wires plan i)) plan.points (λ x. shares_below x (out_wires plan i))
+
+      -- a party's results
+      pub results_below : (i : ℕ) → all_below plan.p (table_results plan xs cs tf i) ≡ true
+      unfolding table_results
+      results_below i =
+          map_below plan.p (λ w. opened plan.p plan.t plan.points (map (wire_at (share_table plan xs cs tf) w) plan.points)) (out_wires plan i)
+          (λ w. canon-lt above (opened_canon plan.p plan.t plan.points _))

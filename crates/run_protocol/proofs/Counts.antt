@@ -37,12 +37,12 @@ use Rattle.seat_messages.specs.Messages.{Called, wires_by_party, deal_to, nothin
 use Rattle.seat_messages.specs.Calls.{written}
 use Rattle.run_protocol.specs.Rounds.{call_of, mail_to, after, results, sent_in, sent_before, sent_all, at_end}
 use Rattle.run_protocol.specs.Shares.{wire_at, share_table}
-use Rattle.run_protocol.specs.Tables.{table_mail, table_results}
+use Rattle.run_protocol.specs.Tables.{table_mail, table_results, Tabled}
 use Rattle.run_protocol.proofs.Following.{Is, Fits, steps_follow}
 use Rattle.run_protocol.proofs.Induction.{called, calls_are}
 use Rattle.run_protocol.proofs.Mails.{cat-flat_map, sum, sum_ext, sum_const, length_cat, counted}
 use Rattle.plan.proofs.Valid.{Valid}
-use Rattle.run_protocol.proofs.Expected.{Tabled, Holds}
+use Rattle.run_protocol.proofs.Expected.{Holds}
 use Rattle.run_protocol.proofs.Runs.{laws, call_is, run_call, results-table}
 
 -- ---- sums over the parties

@@ -1,5 +1,4 @@
 -- What is expected of a run, and what a kind of step has to show: that it sends the table's mail, and what its mail brings a party.
---     Tabled                   the run's triples are the table's
 --     Holds, Sends, Learns     what a party has when it sends a step; a step's two laws
 --     holds_next               a step's law of learning, and the work after it, bring a party to the next step
 --     mail-single, mail_rows, column, dealt_to, points-tab      mail, sender by sender
@@ -17,17 +16,12 @@ use Rattle.sharing_laws.proofs.Lists.{flat_map-tabs, flat_map-single, get_or-map
 use Rattle.plan.specs.declared.Gate.{Gate}
 use Rattle.plan.specs.declared.Step.{Step}
 use Rattle.plan.specs.declared.Step.TheVariants.{DealInputs, DealProduct, DealZero, DealMasked, SendTruncated, DealDraws, OpenSpent, SendOuts}
-use Rattle.plan.specs.Plans.{Plan, party_count, parties, point_of, own_inputs, own_coins, own_triples, triple_numbers, triple_at}
+use Rattle.plan.specs.Plans.{Plan, party_count, parties, point_of, own_inputs, own_coins, own_triples, triple_at}
 use Rattle.run_protocol.specs.Shares.{wire_at, product_of}
 use Rattle.run_protocol.specs.Tables.{gate_in, before_gate, table_mail}
 use Rattle.run_protocol.proofs.Following.{frontier, Is, Follows}
 use Rattle.plan.proofs.Valid.{Valid}
 use Rattle.run_protocol.proofs.Known.{Known, known_anyway, right_at, read_wire, work_from_known, Left, work_triples}
-
--- the triples of the run's list are the table's, at each party's point
-pub record Tabled (plan : Plan) (ts : List ℕ) (tf : List (ℕ → ℕ)) : Type 0 where
-  pub size : (i : ℕ) → 1 ≤ i → i ≤ party_count plan → length (own_triples plan i ts) ≡ triple_numbers plan
-  pub same : (i : ℕ) → 1 ≤ i → i ≤ party_count plan → (j : ℕ) → j < triple_numbers plan → get_or (own_triples plan i ts) j 0 ≡ wire_at tf j (point_of plan i)
 
 -- whether the inputs have been dealt when a step is sent
 abbrev pub Begun : Step → Type 0

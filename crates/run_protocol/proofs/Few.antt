@@ -1,16 +1,18 @@
 -- How many of everything a plan has that a file may have: at most 15 parties, 1,024 gates and 64 outs.
 --     Few, few-plan                        what the bounds ask, and that a plan that passes has it
 --     inputs-few .. sent-most              inputs, coins, mail, a party's view, elements
+--     sent-some                            something is sent
 --     views-most                           the view of at most t parties
 -- Assumes nothing.
 use Rattle.std.proofs.Common.{Ok}
 use Prim.Native.Nat.{ℕ, zero, suc, ◌+◌, ◌*◌, ◌<◌, ◌≤◌}
-use mathlib.Core.Path.{◌≡◌, refl, ap, ◌∙◌}
+use mathlib.Core.Path.{◌≡◌, refl}
 use mathlib.Core.Logic.{⊎_elim}
 use mathlib.Core.Bool.{Bool, true, false, cond}
 use mathlib.Core.List.{List, [], ◌∷◌, map}
 use native.Mathlib.Nat.{mul-le-mul, mul-add, mul_comm, zero-mul, mul-suc}
 use native.Mathlib.Omega.{arith}
+use borrow.Author.Tests.{leb-true}
 use lib.Dec.{eqb}
 use lib.ListN.{length}
 use Rattle.numbers.specs.Tables.{count_where, total}
@@ -26,7 +28,7 @@ use Rattle.plan.specs.Plans.{Plan, party_count, dealer_count, kind_of, is_kind, 
 use Rattle.plan.specs.Kinds.{own_multiply_coins, own_draws, own_random_coins}
 use Rattle.plan.specs.File.{between, point_at, n_at, gate_count_at, out_count_at, plan_check, plan_of}
 use Rattle.plan.proofs.Planned.{passing, between-true, laid, length_gates, length_outs}
-use Rattle.plan.proofs.Valid.{Valid, valid, plain, plain_no_7, none_or_majority}
+use Rattle.plan.proofs.Valid.{Valid, valid, some-dealt, none_or_majority}
 use Rattle.plan.proofs.KindCounts.{own-inputs-of, inputs-of, own-coins-of}
 use Rattle.plan.proofs.Wires.{out_wires_few}
 use Rattle.run_protocol.specs.Rounds.{view_count_of, view_count}
@@ -37,7 +39,8 @@ pub record Few (plan : Plan) : Type 0 where
   pub parties : party_count plan ≤ 15
   pub gates : length plan.gates ≤ 1024
   pub outs : length plan.outs ≤ 64
-  pub unspent : kind_count plan 7 ≡ 0
+  -- something is dealt
+  pub dealt : 1 ≤ kind_count plan 1 + kind_count plan 6
 
 pub few-plan : (bs : List ℕ) → plan_check bs ≡ Ok tt → Few (plan_of bs)
 few-plan bs passes =
@@ -47,12 +50,12 @@ few-plan bs passes =
       valid = valid bs passes;
       parties = unfold plan_of in unfold party_count in omega (arith, length-tab (point_at bs) (n_at bs), (between-true 1 15 (n_at bs) c.parties).1);
       gates = omega (arith, length_gates bs, (between-true 1 1024 (gate_count_at bs) l.gates).1);
-      outs = omega (arith, length_outs bs, (between-true 1 64 (out_count_at bs) l.outs).1);
-      unspent = plain_no_7 (plan_of bs) (plain bs passes);
+      outs = omega (arith, length_outs bs, leb-true (out_count_at bs) 64 l.outs);
+      dealt = some-dealt bs passes;
     }
 
 -- ---- a gate has one kind
-kinds-apart : (gs : List Gate) → count_where (is_kind 1) gs + count_where (is_kind 5) gs + count_where (is_kind 6) gs ≤ length gs
+kinds-apart : (gs : List Gate) → count_where (is_kind 1) gs + count_where (is_kind 5) gs + count_where (is_kind 6) gs + count_where (is_kind 7) gs ≤ length gs
 unfolding count_where is_kind kind_of
 kinds-apart [] = omega arith
 kinds-apart (Input s ∷ gs) = omega (arith, kinds-apart gs)
@@ -95,10 +98,7 @@ module _ (plan : Plan) (few : Few plan) where
   pub threshold-few : plan.t ≤ 14
   threshold-few = omega (arith, few.valid.threshold, few.parties)
 
-  abbrev kinds : ℕ
-  kinds = kind_count plan 1 + kind_count plan 5 + kind_count plan 6
-
-  kinds-few : kind_count plan 1 + kind_count plan 5 + kind_count plan 6 ≤ 1024
+  kinds-few : kind_count plan 1 + kind_count plan 5 + kind_count plan 6 + kind_count plan 7 ≤ 1024
   unfolding kind_count
   kinds-few = omega (arith, few.gates, kinds-apart plan.gates)
 
@@ -127,7 +127,7 @@ module _ (plan : Plan) (few : Few plan) where
 
   -- ---- of gates that bring a party m numbers and take c of its coins at most
   module _ (c m : ℕ) (low : plan.t ≤ c) (coins : (i : ℕ) → own_multiply_coins plan plan.rule i * kind_count plan 5 ≤ c * kind_count plan 5)
-      (brought : kind_count plan 5 * per_multiply plan plan.rule ≤ m * kind_count plan 5) (some : 15 ≤ m) where
+      (brought : kind_count plan 5 * per_multiply plan plan.rule ≤ m * kind_count plan 5) (opened : kind_count plan 7 * (2 * party_count plan) ≤ m * kind_count plan 7) (some : 15 ≤ m) where
     own-coins-by : (i : ℕ) → own_coin_count plan i ≤ c * 1024
     unfolding own_coin_count coin_owners kind_count own_random_coins
     own-coins-by i =
@@ -152,20 +152,22 @@ module _ (plan : Plan) (few : Few plan) where
         let a : ℕ = kind_count plan 1 in
         let b : ℕ = kind_count plan 5 in
         let d : ℕ = kind_count plan 6 in
-        let all : m * (a + b + d) ≤ m * 1024 = mul-le-mul {n₁ = m} {m₁ = a + b + d} {n₂ = m} {m₂ = 1024} (omega arith) kinds-few in
+        let e : ℕ = kind_count plan 7 in
+        let all : m * (a + b + d + e) ≤ m * 1024 = mul-le-mul {n₁ = m} {m₁ = a + b + d + e} {n₂ = m} {m₂ = 1024} (omega arith) kinds-few in
         omega (
           arith,
           brought,
+          opened,
           times 1 m a (omega (arith, some)),
           times (party_count plan) m d (omega (arith, few.parties, some)),
           mul_comm d (party_count plan),
-          ap (λ (k : ℕ). k * (2 * party_count plan)) few.unspent ∙ zero-mul (2 * party_count plan),
           all,
+          mul-add m (a + b + d) e,
           mul-add m (a + b) d,
           mul-add m a b,
         )
 
-  -- ---- without multiply gates, or with t below 8
+  -- ---- without a gate that multiplies, or with t below 8
   multiply-coins-most : (rule : Rule) (i : ℕ) → own_multiply_coins plan rule i ≤ 3 * plan.t
   unfolding own_multiply_coins
   multiply-coins-most Reduction i = omega (arith, if-most (between 1 (dealer_count plan) i) plan.t)
@@ -176,17 +178,20 @@ module _ (plan : Plan) (few : Few plan) where
   multiply-most Reduction two = omega (arith, few.parties)
   multiply-most Truncation two = omega (arith, few.parties)
 
-  module _ (none : kind_count plan 5 ≡ 0) where
+  module _ (none : (kind_count plan 5 ≡ 0) × (kind_count plan 7 ≡ 0)) where
     unmultiplied : (x : ℕ) → x * kind_count plan 5 ≡ 0
-    unmultiplied x = rw none (omega (arith, mul_comm x 0, zero-mul x))
+    unmultiplied x = rw none.0 (omega (arith, mul_comm x 0, zero-mul x))
+
+    unspent : kind_count plan 7 * (2 * party_count plan) ≤ 15 * kind_count plan 7
+    unspent = rw none.1 (omega (arith, zero-mul (2 * party_count plan)))
 
     coins-without : (i : ℕ) → own_coin_count plan i ≤ 14336
     coins-without i =
-        omega (arith, own-coins-by 14 15 threshold-few (λ i. omega (arith, unmultiplied (own_multiply_coins plan plan.rule i))) (omega (arith, unmultiplied (per_multiply plan plan.rule), mul_comm (kind_count plan 5) (per_multiply plan plan.rule))) (omega arith) i)
+        omega (arith, own-coins-by 14 15 threshold-few (λ i. omega (arith, unmultiplied (own_multiply_coins plan plan.rule i))) (omega (arith, unmultiplied (per_multiply plan plan.rule), mul_comm (kind_count plan 5) (per_multiply plan plan.rule))) unspent (omega arith) i)
 
     mail-without : gate_mail plan ≤ 15360
     mail-without =
-        omega (arith, mail-by 14 15 threshold-few (λ i. omega (arith, unmultiplied (own_multiply_coins plan plan.rule i))) (omega (arith, unmultiplied (per_multiply plan plan.rule), mul_comm (kind_count plan 5) (per_multiply plan plan.rule))) (omega arith))
+        omega (arith, mail-by 14 15 threshold-few (λ i. omega (arith, unmultiplied (own_multiply_coins plan plan.rule i))) (omega (arith, unmultiplied (per_multiply plan plan.rule), mul_comm (kind_count plan 5) (per_multiply plan plan.rule))) unspent (omega arith))
 
   module _ (two : plan.t + plan.t < party_count plan) where
     coins-held : (i : ℕ) → own_multiply_coins plan plan.rule i * kind_count plan 5 ≤ 21 * kind_count plan 5
@@ -195,11 +200,14 @@ module _ (plan : Plan) (few : Few plan) where
     pieces-brought : kind_count plan 5 * per_multiply plan plan.rule ≤ 45 * kind_count plan 5
     pieces-brought = omega (arith, times (per_multiply plan plan.rule) 45 (kind_count plan 5) (multiply-most plan.rule two), mul_comm (kind_count plan 5) (per_multiply plan plan.rule))
 
+    openings-brought : kind_count plan 7 * (2 * party_count plan) ≤ 45 * kind_count plan 7
+    openings-brought = omega (arith, times (2 * party_count plan) 45 (kind_count plan 7) (omega (arith, few.parties)), mul_comm (kind_count plan 7) (2 * party_count plan))
+
     coins-with : (i : ℕ) → own_coin_count plan i ≤ 21504
-    coins-with i = omega (arith, own-coins-by 21 45 (omega (arith, few.parties, two)) coins-held pieces-brought (omega arith) i)
+    coins-with i = omega (arith, own-coins-by 21 45 (omega (arith, few.parties, two)) coins-held pieces-brought openings-brought (omega arith) i)
 
     mail-with : gate_mail plan ≤ 46080
-    mail-with = omega (arith, mail-by 21 45 (omega (arith, few.parties, two)) coins-held pieces-brought (omega arith))
+    mail-with = omega (arith, mail-by 21 45 (omega (arith, few.parties, two)) coins-held pieces-brought openings-brought (omega arith))
 
   pub mail-most : gate_mail plan ≤ 46080
   mail-most = ⊎_elim (λ z. omega (arith, mail-without z)) mail-with (none_or_majority plan few.valid)
@@ -209,7 +217,7 @@ module _ (plan : Plan) (few : Few plan) where
 
   pub coins-few : coin_count plan ≤ 645120
   coins-few =
-      omega (arith, coins-by-mail plan few.unspent, mul-le-mul {n₁ = plan.t} {m₁ = gate_mail plan} {n₂ = 14} {m₂ = 46080} threshold-few mail-most)
+      omega (arith, coins-by-mail plan, mul-le-mul {n₁ = plan.t} {m₁ = gate_mail plan} {n₂ = 14} {m₂ = 46080} threshold-few mail-most)
 
   -- ---- outs and mail
   pub own-outs-few : (i : ℕ) → own_out_count plan i ≤ 64
@@ -250,7 +258,7 @@ module _ (plan : Plan) (few : Few plan) where
   unfolding view_count
   views-most is l =
       ⊎_elim
-      (λ (z : kind_count plan 5 ≡ 0).
+      (λ (z : (kind_count plan 5 ≡ 0) × (kind_count plan 7 ≡ 0)).
       omega (arith, total-most (view_count_of plan) 31744 is (λ i. omega (arith, view-by i 14336 15360 (coins-without z i) (mail-without z))), l, threshold-few))
       (λ (two : plan.t + plan.t < party_count plan). omega (arith, total-most (view_count_of plan) 69632 is view-few, l, two, few.parties))
       (none_or_majority plan few.valid)
@@ -267,3 +275,10 @@ module _ (plan : Plan) (few : Few plan) where
         sent-by-mail,
         mul-le-mul {n₁ = party_count plan} {m₁ = gate_mail plan + length plan.outs} {n₂ = 15} {m₂ = 46144} few.parties (omega (arith, mail-most, few.outs)),
       )
+
+  pub sent-some : 1 ≤ sent_count plan
+  sent-some =
+      let n : ℕ = party_count plan in
+      let drawn : kind_count plan 6 * 1 ≤ kind_count plan 6 * n = mul-le-mul {n₁ = kind_count plan 6} {m₁ = 1} {n₂ = kind_count plan 6} {m₂ = n} (omega arith) (omega (arith, few.valid.threshold)) in
+      let mail : 1 ≤ gate_mail plan + length plan.outs = omega (arith, few.dealt, drawn) in
+      omega (arith, sent-by-mail, mul-le-mul {n₁ = 1} {m₁ = 1} {n₂ = n} {m₂ = gate_mail plan + length plan.outs} (omega (arith, few.valid.threshold)) mail)

@@ -1,17 +1,16 @@
 -- The triples of a run as the table has them: of any list, of a preparing run, and of a plan that spends none.
---     triples_of, tabled_list            any list of the full count
+--     tabled_list                       any list of the full count
 --     tabled-none                       no gate of kind 7
 --     tabled-prepared, prepared-below, prepared-count   the triples that a preparing run leaves
 -- Assumes nothing.
 use mathlib.Core.Path.{◌≡◌, refl, sym, ap, subst, ◌∙◌}
 use mathlib.Core.Logic.{◌≢◌}
-use mathlib.Core.Bool.{true, cond}
+use mathlib.Core.Bool.{true}
 use mathlib.Core.List.{List, [], ◌∷◌, map, flat_map}
 use Prim.Native.Nat.{ℕ, zero, suc, ◌+◌, ◌-◌, ◌*◌, ◌<◌, ◌≤◌}
 use native.Mathlib.Nat.{mul-suc, mul-add, mul_comm}
 use native.Mathlib.Omega.{arith}
 use borrow.Author.Tests.{eq-eqb, ne_eqb}
-use lib.Dec.{eqb}
 use lib.ListN.{length, get_or, take, drop, length-drop}
 use lib.Seq.{length-take-le, get_or-take, get_or-drop}
 use Rattle.numbers.specs.Tables.{tab, count_where}
@@ -28,18 +27,13 @@ use Rattle.run_protocol.specs.Rounds.{at_end, triples_from}
 use Rattle.run_protocol.specs.Shares.{wire_at, share_table}
 use Rattle.run_protocol.specs.Preparing.{preparing, prepares}
 use Rattle.plan.proofs.Valid.{Valid, points-apart}
+use Rattle.run_protocol.specs.Tables.{Tabled, place_in, triples_of}
 use Rattle.run_protocol.proofs.Prepared.{is-preparing, preparing-valid, gates-length, no-kind-7}
 use Rattle.run_protocol.proofs.Table.{length-table}
-use Rattle.run_protocol.proofs.Expected.{Tabled}
 use Rattle.run_protocol.proofs.Runs.{call_is, run-calls, run_call, triples-table}
 use Rattle.run_protocol.proofs.Below.{share-below}
 
 -- ---- any list
--- the place of a number in a list
-unfoldable pub place_in : ℕ → List ℕ → ℕ
-place_in x [] = 0
-place_in x (y ∷ ys) = cond (eqb x y) 0 (suc (place_in x ys))
-
 Apart : List ℕ → Type 0
 Apart l = (i j : ℕ) → j < i → i < length l → get_or l i 0 ≢ get_or l j 0
 
@@ -49,10 +43,6 @@ place_at [] h k m = absurd (omega arith)
 place_at (y ∷ l) h zero m = rw (eq-eqb y y refl) refl
 place_at (y ∷ l) h (suc k) m =
     rw (ne_eqb (get_or l k 0) y (h (suc k) 0 (omega arith) m)) (ap suc (place_at l (λ i j a b. h (suc i) (suc j) (omega arith) (omega arith)) k (omega arith)))
-
--- the triples of a list, party by party, as functions of the point
-unfoldable pub triples_of : Plan → List ℕ → List (ℕ → ℕ)
-triples_of plan ts = tab (λ j x. get_or ts (triple_numbers plan * place_in x plan.points + j) 0) (triple_numbers plan)
 
 pub tabled_list : (plan : Plan) → Valid plan → (ts : List ℕ) → length ts ≡ party_count plan * triple_numbers plan → Tabled plan ts (triples_of plan ts)
 unfolding own_triples triples_of wire_at point_of party_count Apart

@@ -29,13 +29,13 @@ use Rattle.plan.proofs.Parties.{at-party, each-party}
 use Rattle.plan.specs.Plans.{Plan, party_count, parties, point_of, dealer_count, kind_of, is_kind, out_wires, own_out_count, coin_count, own_inputs, own_coins, own_triples, triple_numbers, triple_at, kind_count, multiply_steps, steps_at, steps_from, steps, step_at, last_call, multiplying}
 use Rattle.run_protocol.specs.Rounds.{call_of, no_call, mail_to, after, at_end, results, mails, view_of, view}
 use Rattle.run_protocol.specs.Shares.{wire_at, share_table}
-use Rattle.run_protocol.specs.Tables.{table_mail, table_results, table_view_of}
+use Rattle.run_protocol.specs.Tables.{table_mail, table_results, table_view_of, Tabled}
 use Rattle.run_protocol.proofs.Following.{frontier, Is, Fits, steps_follow}
 use Rattle.run_protocol.proofs.Induction.{Laws, taken, shares_at, triples_at, called, holds, calls_are, mail-is}
 use Rattle.plan.proofs.Valid.{Valid}
 use Rattle.run_protocol.proofs.Table.{length-table}
 use Rattle.run_protocol.proofs.Known.{fresh_known, right_at, Left, none_spent, get_or_zeros}
-use Rattle.run_protocol.proofs.Expected.{Tabled, Done, Holds, Sends, Learns, holds_next, column}
+use Rattle.run_protocol.proofs.Expected.{Done, Holds, Sends, Learns, holds_next, column}
 use Rattle.run_protocol.proofs.StepInputs.{sends-inputs, learns-inputs}
 use Rattle.run_protocol.proofs.StepReduction.{sends-product, learns-product}
 use Rattle.run_protocol.proofs.StepTruncation.{sends-zero, learns-zero, sends-masked, learns-masked, sends-truncated, learns-truncated}

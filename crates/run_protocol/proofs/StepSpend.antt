@@ -16,12 +16,12 @@ use Rattle.plan.specs.declared.Gate.TheVariants.{Spend}
 use Rattle.plan.specs.declared.Step.TheVariants.{OpenSpent}
 use Rattle.plan.specs.Plans.{Plan, party_count, point_of, own_inputs, own_coins, own_triples, triple_numbers, triple_at, kind_of, is_kind, kind_count}
 use Rattle.run_protocol.specs.Shares.{wire_at, difference_at, difference_of, gate_share}
-use Rattle.run_protocol.specs.Tables.{before_gate, table_mail}
+use Rattle.run_protocol.specs.Tables.{before_gate, table_mail, Tabled}
 use Rattle.run_protocol.proofs.Following.{frontier, Is}
 use Rattle.plan.proofs.Valid.{Valid}
 use Rattle.run_protocol.proofs.Table.{before-triples}
 use Rattle.run_protocol.proofs.Known.{learn_known, right_at, gate_reads, table_gate, Left, spend-one, triple_next}
-use Rattle.run_protocol.proofs.Expected.{Tabled, Sends, Learns, at_point, mail_rows, column, share_read}
+use Rattle.run_protocol.proofs.Expected.{Sends, Learns, at_point, mail_rows, column, share_read}
 
 count-take : (plan : Plan) (g : ℕ) → count_where (is_kind 7) (take g plan.gates) ≤ count_where (is_kind 7) plan.gates
 count-take plan g =

@@ -7,7 +7,7 @@ use mathlib.Core.Path.{◌≡◌, refl, sym, ap, ap₂, ◌∙◌}
 use mathlib.Core.Bool.{false}
 use mathlib.Core.List.{List, [], ◌∷◌, ◌++◌, map, flat_map}
 use Prim.Native.Nat.{ℕ, zero, suc, ◌+◌, ◌*◌, ◌<◌, ◌≤◌}
-use native.Mathlib.Nat.{mul-zero, zero-mul, mul-one, mul-add, mul_comm, mul_assoc, mul-le-mul}
+use native.Mathlib.Nat.{mul-zero, mul-one, mul-add, mul_comm, mul_assoc, mul-le-mul}
 use native.Mathlib.Omega.{arith}
 use lib.ListN.{length, length-append}
 use Rattle.numbers.specs.Tables.{tab, count_where, total}
@@ -25,10 +25,9 @@ use Rattle.plan.specs.Kinds.{multiply_coins, multiply_rounds}
 use Rattle.plan.proofs.KindCounts.{bringing, brought, along, coins-of, steps-of}
 use Rattle.run_protocol.specs.Rounds.{view_count_of, view_count, mail_to, after, results, mails, view_of, view}
 use Rattle.run_protocol.specs.Shares.{wire_at, share_table}
-use Rattle.run_protocol.specs.Tables.{table_results}
+use Rattle.run_protocol.specs.Tables.{table_results, Tabled}
 use Rattle.plan.proofs.Valid.{Valid}
 use Rattle.run_protocol.proofs.Owners.{length-own}
-use Rattle.run_protocol.proofs.Expected.{Tabled}
 use Rattle.run_protocol.proofs.Runs.{results-table, steps-tab}
 use Rattle.run_protocol.proofs.Counts.{mail_count_lem}
 
@@ -136,16 +135,16 @@ module _ (plan : Plan) (i : ℕ) where
   unfolding view_count_of
   view-count-by = ap (λ (k : ℕ). own_input_count plan i + own_coin_count plan i + k + own_out_count plan i) mail-total
 
--- ---- t coins for each number that the gates bring a party, where no triple is spent
+-- ---- t coins for each number that the gates bring a party, but for those that are opened where a triple is spent
 module _ (plan : Plan) where
   multiply-coins : (rule : Rule) → multiply_coins plan rule ≡ plan.t * per_multiply plan rule
   unfolding multiply_coins per_multiply
   multiply-coins Reduction = refl
   multiply-coins Truncation = ap (λ (k : ℕ). k * party_count plan) (mul_comm 3 plan.t) ∙ mul_assoc plan.t 3 (party_count plan)
 
-  pub coins-by-mail : kind_count plan 7 ≡ 0 → coin_count plan ≡ plan.t * gate_mail plan
+  pub coins-by-mail : coin_count plan + plan.t * (kind_count plan 7 * (2 * party_count plan)) ≡ plan.t * gate_mail plan
   unfolding coin_count coin_owners kind_count
-  coins-by-mail none =
+  coins-by-mail =
       let a : ℕ = count_where (is_kind 1) plan.gates in
       let b : ℕ = count_where (is_kind 5) plan.gates in
       let c : ℕ = count_where (is_kind 6) plan.gates in
@@ -157,25 +156,22 @@ module _ (plan : Plan) where
         coins-of plan plan.gates,
         ap (λ (k : ℕ). k * b) (multiply-coins plan.rule) ∙ mul_assoc plan.t m b ∙ ap (λ (k : ℕ). plan.t * k) (mul_comm m b),
         mul_assoc plan.t n c ∙ ap (λ (k : ℕ). plan.t * k) (mul_comm n c),
-        ap (λ (k : ℕ). k * (2 * n)) none ∙ zero-mul (2 * n),
-        mul-add plan.t (a + b * m + c * n) (d * (2 * n)) ∙ ap (λ (k : ℕ). plan.t * (a + b * m + c * n) + plan.t * k) (ap (λ (k : ℕ). k * (2 * n)) none ∙ zero-mul (2 * n)),
-        mul-zero plan.t,
+        mul-add plan.t (a + b * m + c * n) (d * (2 * n)),
         mul-add plan.t (a + b * m) (c * n),
         mul-add plan.t a (b * m),
       )
 
-  -- ---- each step brings a number at least
+  -- ---- each step brings a number at least, and where a triple is spent 2n
   multiply-calls : (rule : Rule) → 1 ≤ party_count plan → multiply_rounds rule ≤ per_multiply plan rule
   unfolding multiply_rounds per_multiply dealer_count
   multiply-calls Reduction some = omega arith
   multiply-calls Truncation some = omega arith
 
-  pub calls-by-mail : 1 ≤ party_count plan → last_call plan ≤ gate_mail plan + 2
+  pub calls-by-mail : 1 ≤ party_count plan → last_call plan + kind_count plan 7 * (2 * party_count plan) ≤ gate_mail plan + 2 + kind_count plan 7
   unfolding last_call steps kind_count
   calls-by-mail some =
       let b : ℕ = count_where (is_kind 5) plan.gates in
       let c : ℕ = count_where (is_kind 6) plan.gates in
-      let d : ℕ = count_where (is_kind 7) plan.gates in
       omega (
         arith,
         length-append (steps_from plan.rule 0 plan.gates) (SendOuts ∷ []),
@@ -183,5 +179,4 @@ module _ (plan : Plan) where
         mul-le-mul {n₁ = b} {m₁ = multiply_rounds plan.rule} {n₂ = b} {m₂ = per_multiply plan plan.rule} (omega arith) (multiply-calls plan.rule some),
         mul_comm b (multiply_rounds plan.rule),
         mul-le-mul {n₁ = c} {m₁ = 1} {n₂ = c} {m₂ = party_count plan} (omega arith) some,
-        mul-le-mul {n₁ = d} {m₁ = 1} {n₂ = d} {m₂ = 2 * party_count plan} (omega arith) (omega (arith, some)),
       )

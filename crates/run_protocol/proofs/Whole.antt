@@ -19,28 +19,27 @@ use Rattle.plan.specs.Refusals.{first_of}
 use Rattle.plan.specs.Plans.{Plan, party_count, parties, kind_count, own_inputs, own_coins, triple_numbers, last_call, written_count, sent_count}
 use Rattle.plan.specs.File.{plan_checks, plan_check, plan_of}
 use Rattle.plan.proofs.Refusals.{both_pass}
-use Rattle.plan.proofs.Valid.{Valid, valid, Sized, sized, plain, plain_no_7}
+use Rattle.plan.proofs.Valid.{Valid, valid, Sized, sized}
 use Rattle.seat_messages.specs.Calls.{party_checks, call_checks, call_answer}
 use Rattle.run_protocol.specs.Rounds.{call_of, mail_to, after, at_end, results, view, sent_all, view_count}
 use Rattle.run_protocol.specs.Ideal.{values, granted}
 use Rattle.run_protocol.specs.Shares.{share_table}
-use Rattle.run_protocol.specs.Tables.{table_view_of}
+use Rattle.run_protocol.specs.Tables.{table_view_of, Tabled, triples_of}
 use Rattle.run_protocol.specs.Preparing.{preparing, prepares}
 use Rattle.run_protocol.specs.Settings.{Inputs, Coins, Triples}
-use Rattle.run_protocol.proofs.Expected.{Tabled}
 use Rattle.run_protocol.proofs.Runs.{spent, results-table, views-table}
 use Rattle.run_protocol.proofs.Counts.{sent_all_lem}
 use Rattle.run_protocol.proofs.ViewCounts.{view-count}
 use Rattle.run_protocol.proofs.Accepted.{run_accepted}
 use Rattle.run_protocol.proofs.Sound.{RightTriples, no_triples, shared, none-off, results-right}
 use Rattle.run_protocol.proofs.Prepared.{is-preparing, preparing-valid, triple-values, triple-product}
-use Rattle.run_protocol.proofs.Given.{tabled-none, tabled-prepared, prepared-below}
+use Rattle.run_protocol.proofs.Given.{tabled_list, tabled-none, tabled-prepared, prepared-below}
 
 pub record Whole (plan : Plan) (xs coins ts : List ℕ) : Type 0 where
   -- no call of a run is refused
   pub accepted :
       (k i : ℕ) → k ≤ last_call plan → 1 ≤ i → i ≤ party_count plan → (room : ℕ) → room ≡ width * written_count plan i k
-      → first_of (party_checks plan i (bytes_of (own_inputs plan i xs)) (bytes_of (own_coins plan i coins)) (bytes_of (call_of i (after plan xs coins ts k)).state) (bytes_of (mail_to i (after plan xs coins ts k))) room)
+      → first_of (party_checks plan i (bytes_of (own_inputs plan i xs)) (bytes_of (own_coins plan i coins)) (bytes_of (call_of i (after plan xs coins ts k)).triples) (bytes_of (call_of i (after plan xs coins ts k)).state) (bytes_of (mail_to i (after plan xs coins ts k))) room)
       ≡ Ok tt
   -- each party's results are the plan's own arithmetic
   pub correct : (i : ℕ) → 1 ≤ i → i ≤ party_count plan → results plan xs coins ts i ≡ granted plan xs i
@@ -94,20 +93,25 @@ whole_prepared plan valid sizes xs coins ts inputs setting t =
     (prepared_right plan valid t.prep t.prepared t.draws t.coins t.draws_full.small)
     (rw t.are (prepared-below plan valid t.prep t.prepared t.draws t.coins t.coins_full.count (pos valid.prime)))
 
--- ---- for a plan that is read from a file
-module _ (bytes xs coins : List ℕ) (h : plan_check bytes ≡ Ok tt) (inputs : Inputs (plan_of bytes) xs) (setting : Coins (plan_of bytes) coins) where
-  pub whole_read : Whole (plan_of bytes) xs coins []
-  whole_read = whole_alone (plan_of bytes) (valid bytes h) (sized bytes h) xs coins inputs setting (plain_no_7 (plan_of bytes) (plain bytes h))
+-- ---- for a plan that is read from a file, with triples from a preparing run
+module _ (bytes xs coins ts : List ℕ) (h : plan_check bytes ≡ Ok tt) (inputs : Inputs (plan_of bytes) xs) (setting : Coins (plan_of bytes) coins) where
+  module _ (triples : Triples (plan_of bytes) ts) where
+    pub whole_read : Whole (plan_of bytes) xs coins ts
+    whole_read = whole_prepared (plan_of bytes) (valid bytes h) (sized bytes h) xs coins ts inputs setting triples
 
-  -- no call of its run is refused
-  pub accepted_read :
-      (k i : ℕ) → k ≤ last_call (plan_of bytes) → 1 ≤ i → i ≤ party_count (plan_of bytes) → (room : ℕ) → room ≡ width * written_count (plan_of bytes) i k
-      → call_answer bytes i (bytes_of (own_inputs (plan_of bytes) i xs)) (bytes_of (own_coins (plan_of bytes) i coins)) (bytes_of (call_of i (after (plan_of bytes) xs coins [] k)).state)
-      (bytes_of (mail_to i (after (plan_of bytes) xs coins [] k))) room
-      ≡ Ok tt
-  unfolding call_answer call_checks plan_check
-  accepted_read k i l from1 upto room fits = both_pass (plan_checks bytes) _ h (whole_read.accepted k i l from1 upto room fits)
+    -- no call of its run is refused
+    pub accepted_read :
+        (k i : ℕ) → k ≤ last_call (plan_of bytes) → 1 ≤ i → i ≤ party_count (plan_of bytes) → (room : ℕ) → room ≡ width * written_count (plan_of bytes) i k
+        → call_answer bytes i (bytes_of (own_inputs (plan_of bytes) i xs)) (bytes_of (own_coins (plan_of bytes) i coins)) (bytes_of (call_of i (after (plan_of bytes) xs coins ts k)).triples) (bytes_of (call_of i (after (plan_of bytes) xs coins ts k)).state)
+        (bytes_of (mail_to i (after (plan_of bytes) xs coins ts k))) room
+        ≡ Ok tt
+    unfolding call_answer call_checks plan_check
+    accepted_read k i l from1 upto room fits = both_pass (plan_checks bytes) _ h (whole_read.accepted k i l from1 upto room fits)
 
-  -- and a coalition's view of it is that of the table
-  pub view_read : (ms : List ℕ) → All (λ i. (1 ≤ i) × (i ≤ party_count (plan_of bytes))) ms → view (plan_of bytes) ms xs coins [] ≡ flat_map (table_view_of (plan_of bytes) xs coins []) ms
-  view_read = views-table (plan_of bytes) (valid bytes h) xs coins [] [] setting.count (tabled-none (plan_of bytes) [] (plain_no_7 (plan_of bytes) (plain bytes h)))
+  -- with any triples, a coalition's view of it is that of the table
+  pub view_read :
+      length ts ≡ party_count (plan_of bytes) * triple_numbers (plan_of bytes) → (ms : List ℕ) → All (λ i. (1 ≤ i) × (i ≤ party_count (plan_of bytes))) ms
+      → view (plan_of bytes) ms xs coins ts ≡ flat_map (table_view_of (plan_of bytes) xs coins (triples_of (plan_of bytes) ts)) ms
+  view_read full =
+      views-table (plan_of bytes) (valid bytes h) xs coins ts (triples_of (plan_of bytes) ts) setting.count
+      (tabled_list (plan_of bytes) (valid bytes h) ts full)

@@ -18,10 +18,11 @@ use Rattle.numbers.specs.Tables.{tab}
 use Rattle.numbers.specs.Bytes.{all_below}
 use Rattle.numbers.proofs.Tables.{length-tab, get_or-tab, tab-ext, tab-map, row_room}
 use Rattle.numbers.proofs.Truth.{both_true}
-use Rattle.field.specs.Mod.{add, mul}
+use Rattle.field.specs.Mod.{add, mul, sub}
 use Rattle.sharing_laws.specs.Poly.{eval}
 use Rattle.sharing_laws.specs.Interp.{weights, dot}
 use Rattle.sharing_laws.specs.Basis.{sum_all}
+use Rattle.sharing_laws.specs.Sharing.{opened}
 use Rattle.sharing_laws.specs.Basis as basis
 use Rattle.sharing_matrix.specs.declared.Matrix.{Matrix}
 use Rattle.sharing_laws.proofs.Alls.{map-tab}
@@ -36,12 +37,13 @@ use Rattle.plan.specs.File.{plan_of, gate_at, gate_ok}
 use Rattle.plan.specs.Planned.{Planned}
 use Rattle.plan.proofs.Planned.{plan_t, plan_p, plan_n, plan_rule, plan_gates, plan_gate}
 use Rattle.plan.proofs.Valid.{Valid, valid, planned-ready, gate_majority}
-use Rattle.seat_messages.proofs.PointLaws.{plan_points_long}
-use Rattle.run_protocol.specs.Shares.{Before, wire_at, product_of, multiply_dealt, multiply_share, gate_share}
+use Rattle.seat_messages.specs.Messages.{spent_share}
+use Rattle.seat_messages.proofs.PointLaws.{plan_points_long, plan_points_below}
+use Rattle.run_protocol.specs.Shares.{Before, wire_at, product_of, multiply_dealt, multiply_share, difference_at, difference_of, gate_share, triples_taken}
 use Rattle.run_protocol.proofs.Dealt.{pieces-reduction, pieces-random}
 use Rattle.run_protocol.proofs.Truncated.{truncated_share}
-use Rattle.run_ideal.proofs.IdealLaws.{no-spend, wire_below, rest-below}
-use Rattle.run_dealings.specs.Rows.{rows_of, products_of, shared_by, draws_of, mixed_at, summed_at, truncated_at, Fitted, Cutting, Ruling, Coined, Rowed, Standing, Taking, Holds, Worked}
+use Rattle.run_ideal.proofs.IdealLaws.{wire_below, rest-below}
+use Rattle.run_dealings.specs.Rows.{rows_of, products_of, shared_by, draws_of, mixed_at, summed_at, truncated_at, triple_in, differences_of, spent_of, Fitted, Cutting, Ruling, Coined, Rowed, Standing, Taking, Spending, Holds, Worked}
 use Rattle.run_dealings.proofs.CoinLaws.{coins_input, coins_reduction, coins_truncation, coins_random}
 use Rattle.numbers.proofs.Rows.{flat-length, flat-part}
 use Rattle.run_dealings.proofs.RowLaws.{get_or-values, standing-row, row_reading}
@@ -84,7 +86,8 @@ module _ (points : List ℕ) (n : ℕ) (en : length points ≡ n) where
       is ∙ tab-ext rule (λ j. F (get_or points j 0)) n same ∙ sym (map-tab F points ∙ ap (tab (λ j. F (get_or points j 0))) en)
 
 -- ---- what each kind of gate makes of them
-module _ (plan : Plan) (n g : ℕ) (en : length plan.points ≡ n) (low : 1 ≤ n) (xs cs table : List ℕ) (room : n * g ≤ length table) (s : Before) (holds : Holds plan n g xs cs table s) (row : List ℕ) where
+module _ (plan : Plan) (n g : ℕ) (en : length plan.points ≡ n) (low : 1 ≤ n) (xs cs ts : List ℕ) (spent : ℕ) (table : List ℕ) (room : n * g ≤ length table) (s : Before)
+    (holds : Holds plan n g xs cs ts spent table s) (row : List ℕ) where
   at : (w j : ℕ) → w < g → j < n → get_or table (n * w + j) 0 ≡ wire_at s.env w (get_or plan.points j 0)
   at = entry-of-wire plan.points n en low table g room s.env holds.rows
 
@@ -176,11 +179,40 @@ module _ (plan : Plan) (n g : ℕ) (en : length plan.points ≡ n) (low : 1 ≤ 
       ∙ ap₂ (λ (m : ℕ) (ds : List ℕ). tab (λ d. eval plan.p (get_or s.inputs d 0 ∷ take plan.t (drop (plan.t * d) ds)) x) m) (sym en) (sym holds.coins)
       ∙ sym (pieces-random plan x s))))
 
+  -- the differences of all parties, and the product that spends their triples
+  differences-are : (w j : ℕ) → w < g → j < 3 → spent + 3 ≤ length ts / n → differences_of plan.p n w j ts spent table ≡ map (difference_at plan s w j) plan.points
+  unfolding differences_of difference_at
+  differences-are w j l m r =
+      let F : ℕ → ℕ = difference_at plan s w j in
+      tab-ext _ (λ d. F (get_or plan.points d 0)) n (λ d q. ap₂ (sub plan.p) (at w d l q) (holds.triples d j q (omega (arith, r))))
+      ∙ sym (map-tab F plan.points ∙ ap (tab (λ d. F (get_or plan.points d 0))) en)
+
+  spend-share : (a b : ℕ) → a < g → b < g → spent + 3 ≤ length ts / n → take n row ≡ spent_of plan.p plan.t plan.points a b ts spent table → take n row ≡ map (gate_share plan (Spend a b) s) plan.points
+  unfolding gate_share spent_of difference_of
+  spend-share a b la lb r is =
+      let opens : ℕ → ℕ → ℕ → ℕ = λ m w j. opened plan.p plan.t plan.points (differences_of plan.p m w j ts spent table) in
+      let share : ℕ → ℕ → ℕ = λ m d. spent_share plan.p (triple_in m ts spent d 2) (get_or table (m * a + d) 0) (get_or table (m * b + d) 0) (opens m a 0) (opens m b 1) in
+      row-by-rule plan.points n en (share n) (gate_share plan (Spend a b) s) row (is ∙ ap (λ (m : ℕ). tab (share m) m) en)
+      (λ d l.
+      ap (λ (c : ℕ). spent_share plan.p c (get_or table (n * a + d) 0) (get_or table (n * b + d) 0) (opens n a 0) (opens n b 1)) (holds.triples d 2 l (omega (arith, r)))
+      ∙ ap₂ (λ (x y : ℕ). spent_share plan.p (wire_at s.triples 2 (get_or plan.points d 0)) x y (opens n a 0) (opens n b 1)) (at a d la l) (at b d lb l)
+      ∙ ap₂
+      (λ (us vs : List ℕ).
+      spent_share plan.p (wire_at s.triples 2 (get_or plan.points d 0)) (wire_at s.env a (get_or plan.points d 0)) (wire_at s.env b (get_or plan.points d 0)) (opened plan.p plan.t plan.points us)
+      (opened plan.p plan.t plan.points vs))
+      (differences-are a 0 la (omega arith) r) (differences-are b 1 lb (omega arith) r))
+
 -- ---- the dealings of a plan
 module _ (bs : List ℕ) (h : Header) (p t : ℕ) (points ws : List ℕ) (fitted : Fitted bs h p t points ws) where
   module _ (k : Planned bs h) where
     parties : length points ≡ h.n
     parties = ap length fitted.are ∙ plan_points_long bs h k
+
+    pub fitted_over : t < length points
+    fitted_over = omega (arith, parties, fitted.threshold, k.threshold)
+
+    pub fitted_elements : all_below p points ≡ true
+    fitted_elements = rw (fitted.field, fitted.are) (plan_points_below bs h k)
 
     -- the dealers are parties
     module _ (two : 2 * h.t < h.n) where
@@ -219,6 +251,16 @@ module _ (bs : List ℕ) (h : Header) (k : Planned bs h) (g : ℕ) (l : g < h.ga
       unfolding gate_ok
       multiplies is = both_true (ltb a g) (ltb b g) (rule (Multiply a b) is)
 
+      spends : read ≡ Spend a b → (ltb a g ≡ true) × (ltb b g ≡ true)
+      unfolding gate_ok
+      spends is = both_true (ltb a g) (ltb b g) (rule (Spend a b) is)
+
+      spending_room : read ≡ Spend a b → (spent : ℕ) (ts : List ℕ) → Spending h.field.p h.n (triples_taken (gate_at bs g)) spent ts → spent + 3 ≤ length ts / h.n
+      unfolding triples_taken is_kind kind_of
+      spending_room is spent ts left =
+          let three : triples_taken (gate_at bs g) ≡ 3 = ap triples_taken (sym e ∙ is) in
+          omega (arith, left.room)
+
       pub add-left-stands : read ≡ Add a b → Rowed h.field.p h.n a table
       add-left-stands is = standing-row h.field.p h.n g a table s (ltb-true a g (adds is).0)
 
@@ -251,6 +293,17 @@ module _ (bs : List ℕ) (h : Header) (k : Planned bs h) (g : ℕ) (l : g < h.ga
         pub multiply-right-stands : read ≡ Multiply a b → Rowed p (length points) b table
         multiply-right-stands is = rw (fitted.field, parties bs h p t points ws fitted k) (standing-row h.field.p h.n g b table s (ltb-true b g (multiplies is).1))
 
+      module _ (p t : ℕ) (points ws : List ℕ) (fitted : Fitted bs h p t points ws) where
+        pub spend-left-stands : read ≡ Spend a b → Rowed p (length points) a table
+        spend-left-stands is = rw (fitted.field, parties bs h p t points ws fitted k) (standing-row h.field.p h.n g a table s (ltb-true a g (spends is).0))
+
+        pub spend-right-stands : read ≡ Spend a b → Rowed p (length points) b table
+        spend-right-stands is = rw (fitted.field, parties bs h p t points ws fitted k) (standing-row h.field.p h.n g b table s (ltb-true b g (spends is).1))
+
+        pub spend-triples : read ≡ Spend a b → (spent : ℕ) (ts : List ℕ) → Spending h.field.p h.n (triples_taken (gate_at bs g)) spent ts → Spending p (length points) 3 spent ts
+        spend-triples is spent ts left =
+            record { room = rw (parties bs h p t points ws fitted k) (spending_room is spent ts left); below = rw fitted.field left.below }
+
     -- coins
     module _ (at : ℕ) (cs : List ℕ) (taking : Taking (plan_of bs) (gate_at bs g) at cs) where
       coined_by : (c m : ℕ) → c * m ≡ length (coin_owners_at (plan_of bs) read) → Coined h.field.p c m at cs
@@ -276,43 +329,40 @@ module _ (bs : List ℕ) (h : Header) (k : Planned bs h) (g : ℕ) (l : g < h.ga
               rw (fitted.field, fitted.threshold, parties bs h p t points ws fitted k) (coined_by (3 * h.t) h.n (coins_truncation bs h k read a b is (ruling.some m some)))
 
     -- rows
-    module _ (xs cs row : List ℕ) where
-      module _ (gate : Gate) (is : read ≡ gate) (works : (s : Before) → Holds (plan_of bs) h.n g xs cs table s → take h.n row ≡ map (gate_share (plan_of bs) gate s) (plan_of bs).points) where
-        by_kind : Worked (plan_of bs) h.n (gate_at bs g) g xs cs table row
+    module _ (xs cs ts : List ℕ) (spent : ℕ) (row : List ℕ) where
+      module _ (gate : Gate) (is : read ≡ gate) (works : (s : Before) → Holds (plan_of bs) h.n g xs cs ts spent table s → take h.n row ≡ map (gate_share (plan_of bs) gate s) (plan_of bs).points) where
+        by_kind : Worked (plan_of bs) h.n (gate_at bs g) g xs cs ts spent table row
         by_kind = record { is = λ s holds. rw (← e, is) (works s holds) }
 
-      pub worked-add : (a b : ℕ) → read ≡ Add a b → take h.n row ≡ tab (λ j. add h.field.p (get_or table (h.n * a + j) 0) (get_or table (h.n * b + j) 0)) h.n → Worked (plan_of bs) h.n (gate_at bs g) g xs cs table row
+      pub worked-add : (a b : ℕ) → read ≡ Add a b → take h.n row ≡ tab (λ j. add h.field.p (get_or table (h.n * a + j) 0) (get_or table (h.n * b + j) 0)) h.n → Worked (plan_of bs) h.n (gate_at bs g) g xs cs ts spent table row
       worked-add a b is made =
           by_kind (Add a b) is
           (λ before holds.
-          add-share (plan_of bs) h.n g (plan_points_long bs h k) k.n_low xs cs table s.room before holds row a b (ltb-true a g (adds a b is).0) (ltb-true b g (adds a b is).1)
+          add-share (plan_of bs) h.n g (plan_points_long bs h k) k.n_low xs cs ts spent table s.room before holds row a b (ltb-true a g (adds a b is).0) (ltb-true b g (adds a b is).1)
           (made ∙ ap (λ (p : ℕ). tab (λ j. add p (get_or table (h.n * a + j) 0) (get_or table (h.n * b + j) 0)) h.n) (sym (plan_p k))))
 
-      pub worked-scale : (a c : ℕ) → read ≡ Scale a c → take h.n row ≡ tab (λ j. mul h.field.p (get_or table (h.n * a + j) 0) c) h.n → Worked (plan_of bs) h.n (gate_at bs g) g xs cs table row
+      pub worked-scale : (a c : ℕ) → read ≡ Scale a c → take h.n row ≡ tab (λ j. mul h.field.p (get_or table (h.n * a + j) 0) c) h.n → Worked (plan_of bs) h.n (gate_at bs g) g xs cs ts spent table row
       worked-scale a c is made =
           by_kind (Scale a c) is
           (λ before holds.
-          scale-share (plan_of bs) h.n g (plan_points_long bs h k) k.n_low xs cs table s.room before holds row a c (ltb-true a g (scales a c is).0)
+          scale-share (plan_of bs) h.n g (plan_points_long bs h k) k.n_low xs cs ts spent table s.room before holds row a c (ltb-true a g (scales a c is).0)
           (made ∙ ap (λ (p : ℕ). tab (λ j. mul p (get_or table (h.n * a + j) 0) c) h.n) (sym (plan_p k))))
 
-      pub worked-offset : (a c : ℕ) → read ≡ Offset a c → take h.n row ≡ tab (λ j. add h.field.p (get_or table (h.n * a + j) 0) c) h.n → Worked (plan_of bs) h.n (gate_at bs g) g xs cs table row
+      pub worked-offset : (a c : ℕ) → read ≡ Offset a c → take h.n row ≡ tab (λ j. add h.field.p (get_or table (h.n * a + j) 0) c) h.n → Worked (plan_of bs) h.n (gate_at bs g) g xs cs ts spent table row
       worked-offset a c is made =
           by_kind (Offset a c) is
           (λ before holds.
-          offset-share (plan_of bs) h.n g (plan_points_long bs h k) k.n_low xs cs table s.room before holds row a c (ltb-true a g (offsets a c is).0)
+          offset-share (plan_of bs) h.n g (plan_points_long bs h k) k.n_low xs cs ts spent table s.room before holds row a c (ltb-true a g (offsets a c is).0)
           (made ∙ ap (λ (p : ℕ). tab (λ j. add p (get_or table (h.n * a + j) 0) c) h.n) (sym (plan_p k))))
-
-      pub worked-spend : (a b : ℕ) → read ≡ Spend a b → Worked (plan_of bs) h.n (gate_at bs g) g xs cs table row
-      worked-spend a b is = absurd (no-spend bs h k g a b l (sym e ∙ is))
 
       module _ (p t : ℕ) (points ws : List ℕ) (fitted : Fitted bs h p t points ws) (a b : ℕ) (is : read ≡ Multiply a b) (kept : Option Matrix) (ruling : Ruling h.rule p t points kept) where
         pub worked-reduction : kept ≡ None → take (length points) row ≡ map (mixed_at p ws (shared_by t t (products_of p (length points) (length ws) a b table) cs)) points
-            → Worked (plan_of bs) h.n (gate_at bs g) g xs cs table row
+            → Worked (plan_of bs) h.n (gate_at bs g) g xs cs ts spent table row
         unfolding dealer_count dealer_points
         worked-reduction none made =
             by_kind (Multiply a b) is
             (λ before holds.
-            multiply-share (plan_of bs) h.n g (plan_points_long bs h k) k.n_low xs cs table s.room before holds row a b ws (plan_rule k ∙ ruling.none none)
+            multiply-share (plan_of bs) h.n g (plan_points_long bs h k) k.n_low xs cs ts spent table s.room before holds row a b ws (plan_rule k ∙ ruling.none none)
             (ltb-true a g (multiplies a b is).0) (ltb-true b g (multiplies a b is).1)
             (rw (plan_t k) (omega (arith, two a b is)))
             (rw (plan_p k, plan_t k, ← fitted.are) (weighs bs h p t points ws fitted k (two a b is)))
@@ -321,31 +371,42 @@ module _ (bs : List ℕ) (h : Header) (k : Planned bs h) (g : ℕ) (l : g < h.ga
 
         pub worked-truncation : (m : Matrix) → kept ≡ Some m
             → take (length points) row ≡ map (truncated_at p t points (products_of p (length points) (length points) a b table) (shared_by t (3 * t) (replicate (length points) 0) cs)) points
-            → Worked (plan_of bs) h.n (gate_at bs g) g xs cs table row
+            → Worked (plan_of bs) h.n (gate_at bs g) g xs cs ts spent table row
         worked-truncation m some made =
             by_kind (Multiply a b) is
             (λ before holds.
-            truncated-share (plan_of bs) h.n g (plan_points_long bs h k) k.n_low xs cs table s.room before holds row a b (valid bs k.passes) (plan_rule k ∙ ruling.some m some)
+            truncated-share (plan_of bs) h.n g (plan_points_long bs h k) k.n_low xs cs ts spent table s.room before holds row a b (valid bs k.passes) (plan_rule k ∙ ruling.some m some)
             (rw (plan_t k) (omega (arith, two a b is))) (ltb-true a g (multiplies a b is).0) (ltb-true b g (multiplies a b is).1)
             (rw (plan_p k, plan_t k, ← fitted.are, ← parties bs h p t points ws fitted k) (rw (fitted.field, fitted.threshold) at made)))
 
-    -- the draws begin the rest of the list
-    pub worked-random : (xs ys cs row points ws : List ℕ) (p t from : ℕ) → Fitted bs h p t points ws → read ≡ Random → ys ≡ drop from xs
-        → take (length points) row ≡ map (summed_at p (shared_by t t (draws_of (length points) ys) cs)) points → Worked (plan_of bs) h.n (gate_at bs g) g (drop from xs) cs table row
-    worked-random xs ys cs row points ws p t from fitted is ey made =
-        by_kind (drop from xs) cs row Random is
+    -- all parties' next triples are spent
+    pub worked-spend : (xs cs ts row points ws : List ℕ) (p t a b spent : ℕ) → Fitted bs h p t points ws → read ≡ Spend a b
+        → Spending h.field.p h.n (triples_taken (gate_at bs g)) spent ts → take (length points) row ≡ spent_of p t points a b ts spent table
+        → Worked (plan_of bs) h.n (gate_at bs g) g xs cs ts spent table row
+    worked-spend xs cs ts row points ws p t a b spent fitted is left made =
+        by_kind xs cs ts spent row (Spend a b) is
         (λ before holds.
-        random-share (plan_of bs) h.n g (plan_points_long bs h k) k.n_low (drop from xs) cs table s.room before holds row
+        spend-share (plan_of bs) h.n g (plan_points_long bs h k) k.n_low xs cs ts spent table s.room before holds row a b (ltb-true a g (spends a b is).0) (ltb-true b g (spends a b is).1)
+        (spending_room a b is spent ts left)
+        (rw (plan_p k, plan_t k, ← fitted.are, ← parties bs h p t points ws fitted k) (rw (fitted.field, fitted.threshold) at made)))
+
+    -- the draws begin the rest of the list
+    pub worked-random : (xs ys cs ts row points ws : List ℕ) (p t from spent : ℕ) → Fitted bs h p t points ws → read ≡ Random → ys ≡ drop from xs
+        → take (length points) row ≡ map (summed_at p (shared_by t t (draws_of (length points) ys) cs)) points → Worked (plan_of bs) h.n (gate_at bs g) g (drop from xs) cs ts spent table row
+    worked-random xs ys cs ts row points ws p t from spent fitted is ey made =
+        by_kind (drop from xs) cs ts spent row Random is
+        (λ before holds.
+        random-share (plan_of bs) h.n g (plan_points_long bs h k) k.n_low (drop from xs) cs ts spent table s.room before holds row
         (rw (plan_p k, plan_t k, ← fitted.are, ← parties bs h p t points ws fitted k, ← ey) (rw (fitted.field, fitted.threshold) at made)))
 
     -- an input is the next of the list
-    pub worked-input : (xs cs row points ws : List ℕ) (p t i x from : ℕ) → Fitted bs h p t points ws → read ≡ Input i → x ≡ get_or xs from 0
-        → take (length points) row ≡ map (eval p (x ∷ take t cs)) points → Worked (plan_of bs) h.n (gate_at bs g) g (drop from xs) cs table row
-    worked-input xs cs row points ws p t i x from fitted is ex made =
+    pub worked-input : (xs cs ts row points ws : List ℕ) (p t i x from spent : ℕ) → Fitted bs h p t points ws → read ≡ Input i → x ≡ get_or xs from 0
+        → take (length points) row ≡ map (eval p (x ∷ take t cs)) points → Worked (plan_of bs) h.n (gate_at bs g) g (drop from xs) cs ts spent table row
+    worked-input xs cs ts row points ws p t i x from spent fitted is ex made =
         let first : x ≡ get_or (drop from xs) 0 0 = ex ∙ ap (λ (m : ℕ). get_or xs m 0) (sym (add-zero from)) ∙ sym (get_or-drop from xs 0 0) in
-        by_kind (drop from xs) cs row (Input i) is
+        by_kind (drop from xs) cs ts spent row (Input i) is
         (λ before holds.
-        input-share (plan_of bs) h.n g (plan_points_long bs h k) k.n_low (drop from xs) cs table s.room before holds row i
+        input-share (plan_of bs) h.n g (plan_points_long bs h k) k.n_low (drop from xs) cs ts spent table s.room before holds row i
         (rw (plan_p k, plan_t k, ← fitted.are, ← parties bs h p t points ws fitted k, ← first) (rw (fitted.field, fitted.threshold) at made)))
 
 -- an element of the plan's field is one of the dealings'
@@ -371,4 +432,4 @@ shifted_at p n a c table j = add p (get_or table (n * a + j) 0) c
 pub ruleset reading = (row_reading, add-left-stands, add-right-stands, scale-stands, scale_constant, offset-stands, offset_constant)
 
 -- As it is: answers name this set, since the check leaves their goals open by `using` alone.
-pub ruleset working = (rules, planned-ready, wire_below, fitted_below, fitted_rest, multiply_few, add-left-stands, add-right-stands, scale-stands, scale_constant, offset-stands, offset_constant, multiply-left-stands, multiply-right-stands, input_coins, random_coins, reduction_coins, truncation_coins, kept_cutting, worked-add, worked-scale, worked-offset, worked-random, worked-spend, worked-input, worked-reduction, worked-truncation)
+pub ruleset working = (rules, planned-ready, wire_below, fitted_below, fitted_rest, multiply_few, add-left-stands, add-right-stands, scale-stands, scale_constant, offset-stands, offset_constant, multiply-left-stands, multiply-right-stands, fitted_over, fitted_elements, spend-left-stands, spend-right-stands, spend-triples, input_coins, random_coins, reduction_coins, truncation_coins, kept_cutting, worked-add, worked-scale, worked-offset, worked-random, worked-spend, worked-input, worked-reduction, worked-truncation)

@@ -1,13 +1,14 @@
 // The table of shares of a run: a row for each wire, in it every party's share. Gates are worked one after the other, all parties at once.
 #![tactic(auto)]
 
-ghost use Rattle.std.specs.Prelude.{◌≡◌, true, [], ◌+◌, ◌-◌, ◌*◌, ◌/◌, ◌<◌, ◌≤◌, length, take, drop, get_or};
+ghost use Rattle.std.specs.Prelude.{ℕ, List, ◌≡◌, true, [], ◌+◌, ◌-◌, ◌*◌, ◌/◌, ◌<◌, ◌≤◌, length, take, drop, get_or};
 ghost use Rattle.numbers.specs.Tables.{tab};
 ghost use Rattle.numbers.specs.Bytes.{numbers, all_below};
 ghost use Rattle.field.specs.Mod.{add, mul};
 ghost use Rattle.plan.specs.File.{plan_of, gate_at};
-ghost use Rattle.run_protocol.specs.Shares.{share_table};
-ghost use Rattle.run_dealings.specs.Rows.{rows_of, Fitted, Ruling, Standing, Taking, Worked, Stepped, Given};
+ghost use Rattle.run_protocol.specs.Shares.{triples_taken, share_table};
+ghost use Rattle.run_protocol.specs.Tables.{Tabled};
+ghost use Rattle.run_dealings.specs.Rows.{rows_of, Fitted, Ruling, Standing, Taking, Spending, Worked, Stepped, Given};
 
 use plan::{Gate, PlanFile, Rule};
 use run_dealings::{Dealings, Way, row_by};
@@ -65,8 +66,8 @@ impl<'a> RunPlan<'a> {
         }
     }
 
-    // The row of gate g's wire, from the rows of the wires below it. No plan file has a gate of the last kind.
-    // As it is: inputs, coins and table go together from `fill` on, but two runs may be worked by one `RunPlan`, each with its own lists, and the table is
+    // The row of gate g's wire, from the rows of the wires below it.
+    // As it is: inputs, coins, triples and table go together from `fill` on, but two runs may be worked by one `RunPlan`, each with its own lists, and the table is
     // written; a struct of them and of their places would be made for each gate.
     #[tactic(auto, using(crate::proofs::GateLaws::working))]
     fn gate_row(
@@ -76,13 +77,16 @@ impl<'a> RunPlan<'a> {
         i: usize,
         coins: &[u8],
         at: usize,
+        triples: &[u8],
+        spent: usize,
         table: &[u64],
     ) -> [u64; 15]
         requires g_lt_gates { g < self.now.plan.now.header.gates }
         requires inputs_value { all_below self.now.plan.now.header.field.p (numbers inputs.now) ≡ true }
         requires taking { Taking (plan_of self.now.plan.now.bytes.now) (gate_at self.now.plan.now.bytes.now g) at (numbers coins.now) }
+        requires spending { Spending self.now.plan.now.header.field.p self.now.plan.now.header.n (triples_taken (gate_at self.now.plan.now.bytes.now g)) spent (numbers triples.now) }
         requires standing { Standing self.now.plan.now.header.field.p self.now.plan.now.header.n g table.now }
-        ensures { Worked (plan_of self.now.plan.now.bytes.now) self.now.plan.now.header.n (gate_at self.now.plan.now.bytes.now g) g (drop i (numbers inputs.now)) (drop at (numbers coins.now)) table.now result }
+        ensures { Worked (plan_of self.now.plan.now.bytes.now) self.now.plan.now.header.n (gate_at self.now.plan.now.bytes.now g) g (drop i (numbers inputs.now)) (drop at (numbers coins.now)) (numbers triples.now) spent table.now result }
     {
         let f = self.plan.header.field;
         let n = self.plan.header.n;
@@ -98,12 +102,12 @@ impl<'a> RunPlan<'a> {
             Gate::Random => self
                 .dealings
                 .random_row(numbers::rest(inputs, i), coins, at),
-            Gate::Spend(_, _) => [0; 15],
+            Gate::Spend(a, b) => self.dealings.spent_row(a, b, triples, spent, table),
         }
     }
 
     // Works gate g for all parties: sets the row of its wire, from the rows of the wires below it. Its inputs stand from place i on, its coins from
-    // place `at` on.
+    // place `at` on, and `spent` numbers of each party's triples are spent.
     pub fn step(
         &self,
         g: usize,
@@ -111,38 +115,44 @@ impl<'a> RunPlan<'a> {
         i: usize,
         coins: &[u8],
         at: usize,
+        triples: &[u8],
+        spent: usize,
         table: &mut [u64],
     )
         requires g_lt_gates { g < self.now.plan.now.header.gates }
         requires inputs_value { all_below self.now.plan.now.header.field.p (numbers inputs.now) ≡ true }
         requires taking { Taking (plan_of self.now.plan.now.bytes.now) (gate_at self.now.plan.now.bytes.now g) at (numbers coins.now) }
+        requires spending { Spending self.now.plan.now.header.field.p self.now.plan.now.header.n (triples_taken (gate_at self.now.plan.now.bytes.now g)) spent (numbers triples.now) }
         requires standing { Standing self.now.plan.now.header.field.p self.now.plan.now.header.n g table.old }
         requires gates_in_bounds { self.now.plan.now.header.n * self.now.plan.now.header.gates ≤ length table.old }
-        ensures { Stepped (plan_of self.now.plan.now.bytes.now) self.now.plan.now.header.n (gate_at self.now.plan.now.bytes.now g) g (drop i (numbers inputs.now)) (drop at (numbers coins.now)) table.old table.new }
+        ensures { Stepped (plan_of self.now.plan.now.bytes.now) self.now.plan.now.header.n (gate_at self.now.plan.now.bytes.now g) g (drop i (numbers inputs.now)) (drop at (numbers coins.now)) (numbers triples.now) spent table.old table.new }
     {
         let n = self.plan.header.n;
         let start = n * g;
-        let row = self.gate_row(g, inputs, i, coins, at, table);
+        let row = self.gate_row(g, inputs, i, coins, at, triples, spent, table);
         table[start..start + n].copy_from_slice(&row[..n]);
     }
 
-    // The table of a run: every party's share of every wire, gate by gate, in front of what the table holds beyond.
-    // As it is: inputs, coins and table go on one by one, as in step. A struct of inputs and coins would leave the table beside it, a `&mut`, and each clause
-    // that step requires speaks of one of the three.
+    // The table of a run: every party's share of every wire, gate by gate, in front of what the table holds beyond. It is the table for all functions that
+    // have the lent triples at the points.
+    // As it is: inputs, coins, triples and table go on one by one, as in step. A struct of the lists would leave the table beside it, a `&mut`, and each clause
+    // that step requires speaks of one of the four.
     #[tactic(auto, using(crate::proofs::FillLaws::filling_table))]
-    pub fn fill(&self, inputs: &[u8], coins: &[u8], table: &mut [u64])
-        requires given { Given (plan_of self.now.plan.now.bytes.now) inputs.now coins.now }
+    pub fn fill(&self, inputs: &[u8], coins: &[u8], triples: &[u8], table: &mut [u64])
+        requires given { Given (plan_of self.now.plan.now.bytes.now) inputs.now coins.now triples.now }
         requires gates_in_bounds { self.now.plan.now.header.n * self.now.plan.now.header.gates ≤ length table.old }
-        ensures table_after { take (self.now.plan.now.header.n * self.now.plan.now.header.gates) table.new ≡ rows_of (plan_of self.now.plan.now.bytes.now).points (share_table (plan_of self.now.plan.now.bytes.now) (numbers inputs.now) (numbers coins.now) []) }
+        ensures table_after { (tf : List (ℕ → ℕ)) → Tabled (plan_of self.now.plan.now.bytes.now) (numbers triples.now) tf → take (self.now.plan.now.header.n * self.now.plan.now.header.gates) table.new ≡ rows_of (plan_of self.now.plan.now.bytes.now).points (share_table (plan_of self.now.plan.now.bytes.now) (numbers inputs.now) (numbers coins.now) tf) }
         ensures table_unchanged { drop (self.now.plan.now.header.n * self.now.plan.now.header.gates) table.new ≡ drop (self.now.plan.now.header.n * self.now.plan.now.header.gates) table.old }
     {
         let mut i: usize = 0;
         let mut at: usize = 0;
+        let mut spent: usize = 0;
         for g in 0..self.plan.header.gates {
-            self.step(g, inputs, i, coins, at, table);
+            self.step(g, inputs, i, coins, at, triples, spent, table);
             let gate = self.plan.gate(g);
             i += run_ideal::inputs_taken(self.plan, gate);
             at += run_dealings::coins_taken(self.plan, gate);
+            spent += run_dealings::triples_taken(gate);
         }
     }
 }

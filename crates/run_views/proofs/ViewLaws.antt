@@ -9,6 +9,7 @@
 --     Tabbing, copying         a list by a rule, and a part of a list
 --     owning, own_parts, own_gates     a party's own inputs and coins
 --     dealing, Piecing, pieces         the pieces of dealings
+--     openings                 what all parties open where a triple is spent
 --     gate_pieces, stepping            the mail of the gates' steps
 -- Assumes nothing.
 use Rattle.std.proofs.Common.{Option, Some, None}
@@ -26,8 +27,8 @@ use lib.ListN.{length-replicate, length, get_or, take, drop, replicate, drop_of_
 use lib.Seq.{drop-cons, drop-drop, get_or-take, get_or-drop, take-take, length-take-le}
 use mir.Syntax.{w64}
 use mir.Val.{Fits}
-use Rattle.numbers.specs.Tables.{tab}
-use Rattle.numbers.specs.Bytes.{number_at, width, numbers, all_below}
+use Rattle.numbers.specs.Tables.{tab, count_where}
+use Rattle.numbers.specs.Bytes.{width, numbers, all_below}
 use Rattle.numbers.proofs.Tables.{length-tab, get_or-tab, take-tab, tab-ext, tab-replicate, is-tab, row_room}
 use Rattle.numbers.proofs.Below.{all_below_at, all_below-tab, all_below-take, all_below-drop}
 use Rattle.numbers.proofs.Bytes.{numbers-length}
@@ -51,22 +52,23 @@ use Rattle.plan.specs.declared.Rule.{Rule}
 use Rattle.plan.specs.declared.Rule.TheVariants.{Reduction, Truncation}
 use Rattle.plan.specs.declared.Output.{Output}
 use Rattle.plan.specs.declared.Header.{Header}
-use Rattle.plan.specs.Plans.{Plan, party_count, parties, point_of, kind_of, is_kind, multiplying, operands_of, is_input_of, wires_from, input_wires, out_wires_of, out_wires, input_owners_at, input_owners, input_count, dealings_at, coin_owners_at, coin_owners, coin_count, own_of, own_inputs, own_coins}
+use Rattle.plan.specs.Plans.{Plan, party_count, parties, point_of, kind_of, is_kind, multiplying, operands_of, is_input_of, wires_from, input_wires, out_wires_of, out_wires, input_owners_at, input_owners, input_count, dealings_at, coin_owners_at, coin_owners, coin_count, triple_numbers, triple_at, own_of, own_inputs, own_coins}
 use Rattle.plan.proofs.Layouts.{gate_read}
-use Rattle.plan.specs.File.{gate_ok, between, layout_of, gate_place, gate_of, gate_from, gate_at, out_at, out_ok, plan_of}
+use Rattle.plan.specs.File.{gate_ok, between, gate_place, gate_from, gate_at, out_at, out_ok, plan_of}
 use Rattle.plan.specs.Planned.{Planned}
 use Rattle.plan.proofs.Planned.{plan_rule, plan_t, plan_n, plan_dealers, plan_gates, plan_outs, plan_gate, plan_out}
-use Rattle.plan.proofs.Valid.{valid, plain, planned-ready, gate-kept, gate_majority}
+use Rattle.plan.proofs.Valid.{valid, planned-ready, gate-kept, gate_majority}
 use Rattle.seat_messages.proofs.PointLaws.{plan_points_long, plan_points_below}
 use Rattle.run_protocol.specs.Ideal.{inputs_taken}
+use Rattle.run_protocol.specs.Shares.{triples_taken}
 use Rattle.run_protocol.proofs.Owners.{own-append, own_same, own-other, blocks, length_blocks, own_block, own_each}
 use Rattle.run_protocol.proofs.Dealt.{input-owners, reduction-owners, truncation-owners, random-owners}
 use Rattle.run_ideal.proofs.IdealLaws.{taken_next}
-use Rattle.run_dealings.specs.Rows.{Coined, power, powers, products_of, shared_by, draws_of, masked_of, mixed_at, Rowed, Spaced, Fitted, Cutting, Ruling}
+use Rattle.run_dealings.specs.Rows.{Coined, power, powers, products_of, shared_by, draws_of, masked_of, differences_of, mixed_at, Rowed, Spaced, Fitted, Cutting, Ruling, Spending}
 use Rattle.run_dealings.proofs.RowLaws.{product_at}
 use Rattle.run_dealings.proofs.CoinLaws.{coins_reduction, coins_truncation, coins_random, no_owners}
-use Rattle.run_tables.proofs.FillLaws.{taken_within}
-use Rattle.run_views.specs.Flat.{share_in, row_in, first_in, outs_in, opened_in, pieces_of, zeros_in, masked_in, truncated_in, multiply_in, pieces_in, gathered, power_count, taken_by, Running, Ran, PowerRow, Stands, Multiplies, Seen, Owns}
+use Rattle.run_tables.proofs.FillLaws.{taken_within, triples_past, triples_left}
+use Rattle.run_views.specs.Flat.{share_in, row_in, first_in, outs_in, opened_in, pieces_of, zeros_in, masked_in, truncated_in, multiply_in, opens_in, openings_in, pieces_in, gathered, power_count, taken_by, Running, Ran, PowerRow, Stands, Multiplies, Spends, Seen, Owns}
 use Rattle.run_views.specs.Writing.{Wrote}
 use Rattle.run_dealings.proofs.PowerLaws.{length-powers, powers_below, eval-powers}
 use Rattle.run_views.proofs.WriteLaws.{wrote_none, wrote_as, wrote_then, Left, left_all, left_as, left_then, left_end}
@@ -84,7 +86,7 @@ pub other_kind : (bs : List ℕ) (g k j : ℕ) → k ≡ get_or bs (gate_place b
 unfolding gate_at gate_from is_input_of is_kind kind_of operands_of
 other_kind bs g k j e n l =
     gate_read (λ x. false ≡ is_input_of j x) (get_or bs (gate_place bs g) 0) _ _ _ (sym (ne_eqb j 0 (λ z. omega arith)))
-    (λ one. absurd (n (e ∙ one))) (λ z. refl) (λ z. refl) (λ z. refl) (λ z. refl) (λ z. refl)
+    (λ one. absurd (n (e ∙ one))) (λ z. refl) (λ z. refl) (λ z. refl) (λ z. refl) (λ z. refl) (λ z. refl)
 
 pub ruleset sorting = (rules, other_kind, input_at_lem, input_of_as)
 
@@ -97,29 +99,33 @@ module _ {bs : List ℕ} {h : Header} (pl : Planned bs h) where
   gates_end g l = drop_of_length-le (plan_of bs).gates {i = g} (omega (arith, plan_gates pl))
 
 -- ---- what is put gate by gate
--- what gate g takes begins at number i of the inputs and at number k of the coins
-pub record Placed (bs : List ℕ) (i k g : ℕ) : Type 0 where
+-- what gate g takes begins at number i of the inputs, at number k of the coins and at number u of each party's triples
+pub record Placed (bs : List ℕ) (i k u g : ℕ) : Type 0 where
   pub input : i ≡ length (flat_map (input_owners_at (plan_of bs)) (take g (plan_of bs).gates))
   pub coin : k ≡ length (flat_map (coin_owners_at (plan_of bs)) (take g (plan_of bs).gates))
+  pub triple : u ≡ triple_at (plan_of bs) g
   pub near_input : i ≤ 15 * g
   pub near_coin : k ≤ 630 * g
+  pub near_triple : u ≤ 3 * g
   pub within : g ≤ 1024
 
-pub placed_first : (bs : List ℕ) → Placed bs 0 0 0
-unfolding flat_map
-placed_first bs = record { input = refl; coin = refl; near_input = omega arith; near_coin = omega arith; within = omega arith }
+pub placed_first : (bs : List ℕ) → Placed bs 0 0 0 0
+unfolding flat_map triple_at count_where
+placed_first bs = record { input = refl; coin = refl; triple = refl; near_input = omega arith; near_coin = omega arith; near_triple = omega arith; within = omega arith }
 
-module _ (bs : List ℕ) (h : Header) (i k g : ℕ) (s : Placed bs i k g) (pl : Planned bs h) (l : g < h.gates) where
+module _ (bs : List ℕ) (h : Header) (i k u g : ℕ) (s : Placed bs i k u g) (pl : Planned bs h) (l : g < h.gates) where
   pub placed_next :
-      (a d : ℕ) (gate : Gate) → gate ≡ gate_at bs g → a ≡ inputs_taken (plan_of bs) gate → a ≤ 15 → d ≡ length (coin_owners_at (plan_of bs) gate) → d ≤ 630
-      → Placed bs (i + a) (k + d) (g + 1)
+      (a d c : ℕ) (gate : Gate) → gate ≡ gate_at bs g → a ≡ inputs_taken (plan_of bs) gate → a ≤ 15 → d ≡ length (coin_owners_at (plan_of bs) gate) → d ≤ 630
+      → c ≡ triples_taken gate → c ≤ 3 → Placed bs (i + a) (k + d) (u + c) (g + 1)
   unfolding inputs_taken
-  placed_next a d gate is ea la ed ld =
+  placed_next a d c gate is ea la ed ld ec lc =
       record {
         input = taken_next (input_owners_at (plan_of bs)) bs h i g a pl s.input l (ea ∙ ap (λ (x : Gate). length (input_owners_at (plan_of bs) x)) is);
         coin = taken_next (coin_owners_at (plan_of bs)) bs h k g d pl s.coin l (ed ∙ ap (λ (x : Gate). length (coin_owners_at (plan_of bs) x)) is);
+        triple = ap (λ (m : ℕ). u + m) ec ∙ triples_past bs h pl g u gate l s.triple is;
         near_input = omega (arith, s.near_input);
         near_coin = omega (arith, s.near_coin);
+        near_triple = omega (arith, s.near_triple);
         within = omega (arith, pl.gates-high);
       }
 
@@ -137,30 +143,33 @@ module _ (bs : List ℕ) (h : Header) (i k g : ℕ) (s : Placed bs i k g) (pl : 
     unfolding coin_count coin_owners
     coins_room coins full = rw is (omega (arith, full, numbers-length coins, taken_room (coin_owners_at (plan_of bs)) k s.coin))
 
+    pub triples_room : (ts : List ℕ) → length ts ≡ party_count (plan_of bs) * triple_numbers (plan_of bs) → all_below h.field.p ts ≡ true → Spending h.field.p h.n (triples_taken gate) u ts
+    triples_room ts full below = triples_left bs h pl ts full g u gate l s.triple is below
+
     pub gate_stands : Stands bs h.gates gate
     gate_stands = record { place = g; within = l; is = is }
 
 -- the invariant of what is put at gate g
-pub record Gathering (f : Gate → ℕ → ℕ → List ℕ) (bs : List ℕ) (at : ℕ) (old new : List ℕ) (next i k g : ℕ) : Type 0 where
-  pub left : Left (gathered f (plan_of bs) 0 0 (plan_of bs).gates) at old new next (gathered f (plan_of bs) i k (drop g (plan_of bs).gates))
+pub record Gathering (f : Gate → ℕ → ℕ → ℕ → List ℕ) (bs : List ℕ) (at : ℕ) (old new : List ℕ) (next i k u g : ℕ) : Type 0 where
+  pub left : Left (gathered f (plan_of bs) 0 0 0 (plan_of bs).gates) at old new next (gathered f (plan_of bs) i k u (drop g (plan_of bs).gates))
 
-pub gather_all : (f : Gate → ℕ → ℕ → List ℕ) (bs : List ℕ) (at : ℕ) (old : List ℕ) → at ≤ length old / width → Gathering f bs at old old at 0 0 0
+pub gather_all : (f : Gate → ℕ → ℕ → ℕ → List ℕ) (bs : List ℕ) (at : ℕ) (old : List ℕ) → at ≤ length old / width → Gathering f bs at old old at 0 0 0 0
 gather_all f bs at old l = record { left = left_all _ at old _ refl l }
 
-module _ (f : Gate → ℕ → ℕ → List ℕ) (bs : List ℕ) (h : Header) (at : ℕ) (old new : List ℕ) (next i k g : ℕ) (s : Gathering f bs at old new next i k g) (pl : Planned bs h) where
+module _ (f : Gate → ℕ → ℕ → ℕ → List ℕ) (bs : List ℕ) (h : Header) (at : ℕ) (old new : List ℕ) (next i k u g : ℕ) (s : Gathering f bs at old new next i k u g) (pl : Planned bs h) where
   pub gather_next :
-      (a d : ℕ) (new' : List ℕ) (next' : ℕ) (gate : Gate) → g < h.gates → gate ≡ gate_at bs g → a ≡ inputs_taken (plan_of bs) gate → d ≡ length (coin_owners_at (plan_of bs) gate)
-      → Wrote (f gate i k) next new new' next' → Gathering f bs at old new' next' (i + a) (k + d) (g + 1)
+      (a d c : ℕ) (new' : List ℕ) (next' : ℕ) (gate : Gate) → g < h.gates → gate ≡ gate_at bs g → a ≡ inputs_taken (plan_of bs) gate → d ≡ length (coin_owners_at (plan_of bs) gate)
+      → c ≡ triples_taken gate → Wrote (f gate i k u) next new new' next' → Gathering f bs at old new' next' (i + a) (k + d) (u + c) (g + 1)
   unfolding gathered inputs_taken
-  gather_next a d new' next' gate l is ea ed w =
-      record { left = left_then _ at old new next _ s.left (f gate i k) _ new' next' (rw (gates_from pl g gate l is, ea, ed)) w }
+  gather_next a d c new' next' gate l is ea ed ec w =
+      record { left = left_then _ at old new next _ s.left (f gate i k u) _ new' next' (rw (gates_from pl g gate l is, ea, ed, ec)) w }
 
-  pub gather_end : h.gates ≤ g → Wrote (gathered f (plan_of bs) 0 0 (plan_of bs).gates) at old new next
+  pub gather_end : h.gates ≤ g → Wrote (gathered f (plan_of bs) 0 0 0 (plan_of bs).gates) at old new next
   unfolding gathered
   gather_end l = left_end _ at old new next _ s.left (rw (gates_end pl g l))
 
 -- As it is: answers name this set, since the check leaves their goals open by `using` alone.
-pub ruleset gathering = (rules, placed_first, placed_next, inputs_room, coins_room, gate_stands, gather_all, gather_next, gather_end)
+pub ruleset gathering = (rules, placed_first, placed_next, inputs_room, coins_room, triples_room, gate_stands, gather_all, gather_next, gather_end)
 
 -- ---- a share in the table
 module _ (h : Header) (table : List ℕ) (r : Running h table) (w : ℕ) (l : w < h.gates) where
@@ -316,15 +325,15 @@ module _ (h : Header) (table : List ℕ) (r : Running h table) (w : ℕ) (l : w 
   pub bytes_fit : Fits w64 (h.n * w * 8)
   bytes_fit = record { fits = omega (arith, row_within h table r w l, table_short h table r w l) }
 
-  row_is : take (h.n * w + h.n - h.n * w) (drop (h.n * w) table) ≡ row_in h.n table w
+  pub row_is : take (h.n * w + h.n - h.n * w) (drop (h.n * w) table) ≡ row_in h.n table w
   unfolding row_in
   row_is = rw add-sub_cancel_left
 
-  row_long : length (row_in h.n table w) ≡ h.n
+  pub row_long : length (row_in h.n table w) ≡ h.n
   unfolding row_in
   row_long = length-take-le h.n (drop (h.n * w) table) (rw length-drop (omega (arith, row_within h table r w l)))
 
-  row_below : all_below h.field.p (row_in h.n table w) ≡ true
+  pub row_below : all_below h.field.p (row_in h.n table w) ≡ true
   unfolding row_in
   row_below = all_below-take h.field.p h.n (drop (h.n * w) table) (all_below-drop h.field.p (h.n * w) table r.flat.below)
 
@@ -539,47 +548,47 @@ module _ (i next at count : ℕ) (list owners : List ℕ) (d : Owns i owners at 
 pub ruleset own_parts = (rules, own_room, own_fits, own_put)
 
 -- ---- a party's own, gate by gate
-unfoldable pub inputs_at : Plan → ℕ → List ℕ → Gate → ℕ → ℕ → List ℕ
-inputs_at plan i xs x next from = own_of i (input_owners_at plan x) (drop next xs)
+unfoldable pub inputs_at : Plan → ℕ → List ℕ → Gate → ℕ → ℕ → ℕ → List ℕ
+inputs_at plan i xs x next from spent = own_of i (input_owners_at plan x) (drop next xs)
 
-unfoldable pub coins_at : Plan → ℕ → List ℕ → Gate → ℕ → ℕ → List ℕ
-coins_at plan i cs x next from = own_of i (coin_owners_at plan x) (drop from cs)
+unfoldable pub coins_at : Plan → ℕ → List ℕ → Gate → ℕ → ℕ → ℕ → List ℕ
+coins_at plan i cs x next from spent = own_of i (coin_owners_at plan x) (drop from cs)
 
 module _ (plan : Plan) (i : ℕ) (xs : List ℕ) where
-  inputs_gathered : (gs : List Gate) (next from : ℕ) → own_of i (flat_map (input_owners_at plan) gs) (drop next xs) ≡ gathered (inputs_at plan i xs) plan next from gs
+  inputs_gathered : (gs : List Gate) (next from spent : ℕ) → own_of i (flat_map (input_owners_at plan) gs) (drop next xs) ≡ gathered (inputs_at plan i xs) plan next from spent gs
   unfolding gathered inputs_at flat_map own_of
-  inputs_gathered [] next from = refl
-  inputs_gathered (x ∷ gs) next from =
+  inputs_gathered [] next from spent = refl
+  inputs_gathered (x ∷ gs) next from spent =
       own-append i (input_owners_at plan x) (flat_map (input_owners_at plan) gs) (drop next xs)
       ∙ ap (λ (l : List ℕ). own_of i (input_owners_at plan x) (drop next xs) ++ l)
       (ap (own_of i (flat_map (input_owners_at plan) gs)) (drop-drop (length (input_owners_at plan x)) next xs)
-      ∙ inputs_gathered gs (next + length (input_owners_at plan x)) (from + length (coin_owners_at plan x)))
+      ∙ inputs_gathered gs (next + length (input_owners_at plan x)) (from + length (coin_owners_at plan x)) (spent + triples_taken x))
 
-  coins_gathered : (gs : List Gate) (next from : ℕ) → own_of i (flat_map (coin_owners_at plan) gs) (drop from xs) ≡ gathered (coins_at plan i xs) plan next from gs
+  coins_gathered : (gs : List Gate) (next from spent : ℕ) → own_of i (flat_map (coin_owners_at plan) gs) (drop from xs) ≡ gathered (coins_at plan i xs) plan next from spent gs
   unfolding gathered coins_at flat_map own_of
-  coins_gathered [] next from = refl
-  coins_gathered (x ∷ gs) next from =
+  coins_gathered [] next from spent = refl
+  coins_gathered (x ∷ gs) next from spent =
       own-append i (coin_owners_at plan x) (flat_map (coin_owners_at plan) gs) (drop from xs)
       ∙ ap (λ (l : List ℕ). own_of i (coin_owners_at plan x) (drop from xs) ++ l)
       (ap (own_of i (flat_map (coin_owners_at plan) gs)) (drop-drop (length (coin_owners_at plan x)) from xs)
-      ∙ coins_gathered gs (next + length (input_owners_at plan x)) (from + length (coin_owners_at plan x)))
+      ∙ coins_gathered gs (next + length (input_owners_at plan x)) (from + length (coin_owners_at plan x)) (spent + triples_taken x))
 
   module _ (at next : ℕ) (old new : List ℕ) where
-    pub input_at : (x : Gate) (k from : ℕ) → Wrote (own_of i (input_owners_at plan x) (drop k xs)) at old new next → Wrote (inputs_at plan i xs x k from) at old new next
+    pub input_at : (x : Gate) (k from spent : ℕ) → Wrote (own_of i (input_owners_at plan x) (drop k xs)) at old new next → Wrote (inputs_at plan i xs x k from spent) at old new next
     unfolding inputs_at
-    input_at x k from w = w
+    input_at x k from spent w = w
 
-    pub coin_at : (x : Gate) (k from : ℕ) → Wrote (own_of i (coin_owners_at plan x) (drop from xs)) at old new next → Wrote (coins_at plan i xs x k from) at old new next
+    pub coin_at : (x : Gate) (k from spent : ℕ) → Wrote (own_of i (coin_owners_at plan x) (drop from xs)) at old new next → Wrote (coins_at plan i xs x k from spent) at old new next
     unfolding coins_at
-    coin_at x k from w = w
+    coin_at x k from spent w = w
 
-    pub inputs_put : Wrote (gathered (inputs_at plan i xs) plan 0 0 plan.gates) at old new next → Wrote (own_inputs plan i xs) at old new next
+    pub inputs_put : Wrote (gathered (inputs_at plan i xs) plan 0 0 0 plan.gates) at old new next → Wrote (own_inputs plan i xs) at old new next
     unfolding own_inputs input_owners
-    inputs_put w = wrote_as _ _ at next old new (sym (inputs_gathered plan.gates 0 0)) w
+    inputs_put w = wrote_as _ _ at next old new (sym (inputs_gathered plan.gates 0 0 0)) w
 
-    pub coins_put : Wrote (gathered (coins_at plan i xs) plan 0 0 plan.gates) at old new next → Wrote (own_coins plan i xs) at old new next
+    pub coins_put : Wrote (gathered (coins_at plan i xs) plan 0 0 0 plan.gates) at old new next → Wrote (own_coins plan i xs) at old new next
     unfolding own_coins coin_owners
-    coins_put w = wrote_as _ _ at next old new (sym (coins_gathered plan.gates 0 0)) w
+    coins_put w = wrote_as _ _ at next old new (sym (coins_gathered plan.gates 0 0 0)) w
 
 pub ruleset own_gates = (rules, input_at, coin_at)
 
@@ -717,8 +726,8 @@ zeros_below : (p n : ℕ) → Ready p → all_below p (replicate n 0) ≡ true
 zeros_below p n r = rw (← tab-replicate {A = ℕ} 0 n) (all_below-tab p (λ i. 0) n (λ i l. omega (arith, r.prime.above)))
 
 -- the dealings of a run
-module _ (plan : Plan) (h : Header) (xs cs table : List ℕ) (ran : Ran plan h xs cs table) where
-  row_stands : (w : ℕ) → w < h.gates → Rowed h.field.p h.n w table
+module _ (plan : Plan) (h : Header) (xs cs ts table : List ℕ) (ran : Ran plan h xs cs ts table) where
+  pub row_stands : (w : ℕ) → w < h.gates → Rowed h.field.p h.n w table
   unfolding row_in
   row_stands w l = record { room = row_within h table ran.running w l; below = row_below h table ran.running w l }
 
@@ -985,30 +994,75 @@ pub multiply_as : (r q : Rule) (h : Header) (points table cs : List ℕ) (x a b 
     → Wrote (multiply_in q h points table cs x a b from) at old new next
 multiply_as r q h points table cs x a b from at next old new e w = rw (← e) at w
 
+-- ---- the openings of a gate that spends a triple
+module _ (bs : List ℕ) (h : Header) (pl : Planned bs h) (p t : ℕ) (points ws : List ℕ) (fitted : Fitted bs h p t points ws) where
+  parties_are : length points ≡ h.n
+  parties_are = points_count bs h pl p t points ws fitted
+
+  pub spent_next : (spent : ℕ) (ts : List ℕ) → Spending h.field.p h.n 3 spent ts → Spending p (length points) 3 spent ts
+  spent_next spent ts s = rw (fitted.field, parties_are) s
+
+  -- a difference of party j
+  difference_read : (w k spent : ℕ) (ts table row : List ℕ) (j : ℕ) → j < h.n → take (length points) row ≡ differences_of p (length points) w k ts spent table
+      → get_or row j 0 ≡ get_or (differences_of h.field.p h.n w k ts spent table) (j + 1 - 1) 0
+  difference_read w k spent ts table row j l e =
+      let q : j ≡ j + 1 - 1 = omega arith in
+      sym (get_or-take (length points) row j 0 (omega (arith, parties_are)))
+      ∙ ap (λ (r : List ℕ). get_or r j 0) (e ∙ ap₂ (λ (f n : ℕ). differences_of f n w k ts spent table) fitted.field parties_are)
+      ∙ ap (λ (i : ℕ). get_or (differences_of h.field.p h.n w k ts spent table) i 0) q
+
+  -- what party j opens
+  opened_two : (a b spent : ℕ) (ts table left right : List ℕ) (j : ℕ) → j < h.n → take (length points) left ≡ differences_of p (length points) a 0 ts spent table
+      → take (length points) right ≡ differences_of p (length points) b 1 ts spent table
+      → get_or left j 0 ∷ get_or right j 0 ∷ [] ≡ opens_in h.field.p h.n table ts a b spent (j + 1)
+  unfolding opens_in
+  opened_two a b spent ts table left right j l el er =
+      ap₂ (λ (x y : ℕ). x ∷ y ∷ []) (difference_read a 0 spent ts table left j l el) (difference_read b 1 spent ts table right j l er)
+
+  -- the invariant after party j
+  pub openings_next : (a b spent : ℕ) (ts table left right : List ℕ) (at : ℕ) (old new : List ℕ) (next j : ℕ) (new' : List ℕ) (next' : ℕ) → j < h.n
+      → take (length points) left ≡ differences_of p (length points) a 0 ts spent table → take (length points) right ≡ differences_of p (length points) b 1 ts spent table
+      → Rounding (opens_in h.field.p h.n table ts a b spent) bs at old new next j → Wrote (get_or left j 0 ∷ get_or right j 0 ∷ []) next new new' next'
+      → Rounding (opens_in h.field.p h.n table ts a b spent) bs at old new' next' (j + 1)
+  openings_next a b spent ts table left right at old new next j new' next' l el er s w =
+      rounds_next (opens_in h.field.p h.n table ts a b spent) bs at old h new next j s pl new' next' l (wrote_as _ _ next next' new new' (opened_two a b spent ts table left right j l el er) w)
+
+pub openings_done : (bs : List ℕ) (h : Header) (pl : Planned bs h) (table ts : List ℕ) (a b spent at : ℕ) (old new : List ℕ) (next j : ℕ)
+    → Rounding (opens_in h.field.p h.n table ts a b spent) bs at old new next j → h.n ≤ j → Wrote (openings_in h.field.p h.n table ts a b spent) at old new next
+unfolding openings_in parties
+openings_done bs h pl table ts a b spent at old new next j s l =
+    wrote_as _ _ at next old new (ap (λ (n : ℕ). flat_map (opens_in h.field.p h.n table ts a b spent) (tab suc n)) (plan_n pl)) (rounds_end (opens_in h.field.p h.n table ts a b spent) bs at old h new next j s pl l)
+
+pub ruleset openings = (rules, rounds_all, openings_done)
+
 -- ---- the mail of a gate's steps
-module _ (h : Header) (points table xs cs : List ℕ) (x next from at : ℕ) (old new : List ℕ) (next' : ℕ) (gate : Gate) where
+module _ (h : Header) (points table xs cs ts : List ℕ) (x next from spent at : ℕ) (old new : List ℕ) (next' : ℕ) (gate : Gate) where
   pub multiply_pieces : (a b : ℕ) → gate ≡ Multiply a b → Wrote (multiply_in h.rule h points table cs x a b from) at old new next'
-      → Wrote (pieces_in h points table xs cs x gate next from) at old new next'
+      → Wrote (pieces_in h points table xs cs ts x gate next from spent) at old new next'
   unfolding pieces_in
   multiply_pieces a b e w = rw e w
 
-  pub random_pieces : gate ≡ Random → Wrote (pieces_of h.field.p (draws_of h.n (drop next xs)) h.t cs from h.t x) at old new next' → Wrote (pieces_in h points table xs cs x gate next from) at old new next'
+  pub random_pieces : gate ≡ Random → Wrote (pieces_of h.field.p (draws_of h.n (drop next xs)) h.t cs from h.t x) at old new next' → Wrote (pieces_in h points table xs cs ts x gate next from spent) at old new next'
   unfolding pieces_in
   random_pieces e w = rw e w
 
-none_seen : (h : Header) (points table xs cs : List ℕ) (x next from : ℕ) (gate : Gate) → ((a b : ℕ) → gate ≡ Multiply a b → ⊥) → (gate ≡ Random → ⊥) → pieces_in h points table xs cs x gate next from ≡ []
-unfolding pieces_in
-none_seen h points table xs cs x next from (Input i) n r = refl
-none_seen h points table xs cs x next from (Add a b) n r = refl
-none_seen h points table xs cs x next from (Scale a c) n r = refl
-none_seen h points table xs cs x next from (Offset a c) n r = refl
-none_seen h points table xs cs x next from (Multiply a b) n r = absurd (n a b refl)
-none_seen h points table xs cs x next from Random n r = absurd (r refl)
-none_seen h points table xs cs x next from (Spend a b) n r = refl
+  pub spent_pieces : (a b : ℕ) → gate ≡ Spend a b → Wrote (openings_in h.field.p h.n table ts a b spent) at old new next' → Wrote (pieces_in h points table xs cs ts x gate next from spent) at old new next'
+  unfolding pieces_in
+  spent_pieces a b e w = rw e w
 
-pub no_pieces : (h : Header) (points table xs cs : List ℕ) (x next from : ℕ) (gate : Gate) → ((a b : ℕ) → gate ≡ Multiply a b → ⊥) → (gate ≡ Random → ⊥)
-    → (at : ℕ) (old : List ℕ) → at ≤ length old / width → Wrote (pieces_in h points table xs cs x gate next from) at old old at
-no_pieces h points table xs cs x next from gate n r at old l = rw (none_seen h points table xs cs x next from gate n r) (wrote_none at old l)
+none_seen : (h : Header) (points table xs cs ts : List ℕ) (x next from spent : ℕ) (gate : Gate) → ((a b : ℕ) → gate ≡ Multiply a b → ⊥) → (gate ≡ Random → ⊥) → ((a b : ℕ) → gate ≡ Spend a b → ⊥) → pieces_in h points table xs cs ts x gate next from spent ≡ []
+unfolding pieces_in
+none_seen h points table xs cs ts x next from spent (Input i) n r o = refl
+none_seen h points table xs cs ts x next from spent (Add a b) n r o = refl
+none_seen h points table xs cs ts x next from spent (Scale a c) n r o = refl
+none_seen h points table xs cs ts x next from spent (Offset a c) n r o = refl
+none_seen h points table xs cs ts x next from spent (Multiply a b) n r o = absurd (n a b refl)
+none_seen h points table xs cs ts x next from spent Random n r o = absurd (r refl)
+none_seen h points table xs cs ts x next from spent (Spend a b) n r o = absurd (o a b refl)
+
+pub no_pieces : (h : Header) (points table xs cs ts : List ℕ) (x next from spent : ℕ) (gate : Gate) → ((a b : ℕ) → gate ≡ Multiply a b → ⊥) → (gate ≡ Random → ⊥) → ((a b : ℕ) → gate ≡ Spend a b → ⊥)
+    → (at : ℕ) (old : List ℕ) → at ≤ length old / width → Wrote (pieces_in h points table xs cs ts x gate next from spent) at old old at
+no_pieces h points table xs cs ts x next from spent gate n r o at old l = rw (none_seen h points table xs cs ts x next from spent gate n r o) (wrote_none at old l)
 
 module _ (bs : List ℕ) (h : Header) (gate : Gate) (pl : Planned bs h) where
   module _ (a b : ℕ) (e : gate ≡ Multiply a b) where
@@ -1039,8 +1093,20 @@ module _ (bs : List ℕ) (h : Header) (gate : Gate) (pl : Planned bs h) where
     pub gate_coins : (from : ℕ) (coins : List ℕ) → from + length (coin_owners_at (plan_of bs) gate) ≤ length coins / width → from + taken_by h.rule h ≤ length (numbers coins)
     gate_coins from coins room = omega (arith, gate_taken, numbers-length coins)
 
+  -- a gate that spends a triple
+  module _ (a b : ℕ) (e : gate ≡ Spend a b) where
+    pub gate_spends : Stands bs h.gates gate → Spends h a b
+    unfolding gate_ok
+    gate_spends s =
+        let ok = both_true (ltb a s.place) (ltb b s.place) (rw e at (gate-kept bs h pl s.place gate s.within s.is)) in
+        record { left = omega (arith, ltb-true a s.place ok.0, s.within); right = omega (arith, ltb-true b s.place ok.1, s.within) }
+
+    pub gate_spending : (spent : ℕ) (ts : List ℕ) → Spending h.field.p h.n (triples_taken gate) spent ts → Spending h.field.p h.n 3 spent ts
+    unfolding triples_taken is_kind kind_of
+    gate_spending spent ts s = let three : triples_taken gate ≡ 3 = ap triples_taken e in record { room = omega (arith, s.room); below = s.below }
+
   pub gate_draws : gate ≡ Random → (from : ℕ) (coins : List ℕ) → from + length (coin_owners_at (plan_of bs) gate) ≤ length coins / width → from + h.t * h.n ≤ length (numbers coins)
   gate_draws e from coins room = omega (arith, coins_random bs h pl gate e, numbers-length coins)
 
 -- As it is: answers name this set, since the check leaves their goals open by `using` alone.
-pub ruleset gate_pieces = (rules, reduction_room, truncation_room, reduces, truncates, cuts_by, multiply_by, multiply_as, gate_multiplies, gate_coins, gate_draws, multiply_pieces, random_pieces, no_pieces)
+pub ruleset gate_pieces = (rules, reduction_room, truncation_room, reduces, truncates, cuts_by, multiply_by, multiply_as, gate_multiplies, gate_coins, gate_draws, gate_spends, gate_spending, multiply_pieces, random_pieces, spent_pieces, no_pieces)

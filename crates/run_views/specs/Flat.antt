@@ -1,5 +1,5 @@
 -- The table of shares as the code holds it: flat, a row for each wire, in it a share for each party.
-use Rattle.std.specs.Prelude.{ℕ, ◌+◌, ◌-◌, ◌*◌, ◌<◌, ◌≤◌, ◌≡◌, true, length, take, drop, get_or, replicate}
+use Rattle.std.specs.Prelude.{ℕ, suc, ◌+◌, ◌-◌, ◌*◌, ◌<◌, ◌≤◌, ◌≡◌, true, length, take, drop, get_or, replicate}
 use mathlib.Core.List.{List, [], ◌∷◌, ◌++◌, map, flat_map}
 use Rattle.numbers.specs.Tables.{tab}
 use Rattle.numbers.specs.Bytes.{all_below}
@@ -13,9 +13,10 @@ use Rattle.plan.specs.declared.Gate.TheVariants.{Input, Add, Scale, Offset, Mult
 use Rattle.plan.specs.declared.Rule.{Rule}
 use Rattle.plan.specs.declared.Rule.TheVariants.{Reduction, Truncation}
 use Rattle.plan.specs.declared.Header.{Header}
-use Rattle.plan.specs.Plans.{Plan, parties, point_of, input_wires, out_wires, input_owners_at, coin_owners_at, input_count, coin_count, own_of, own_inputs, own_coins}
+use Rattle.plan.specs.Plans.{Plan, party_count, parties, point_of, input_wires, out_wires, input_owners_at, coin_owners_at, input_count, coin_count, triple_numbers, own_of, own_inputs, own_coins}
 use Rattle.plan.specs.File.{gate_at}
-use Rattle.run_dealings.specs.Rows.{powers, products_of, shared_by, draws_of, masked_of}
+use Rattle.run_protocol.specs.Shares.{triples_taken}
+use Rattle.run_dealings.specs.Rows.{powers, products_of, shared_by, draws_of, masked_of, differences_of}
 
 -- party i's share of wire w, of n parties
 unfoldable pub share_in : ℕ → List ℕ → ℕ → ℕ → ℕ
@@ -62,21 +63,29 @@ multiply_in Truncation h points table cs x a b from =
     ++ (masked_in h (masked_of h.field.p h.t points a b table (drop from cs)) cs from x
     ++ truncated_in h points (masked_of h.field.p h.t points a b table (drop from cs)) cs from x)
 
--- the mail of a gate's steps to the point x, when the gate's inputs begin at number i and its coins at `from`
-unfoldable pub pieces_in : Header → List ℕ → List ℕ → List ℕ → List ℕ → ℕ → Gate → ℕ → ℕ → List ℕ
-pieces_in h points table xs cs x (Input s) i from = []
-pieces_in h points table xs cs x (Add a b) i from = []
-pieces_in h points table xs cs x (Scale a c) i from = []
-pieces_in h points table xs cs x (Offset a c) i from = []
-pieces_in h points table xs cs x (Multiply a b) i from = multiply_in h.rule h points table cs x a b from
-pieces_in h points table xs cs x Random i from = pieces_of h.field.p (draws_of h.n (drop i xs)) h.t cs from h.t x
-pieces_in h points table xs cs x (Spend a b) i from = []
+-- what party i opens at a gate that spends a triple: its differences of wires a and b; and what all open
+unfoldable pub opens_in : ℕ → ℕ → List ℕ → List ℕ → ℕ → ℕ → ℕ → ℕ → List ℕ
+opens_in p n table ts a b spent i =
+    get_or (differences_of p n a 0 ts spent table) (i - 1) 0 ∷ get_or (differences_of p n b 1 ts spent table) (i - 1) 0 ∷ []
 
--- what each gate puts, by the places at which its inputs and its coins begin; those of the first gate begin at i and `from`
-unfoldable pub gathered : (Gate → ℕ → ℕ → List ℕ) → Plan → ℕ → ℕ → List Gate → List ℕ
-gathered f plan i from [] = []
-gathered f plan i from (x ∷ gs) =
-    f x i from ++ gathered f plan (i + length (input_owners_at plan x)) (from + length (coin_owners_at plan x)) gs
+unfoldable pub openings_in : ℕ → ℕ → List ℕ → List ℕ → ℕ → ℕ → ℕ → List ℕ
+openings_in p n table ts a b spent = flat_map (opens_in p n table ts a b spent) (tab suc n)
+
+-- the mail of a gate's steps to the point x, when the gate's inputs begin at number i, its coins at `from`, and each party's triple at `spent`
+unfoldable pub pieces_in : Header → List ℕ → List ℕ → List ℕ → List ℕ → List ℕ → ℕ → Gate → ℕ → ℕ → ℕ → List ℕ
+pieces_in h points table xs cs ts x (Input s) i from spent = []
+pieces_in h points table xs cs ts x (Add a b) i from spent = []
+pieces_in h points table xs cs ts x (Scale a c) i from spent = []
+pieces_in h points table xs cs ts x (Offset a c) i from spent = []
+pieces_in h points table xs cs ts x (Multiply a b) i from spent = multiply_in h.rule h points table cs x a b from
+pieces_in h points table xs cs ts x Random i from spent = pieces_of h.field.p (draws_of h.n (drop i xs)) h.t cs from h.t x
+pieces_in h points table xs cs ts x (Spend a b) i from spent = openings_in h.field.p h.n table ts a b spent
+
+-- what each gate puts, by the places at which its inputs, its coins and each party's triple begin; those of the first gate begin at i, `from` and `spent`
+unfoldable pub gathered : (Gate → ℕ → ℕ → ℕ → List ℕ) → Plan → ℕ → ℕ → ℕ → List Gate → List ℕ
+gathered f plan i from spent [] = []
+gathered f plan i from spent (x ∷ gs) =
+    f x i from spent ++ gathered f plan (i + length (input_owners_at plan x)) (from + length (coin_owners_at plan x)) (spent + triples_taken x) gs
 
 -- a flat table of elements of the field of p, for n parties and so many gates
 pub record Flat (p n gates : ℕ) (table : List ℕ) : Type 0 where
@@ -104,12 +113,14 @@ pub record PowerRow (h : Header) (x : ℕ) (ws : List ℕ) : Type 0 where
   pub are : ws ≡ powers h.field.p x (length ws)
   pub below : all_below h.field.p ws ≡ true
 
--- a run's inputs, coins and table
-pub record Ran (plan : Plan) (h : Header) (xs cs table : List ℕ) : Type 0 where
+-- a run's inputs, coins, triples and table
+pub record Ran (plan : Plan) (h : Header) (xs cs ts table : List ℕ) : Type 0 where
   pub inputs_full : length xs ≡ input_count plan
   pub inputs_below : all_below h.field.p xs ≡ true
   pub full : length cs ≡ coin_count plan
   pub below : all_below h.field.p cs ≡ true
+  pub triples_full : length ts ≡ party_count plan * triple_numbers plan
+  pub triples_below : all_below h.field.p ts ≡ true
   pub running : Running h table
 
 -- one of the gates of a plan file that has so many
@@ -121,6 +132,11 @@ pub record Stands (bs : List ℕ) (gates : ℕ) (gate : Gate) : Type 0 where
 -- a gate of a plan with these contents that multiplies wires a and b
 pub record Multiplies (h : Header) (a b : ℕ) : Type 0 where
   pub majority : 2 * h.t < h.n
+  pub left : a < h.gates
+  pub right : b < h.gates
+
+-- a gate of a plan with these contents that multiplies wires a and b by a triple
+pub record Spends (h : Header) (a b : ℕ) : Type 0 where
   pub left : a < h.gates
   pub right : b < h.gates
 
@@ -142,12 +158,12 @@ pub record Owns (i : ℕ) (owners : List ℕ) (at count : ℕ) : Type 0 where
   pub own : (xs : List ℕ) → length owners ≤ length xs → own_of i owners xs ≡ take count (drop at xs)
 
 -- all mail to party i
-unfoldable pub mail_in : Plan → Header → List ℕ → List ℕ → List ℕ → ℕ → List ℕ
-mail_in plan h table xs cs i =
+unfoldable pub mail_in : Plan → Header → List ℕ → List ℕ → List ℕ → List ℕ → ℕ → List ℕ
+mail_in plan h table xs cs ts i =
     first_in plan h.n table i
-    ++ (gathered (pieces_in h plan.points table xs cs (point_of plan i)) plan 0 0 plan.gates ++ outs_in plan h.n table i)
+    ++ (gathered (pieces_in h plan.points table xs cs ts (point_of plan i)) plan 0 0 0 plan.gates ++ outs_in plan h.n table i)
 
 -- party i's view
-unfoldable pub view_in : Plan → Header → List ℕ → List ℕ → List ℕ → ℕ → List ℕ
-view_in plan h table xs cs i =
-    own_inputs plan i xs ++ (own_coins plan i cs ++ (mail_in plan h table xs cs i ++ map (opened_in plan h table) (out_wires plan i)))
+unfoldable pub view_in : Plan → Header → List ℕ → List ℕ → List ℕ → List ℕ → ℕ → List ℕ
+view_in plan h table xs cs ts i =
+    own_inputs plan i xs ++ (own_coins plan i cs ++ (mail_in plan h table xs cs ts i ++ map (opened_in plan h table) (out_wires plan i)))

@@ -16,10 +16,10 @@ ghost use Rattle.plan.specs.declared.Rule.TheVariants.{Reduction, Truncation};
 ghost use Rattle.plan.specs.File.{plan_of, gate_place, gate_at};
 ghost use Rattle.plan_coalition.specs.Coalitions.{in_set, members};
 ghost use Rattle.run_protocol.specs.Rounds.{view_count};
-ghost use Rattle.run_protocol.specs.Shares.{share_table};
-ghost use Rattle.run_protocol.specs.Tables.{table_view_of};
-ghost use Rattle.run_dealings.specs.Rows.{rows_of, draws_of, shared_by, mixed_at, Fitted, Cutting, Ruling, Given};
-ghost use Rattle.run_views.specs.Flat.{share_in, first_in, outs_in, opened_in, pieces_of, multiply_in, pieces_in, mail_in, view_in, gathered, taken_by, Stands, Multiplies, Seen, Owns, PowerRow, Ran};
+ghost use Rattle.run_protocol.specs.Shares.{triples_taken, share_table};
+ghost use Rattle.run_protocol.specs.Tables.{table_view_of, triples_of};
+ghost use Rattle.run_dealings.specs.Rows.{rows_of, draws_of, shared_by, mixed_at, Fitted, Cutting, Ruling, Spending, Given};
+ghost use Rattle.run_views.specs.Flat.{share_in, first_in, outs_in, opened_in, pieces_of, multiply_in, openings_in, pieces_in, mail_in, view_in, gathered, taken_by, Stands, Multiplies, Spends, Seen, Owns, PowerRow, Ran};
 ghost use Rattle.run_views.specs.Writing.{Put};
 
 use crate::writer::Writer;
@@ -70,7 +70,7 @@ impl Writer<'_> {
 
 // ---- the run
 
-// A run that is seen: its plan, what its dealings are worked with, all inputs and coins, and its table of shares.
+// A run that is seen: its plan, what its dealings are worked with, all inputs, coins and triples, and its table of shares.
 #[derive(Clone, Copy)]
 struct Run<'a> {
     plan: &'a PlanFile<'a>,
@@ -78,10 +78,11 @@ struct Run<'a> {
     matrix: Option<Matrix<'a>>,
     inputs: &'a [u8],
     coins: &'a [u8],
+    triples: &'a [u8],
     table: &'a [u64],
     ghost fitted: { Fitted plan.now.bytes.now plan.now.header dealings.now.sums.field.p dealings.now.t dealings.now.points.now dealings.now.weights.now },
     ghost ruled: { Ruling plan.now.header.rule dealings.now.sums.field.p dealings.now.t dealings.now.points.now matrix },
-    ghost ran: { Ran (plan_of plan.now.bytes.now) plan.now.header (numbers inputs.now) (numbers coins.now) table.now },
+    ghost ran: { Ran (plan_of plan.now.bytes.now) plan.now.header (numbers inputs.now) (numbers coins.now) (numbers triples.now) table.now },
     ghost lent: { (length inputs.now < 2 ^ 63) × (length coins.now < 2 ^ 63) },
 }
 
@@ -153,21 +154,24 @@ impl Run<'_> {
         }
     }
 
-    // What each gate puts, by the places at which its inputs and its coins begin.
+    // What each gate puts, by the places at which its inputs, its coins and each party's triple begin.
     #[tactic(auto, using(crate::proofs::ViewLaws::gathering))]
-    fn put_gates<F: Fn(Gate, usize, usize, &mut Writer)>(&self, put: F, out: &mut Writer)
-        requires { (gate : Gate) (i from : ℕ) (w : _) → Stands self.now.plan.now.bytes.now self.now.plan.now.header.gates gate → i + length (input_owners_at (plan_of self.now.plan.now.bytes.now) gate) ≤ length self.now.inputs.now / width → from + length (coin_owners_at (plan_of self.now.plan.now.bytes.now) gate) ≤ length self.now.coins.now / width → F.pre put gate i from w }
-        ensures { (f : Gate → ℕ → ℕ → List ℕ) → ((gate : Gate) (i from : ℕ) (w w' : _) → F.post put gate i from w tt w' → Put (f gate i from) w.now w'.now)
-            → Put (gathered f (plan_of self.now.plan.now.bytes.now) 0 0 (plan_of self.now.plan.now.bytes.now).gates) out.old out.new }
+    fn put_gates<F: Fn(Gate, usize, usize, usize, &mut Writer)>(&self, put: F, out: &mut Writer)
+        requires { (gate : Gate) (i from spent : ℕ) (w : _) → Stands self.now.plan.now.bytes.now self.now.plan.now.header.gates gate → i + length (input_owners_at (plan_of self.now.plan.now.bytes.now) gate) ≤ length self.now.inputs.now / width → from + length (coin_owners_at (plan_of self.now.plan.now.bytes.now) gate) ≤ length self.now.coins.now / width
+            → Spending self.now.plan.now.header.field.p self.now.plan.now.header.n (triples_taken gate) spent (numbers self.now.triples.now) → F.pre put gate i from spent w }
+        ensures { (f : Gate → ℕ → ℕ → ℕ → List ℕ) → ((gate : Gate) (i from spent : ℕ) (w w' : _) → F.post put gate i from spent w tt w' → Put (f gate i from spent) w.now w'.now)
+            → Put (gathered f (plan_of self.now.plan.now.bytes.now) 0 0 0 (plan_of self.now.plan.now.bytes.now).gates) out.old out.new }
     {
         let gates = self.plan.gates();
         let mut i = 0;
         let mut from = 0;
+        let mut spent = 0;
         for g in 0..self.plan.header.gates {
             let gate = gates.gate(g);
-            put(gate, i, from, out);
+            put(gate, i, from, spent, out);
             i += run_ideal::inputs_taken(self.plan, gate);
             from += run_dealings::coins_taken(self.plan, gate);
+            spent += run_dealings::triples_taken(gate);
         }
     }
 
@@ -177,7 +181,7 @@ impl Run<'_> {
         requires set_bound { set < 2 ^ self.now.plan.now.header.n }
         requires le_i { 1 ≤ i }
         requires i_bound { i ≤ 16 }
-        ensures { Put (cond (in_set set i) (view_in (plan_of self.now.plan.now.bytes.now) self.now.plan.now.header self.now.table.now (numbers self.now.inputs.now) (numbers self.now.coins.now) i) []) out.old out.new }
+        ensures { Put (cond (in_set set i) (view_in (plan_of self.now.plan.now.bytes.now) self.now.plan.now.header self.now.table.now (numbers self.now.inputs.now) (numbers self.now.coins.now) (numbers self.now.triples.now) i) []) out.old out.new }
     {
         if plan_coalition::is_member(set, i) {
             Member { run: self, i }.write_view(out);
@@ -358,16 +362,37 @@ impl Pieces<'_> {
         self.put(&dealt, out);
     }
 
-    // The mail of a gate's steps, when its inputs begin at number `next` and its coins at number `from`.
+    // What all parties open where their next triples are spent: each one's differences of wires a and b.
+    #[tactic(auto, using(crate::proofs::ViewLaws::openings))]
+    fn put_openings(&self, a: usize, b: usize, spent: usize, out: &mut Writer)
+        requires spends { Spends self.now.run.now.plan.now.header a b }
+        requires spending { Spending self.now.run.now.plan.now.header.field.p self.now.run.now.plan.now.header.n 3 spent (numbers self.now.run.now.triples.now) }
+        ensures { Put (openings_in self.now.run.now.plan.now.header.field.p self.now.run.now.plan.now.header.n self.now.run.now.table.now (numbers self.now.run.now.triples.now) a b spent) out.old out.new }
+    {
+        let run = self.run;
+        let left = run
+            .dealings
+            .differences(a, 0, run.triples, spent, run.table);
+        let right = run
+            .dealings
+            .differences(b, 1, run.triples, spent, run.table);
+        for j in 0..run.plan.header.n {
+            out.put_row(&[left[j], right[j]]);
+        }
+    }
+
+    // The mail of a gate's steps, when its inputs begin at number `next`, its coins at number `from`, and each party's triple at number `spent`.
     #[tactic(auto, using(crate::proofs::ViewLaws::gate_pieces))]
-    fn put_steps(&self, gate: Gate, next: usize, from: usize, out: &mut Writer)
+    fn put_steps(&self, gate: Gate, next: usize, from: usize, spent: usize, out: &mut Writer)
         requires stands { Stands self.now.run.now.plan.now.bytes.now self.now.run.now.plan.now.header.gates gate }
         requires gate_in_bounds { from + length (coin_owners_at (plan_of self.now.run.now.plan.now.bytes.now) gate) ≤ length self.now.run.now.coins.now / width }
-        ensures { Put (pieces_in self.now.run.now.plan.now.header (plan_of self.now.run.now.plan.now.bytes.now).points self.now.run.now.table.now (numbers self.now.run.now.inputs.now) (numbers self.now.run.now.coins.now) (point_of (plan_of self.now.run.now.plan.now.bytes.now) self.now.i) gate next from) out.old out.new }
+        requires spending { Spending self.now.run.now.plan.now.header.field.p self.now.run.now.plan.now.header.n (triples_taken gate) spent (numbers self.now.run.now.triples.now) }
+        ensures { Put (pieces_in self.now.run.now.plan.now.header (plan_of self.now.run.now.plan.now.bytes.now).points self.now.run.now.table.now (numbers self.now.run.now.inputs.now) (numbers self.now.run.now.coins.now) (numbers self.now.run.now.triples.now) (point_of (plan_of self.now.run.now.plan.now.bytes.now) self.now.i) gate next from spent) out.old out.new }
     {
         match gate {
             Gate::Multiply(a, b) => self.put_multiply(a, b, from, out),
             Gate::Random => self.put_draws(next, from, out),
+            Gate::Spend(a, b) => self.put_openings(a, b, spent, out),
             _ => (),
         }
     }
@@ -480,7 +505,7 @@ impl Member<'_> {
         ensures { Put (own_inputs (plan_of self.now.run.now.plan.now.bytes.now) self.now.i (numbers self.now.run.now.inputs.now)) out.old out.new }
     {
         self.run.put_gates(
-            |gate, next, _from, out| self.put_inputs(gate, next, out),
+            |gate, next, _from, _spent, out| self.put_inputs(gate, next, out),
             out,
         );
     }
@@ -491,7 +516,7 @@ impl Member<'_> {
         ensures { Put (own_coins (plan_of self.now.run.now.plan.now.bytes.now) self.now.i (numbers self.now.run.now.coins.now)) out.old out.new }
     {
         self.run.put_gates(
-            |gate, _next, from, out| self.put_coins(gate, from, out),
+            |gate, _next, from, _spent, out| self.put_coins(gate, from, out),
             out,
         );
     }
@@ -528,7 +553,7 @@ impl Member<'_> {
     #[tactic(auto, using(crate::proofs::ViewLaws::stepping))]
     fn put_pieces(&self, powers: &[u64], out: &mut Writer)
         requires { PowerRow self.now.run.now.plan.now.header (point_of (plan_of self.now.run.now.plan.now.bytes.now) self.now.i) powers.now }
-        ensures { Put (gathered (pieces_in self.now.run.now.plan.now.header (plan_of self.now.run.now.plan.now.bytes.now).points self.now.run.now.table.now (numbers self.now.run.now.inputs.now) (numbers self.now.run.now.coins.now) (point_of (plan_of self.now.run.now.plan.now.bytes.now) self.now.i)) (plan_of self.now.run.now.plan.now.bytes.now) 0 0 (plan_of self.now.run.now.plan.now.bytes.now).gates) out.old out.new }
+        ensures { Put (gathered (pieces_in self.now.run.now.plan.now.header (plan_of self.now.run.now.plan.now.bytes.now).points self.now.run.now.table.now (numbers self.now.run.now.inputs.now) (numbers self.now.run.now.coins.now) (numbers self.now.run.now.triples.now) (point_of (plan_of self.now.run.now.plan.now.bytes.now) self.now.i)) (plan_of self.now.run.now.plan.now.bytes.now) 0 0 0 (plan_of self.now.run.now.plan.now.bytes.now).gates) out.old out.new }
     {
         let pieces = Pieces {
             run: self.run,
@@ -536,7 +561,7 @@ impl Member<'_> {
             powers,
         };
         self.run.put_gates(
-            |gate, next, from, out| pieces.put_steps(gate, next, from, out),
+            |gate, next, from, spent, out| pieces.put_steps(gate, next, from, spent, out),
             out,
         );
     }
@@ -544,7 +569,7 @@ impl Member<'_> {
     // The mail of all gates' steps. Truncation has dealings with 2t coins, and takes more powers of the point than the run has.
     #[tactic(auto, using(crate::proofs::ViewLaws::stepping))]
     fn write_steps(&self, out: &mut Writer)
-        ensures { Put (gathered (pieces_in self.now.run.now.plan.now.header (plan_of self.now.run.now.plan.now.bytes.now).points self.now.run.now.table.now (numbers self.now.run.now.inputs.now) (numbers self.now.run.now.coins.now) (point_of (plan_of self.now.run.now.plan.now.bytes.now) self.now.i)) (plan_of self.now.run.now.plan.now.bytes.now) 0 0 (plan_of self.now.run.now.plan.now.bytes.now).gates) out.old out.new }
+        ensures { Put (gathered (pieces_in self.now.run.now.plan.now.header (plan_of self.now.run.now.plan.now.bytes.now).points self.now.run.now.table.now (numbers self.now.run.now.inputs.now) (numbers self.now.run.now.coins.now) (numbers self.now.run.now.triples.now) (point_of (plan_of self.now.run.now.plan.now.bytes.now) self.now.i)) (plan_of self.now.run.now.plan.now.bytes.now) 0 0 0 (plan_of self.now.run.now.plan.now.bytes.now).gates) out.old out.new }
     {
         let dealings = self.run.dealings;
         let j = self.i - 1;
@@ -561,7 +586,7 @@ impl Member<'_> {
     // All mail to the party.
     #[tactic(auto, using(crate::proofs::JoinLaws::joining))]
     fn write_mail(&self, out: &mut Writer)
-        ensures { Put (mail_in (plan_of self.now.run.now.plan.now.bytes.now) self.now.run.now.plan.now.header self.now.run.now.table.now (numbers self.now.run.now.inputs.now) (numbers self.now.run.now.coins.now) self.now.i) out.old out.new }
+        ensures { Put (mail_in (plan_of self.now.run.now.plan.now.bytes.now) self.now.run.now.plan.now.header self.now.run.now.table.now (numbers self.now.run.now.inputs.now) (numbers self.now.run.now.coins.now) (numbers self.now.run.now.triples.now) self.now.i) out.old out.new }
     {
         self.write_first(out);
         self.write_steps(out);
@@ -571,7 +596,7 @@ impl Member<'_> {
     // The party's view.
     #[tactic(auto, using(crate::proofs::JoinLaws::joining))]
     fn write_view(&self, out: &mut Writer)
-        ensures { Put (view_in (plan_of self.now.run.now.plan.now.bytes.now) self.now.run.now.plan.now.header self.now.run.now.table.now (numbers self.now.run.now.inputs.now) (numbers self.now.run.now.coins.now) self.now.i) out.old out.new }
+        ensures { Put (view_in (plan_of self.now.run.now.plan.now.bytes.now) self.now.run.now.plan.now.header self.now.run.now.table.now (numbers self.now.run.now.inputs.now) (numbers self.now.run.now.coins.now) (numbers self.now.run.now.triples.now) self.now.i) out.old out.new }
     {
         self.write_inputs(out);
         self.write_coins(out);
@@ -589,14 +614,15 @@ pub fn write_views(
     set: u16,
     inputs: &[u8],
     coins: &[u8],
+    triples: &[u8],
     table: &[u64],
     out: &mut [u8],
 )
-    requires given { Given (plan_of run.now.plan.now.bytes.now) inputs.now coins.now }
-    requires table_value { table.now ≡ rows_of (plan_of run.now.plan.now.bytes.now).points (share_table (plan_of run.now.plan.now.bytes.now) (numbers inputs.now) (numbers coins.now) []) }
+    requires given { Given (plan_of run.now.plan.now.bytes.now) inputs.now coins.now triples.now }
+    requires table_value { table.now ≡ rows_of (plan_of run.now.plan.now.bytes.now).points (share_table (plan_of run.now.plan.now.bytes.now) (numbers inputs.now) (numbers coins.now) (triples_of (plan_of run.now.plan.now.bytes.now) (numbers triples.now))) }
     requires set_bound { set < 2 ^ run.now.plan.now.header.n }
     requires out_len { length out.old ≡ width * view_count (plan_of run.now.plan.now.bytes.now) (members set) }
-    ensures { out.new ≡ bytes_of (flat_map (table_view_of (plan_of run.now.plan.now.bytes.now) (numbers inputs.now) (numbers coins.now) []) (members set)) }
+    ensures { out.new ≡ bytes_of (flat_map (table_view_of (plan_of run.now.plan.now.bytes.now) (numbers inputs.now) (numbers coins.now) (triples_of (plan_of run.now.plan.now.bytes.now) (numbers triples.now))) (members set)) }
 {
     let seen = Run {
         plan: run.plan,
@@ -604,6 +630,7 @@ pub fn write_views(
         matrix: run.matrix,
         inputs,
         coins,
+        triples,
         table,
     };
     let mut writer = Writer { out, at: 0 };

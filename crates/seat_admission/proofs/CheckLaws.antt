@@ -1,9 +1,10 @@
 -- What each way through the checks of a call says of its definition.
 --     listing              a lent list: its count and its numbers
+--     tripling             lent triples: their numbers and their count
 --     stating              the state
 --     opening, each        an out's shares, and the outs one after the other
---     owning, mailing      refusals 9 to 13, and 17 to 20
---     ordering             refusals 9 to 20
+--     owning, mailing      refusals 9 to 13 with 29, and 17 to 20
+--     ordering             refusals 9 to 20 and 29
 -- Assumes nothing.
 use Rattle.std.proofs.Common.{Option, Some, None, Ok, Err}
 use mathlib.Core.Path.{◌≡◌, sym, ap, ap₂, ◌∙◌}
@@ -33,7 +34,7 @@ use Rattle.plan.specs.Refusals.{Checked}
 use Rattle.plan.specs.declared.Refusal.{Refusal}
 use Rattle.plan.specs.declared.Refusal.TheVariants as refusal
 use Rattle.plan.specs.Refusals.{and_then, first_of, need, unless_found}
-use Rattle.plan.specs.Plans.{party_count, own_input_count, own_coin_count, own_out_count, last_call, mail_count, written_count}
+use Rattle.plan.specs.Plans.{party_count, own_input_count, own_coin_count, own_out_count, triple_numbers, last_call, mail_count, written_count}
 use Rattle.plan.specs.File.{between, plan_of}
 use Rattle.plan.specs.Planned.{Planned}
 use Rattle.plan.proofs.Refusals.{and_then_passed, and_then_refused, and_then_end, first_of-nil, first_of-cons, first_of-append, need-true, need-false, found_at, found_nothing, passed_both, passed_found, Tried, try_refused, trying}
@@ -41,7 +42,7 @@ use Rattle.plan.proofs.Planned.{plan_t, plan_p, plan_n, plan_gates}
 use Rattle.seat_messages.specs.Messages.{from_each}
 use Rattle.seat_messages.specs.Calls.{on_polynomial, outs_check, opening_check, party_checks}
 use Rattle.seat_messages.proofs.PointLaws.{plan_points_long, plan_points_below, points-within, points-count}
-use Rattle.seat_admission.specs.Parts.{list_checks, own_checks, state_checks, mail_checks, out_check}
+use Rattle.seat_admission.specs.Parts.{list_checks, triple_checks, own_checks, state_checks, mail_checks, out_check}
 use Rattle.seat_results.proofs.ResultLaws.{shares_long, shares_below}
 
 -- ---- a lent list
@@ -60,6 +61,23 @@ module _ (few : Refusal) (over : ℕ → Refusal) (p count : ℕ) (bs : List ℕ
     list-passed h = rw (← et, ht, ← ef, h)
 
 pub ruleset listing = (rules, not-true, not-false, list-few, list_over, list-passed)
+
+-- ---- lent triples
+module _ (p count : ℕ) (bs : List ℕ) (f : Option ℕ) (ef : f ≡ first_over p (numbers bs)) where
+  pub triples-over : (i : ℕ) → f ≡ Some i → Err (refusal.CoinValue i) ≡ first_of (triple_checks p count bs)
+  unfolding triple_checks first_of and_then unless_found
+  triples-over i h = rw (← ef, h)
+
+  module _ (h : f ≡ None) (t : Bool) (et : t ≡ holds_count count bs) where
+    pub triples-few : t ≡ false → Err refusal.Triples ≡ first_of (triple_checks p count bs)
+    unfolding triple_checks first_of and_then need unless_found
+    triples-few n = rw (← ef, h, ← et, n)
+
+    pub triples-passed : t ≡ true → (Ok tt) ≡ first_of (triple_checks p count bs)
+    unfolding triple_checks first_of and_then need unless_found
+    triples-passed y = rw (← ef, h, ← et, y)
+
+pub ruleset tripling = (rules, not-true, not-false, triples-over, triples-few, triples-passed)
 
 -- ---- the state
 module _ (p gates last : ℕ) (bs : List ℕ) (t : Bool) (et : t ≡ holds_count (1 + gates) bs) where
@@ -159,52 +177,62 @@ out_stops bs mail own i j c r h l eo is e = outs_are bs mail own i eo (Err r) (s
 pub ruleset each = (rules, trying, out_stops, used_fits, used_within, points-within, points-count, points_over, points-few, points-many, opened-below, used-rows, out_here, outs_are)
 
 module _ (bs : List ℕ) (h : Header) (pl : Planned bs h) (i : ℕ) where
-  -- refusals 9 to 13
-  module _ (inputs coins : List ℕ) where
-    own-under : i < 1 → Err refusal.Coalition ≡ first_of (own_checks (plan_of bs) i inputs coins)
+  -- refusals 9 to 13 and 29
+  module _ (inputs coins triples : List ℕ) where
+    own-under : i < 1 → Err refusal.Coalition ≡ first_of (own_checks (plan_of bs) i inputs coins triples)
     unfolding own_checks first_of and_then need between
     own-under l = rw (lt-leb 1 i l)
 
-    own-over : 1 ≤ i → h.n < i → Err refusal.Coalition ≡ first_of (own_checks (plan_of bs) i inputs coins)
+    own-over : 1 ≤ i → h.n < i → Err refusal.Coalition ≡ first_of (own_checks (plan_of bs) i inputs coins triples)
     unfolding own_checks first_of and_then need between
     own-over l m = rw (le-leb 1 i l, plan_n pl, lt-leb i h.n m)
 
-    pub own-outside : (i < 1) ⊎ (h.n < i) → Err refusal.Coalition ≡ first_of (own_checks (plan_of bs) i inputs coins)
+    pub own-outside : (i < 1) ⊎ (h.n < i) → Err refusal.Coalition ≡ first_of (own_checks (plan_of bs) i inputs coins triples)
     own-outside (inl l) = own-under l
     own-outside (inr m) = own-over (omega (arith, pl.n_low)) m
 
     module _ (l : 1 ≤ i) (m : i ≤ h.n) (k : ℕ) (ek : k ≡ own_input_count (plan_of bs) i) (c : Checked) (ec : c ≡ first_of (list_checks refusal.InputCount refusal.InputValue h.field.p k inputs)) where
-      own-parts : first_of (own_checks (plan_of bs) i inputs coins) ≡ and_then c (first_of (list_checks refusal.CoinCount refusal.CoinValue h.field.p (own_coin_count (plan_of bs) i) coins))
+      -- those after the inputs'
+      abbrev inputs_of : ℕ → ℕ → Checked
+      inputs_of p n = first_of (list_checks refusal.InputCount refusal.InputValue p n inputs)
+
+      abbrev rest_of : ℕ → Checked
+      rest_of p = first_of (list_checks refusal.CoinCount refusal.CoinValue p (own_coin_count (plan_of bs) i) coins ++ triple_checks p (triple_numbers (plan_of bs)) triples)
+
+      own-parts : first_of (own_checks (plan_of bs) i inputs coins triples) ≡ and_then c (rest_of h.field.p)
       unfolding own_checks between
       own-parts =
           first_of-cons (need refusal.Coalition (between 1 (party_count (plan_of bs)) i)) _
           ∙ and_then_passed (need refusal.Coalition (between 1 (party_count (plan_of bs)) i)) _
           (need-true refusal.Coalition (between 1 (party_count (plan_of bs)) i) (rw (plan_n pl, le-leb 1 i l, le-leb i h.n m)))
           ∙ first_of-append (list_checks refusal.InputCount refusal.InputValue (plan_of bs).p (own_input_count (plan_of bs) i) inputs)
-          (list_checks refusal.CoinCount refusal.CoinValue (plan_of bs).p (own_coin_count (plan_of bs) i) coins)
-          ∙ ap (λ (p : ℕ). and_then (inputs_of p (own_input_count (plan_of bs) i)) (coins_of_lem p)) (plan_p pl)
-          ∙ ap (λ (n : ℕ). and_then (inputs_of h.field.p n) (coins_of_lem h.field.p)) (sym ek)
-          ∙ ap (λ (d : Checked). and_then d (coins_of_lem h.field.p)) (sym ec)
-        where
-          inputs_of : ℕ → ℕ → Checked
-          inputs_of p n = first_of (list_checks refusal.InputCount refusal.InputValue p n inputs)
+          (list_checks refusal.CoinCount refusal.CoinValue (plan_of bs).p (own_coin_count (plan_of bs) i) coins ++ triple_checks (plan_of bs).p (triple_numbers (plan_of bs)) triples)
+          ∙ ap (λ (p : ℕ). and_then (inputs_of p (own_input_count (plan_of bs) i)) (rest_of p)) (plan_p pl)
+          ∙ ap (λ (n : ℕ). and_then (inputs_of h.field.p n) (rest_of h.field.p)) (sym ek)
+          ∙ ap (λ (d : Checked). and_then d (rest_of h.field.p)) (sym ec)
 
-          coins_of_lem : ℕ → Checked
-          coins_of_lem p = first_of (list_checks refusal.CoinCount refusal.CoinValue p (own_coin_count (plan_of bs) i) coins)
-
-      pub own-inputs : (r : Refusal) → c ≡ Err r → Err r ≡ first_of (own_checks (plan_of bs) i inputs coins)
+      pub own-inputs : (r : Refusal) → c ≡ Err r → Err r ≡ first_of (own_checks (plan_of bs) i inputs coins triples)
       own-inputs r e = sym (own-parts ∙ and_then_refused c _ r e)
 
-      pub own-coins : c ≡ (Ok tt) → (d : ℕ) → d ≡ own_coin_count (plan_of bs) i → (r : Checked) → r ≡ first_of (list_checks refusal.CoinCount refusal.CoinValue h.field.p d coins)
-          → r ≡ first_of (own_checks (plan_of bs) i inputs coins)
-      own-coins e d ed r er =
-          er
-          ∙ sym
-          (own-parts
-          ∙ and_then_passed c _ e
-          ∙ ap (λ (n : ℕ). first_of (list_checks refusal.CoinCount refusal.CoinValue h.field.p n coins)) (sym ed))
+      module _ (e : c ≡ (Ok tt)) (d : ℕ) (ed : d ≡ own_coin_count (plan_of bs) i) (r : Checked) (er : r ≡ first_of (list_checks refusal.CoinCount refusal.CoinValue h.field.p d coins)) where
+        abbrev triples_of : ℕ → Checked
+        triples_of n = first_of (triple_checks h.field.p n triples)
 
-pub ruleset owning = (rules, own-outside, own-inputs, own-coins)
+        coins-parts : first_of (own_checks (plan_of bs) i inputs coins triples) ≡ and_then r (triples_of (triple_numbers (plan_of bs)))
+        coins-parts =
+            own-parts
+            ∙ and_then_passed c _ e
+            ∙ first_of-append (list_checks refusal.CoinCount refusal.CoinValue h.field.p (own_coin_count (plan_of bs) i) coins) (triple_checks h.field.p (triple_numbers (plan_of bs)) triples)
+            ∙ ap (λ (n : ℕ). and_then (first_of (list_checks refusal.CoinCount refusal.CoinValue h.field.p n coins)) (triples_of (triple_numbers (plan_of bs)))) (sym ed)
+            ∙ ap (λ (q : Checked). and_then q (triples_of (triple_numbers (plan_of bs)))) (sym er)
+
+        pub own-coins : (q : Refusal) → r ≡ Err q → Err q ≡ first_of (own_checks (plan_of bs) i inputs coins triples)
+        own-coins q f = sym (coins-parts ∙ and_then_refused r _ q f)
+
+        pub own-triples : r ≡ (Ok tt) → (n : ℕ) → n ≡ triple_numbers (plan_of bs) → (z : Checked) → z ≡ first_of (triple_checks h.field.p n triples) → z ≡ first_of (own_checks (plan_of bs) i inputs coins triples)
+        own-triples f n en z ez = ez ∙ sym (coins-parts ∙ and_then_passed r _ f ∙ ap triples_of (sym en))
+
+pub ruleset owning = (rules, own-outside, own-inputs, own-coins, own-triples)
 
 -- refusals 17 to 20
 pub list_below : (few : Refusal) (over : ℕ → Refusal) (p n : ℕ) (bs : List ℕ) (c : Checked) → c ≡ first_of (list_checks few over p n bs) → c ≡ (Ok tt) → all_below p (numbers bs) ≡ true
@@ -256,31 +284,31 @@ module _ (bs : List ℕ) (h : Header) (pl : Planned bs h) (i k : ℕ) (mail : Li
 
 pub ruleset mailing = (rules, mail_below, mail-refused, mail-room, mail-early, mail-last)
 
--- refusals 9 to 20
-module _ (bs : List ℕ) (h : Header) (pl : Planned bs h) (i : ℕ) (inputs coins state mail : List ℕ) (room : ℕ) where
-  all-parts : first_of (party_checks (plan_of bs) i inputs coins state mail room)
-      ≡ and_then (first_of (own_checks (plan_of bs) i inputs coins))
+-- refusals 9 to 20 and 29
+module _ (bs : List ℕ) (h : Header) (pl : Planned bs h) (i : ℕ) (inputs coins triples state mail : List ℕ) (room : ℕ) where
+  all-parts : first_of (party_checks (plan_of bs) i inputs coins triples state mail room)
+      ≡ and_then (first_of (own_checks (plan_of bs) i inputs coins triples))
       (and_then (first_of (state_checks (plan_of bs).p (length (plan_of bs).gates) (last_call (plan_of bs)) state)) (first_of (mail_checks (plan_of bs) i (get_or (numbers state) 0 0) mail room)))
-  unfolding party_checks own_checks state_checks mail_checks list_checks
+  unfolding party_checks own_checks state_checks mail_checks list_checks triple_checks
   all-parts =
-      first_of-append (own_checks (plan_of bs) i inputs coins)
+      first_of-append (own_checks (plan_of bs) i inputs coins triples)
       (state_checks (plan_of bs).p (length (plan_of bs).gates) (last_call (plan_of bs)) state ++ mail_checks (plan_of bs) i (get_or (numbers state) 0 0) mail room)
-      ∙ ap (and_then (first_of (own_checks (plan_of bs) i inputs coins)))
+      ∙ ap (and_then (first_of (own_checks (plan_of bs) i inputs coins triples)))
       (first_of-append (state_checks (plan_of bs).p (length (plan_of bs).gates) (last_call (plan_of bs)) state) (mail_checks (plan_of bs) i (get_or (numbers state) 0 0) mail room))
 
-  module _ (a : Checked) (ea : a ≡ first_of (own_checks (plan_of bs) i inputs coins)) where
-    pub check-own : (r : Refusal) → a ≡ Err r → Err r ≡ first_of (party_checks (plan_of bs) i inputs coins state mail room)
+  module _ (a : Checked) (ea : a ≡ first_of (own_checks (plan_of bs) i inputs coins triples)) where
+    pub check-own : (r : Refusal) → a ≡ Err r → Err r ≡ first_of (party_checks (plan_of bs) i inputs coins triples state mail room)
     check-own r e = sym (all-parts ∙ and_then_refused _ _ r (sym ea ∙ e))
 
     module _ (pa : a ≡ (Ok tt)) (m : ℕ) (em : m ≡ last_call (plan_of bs)) (b : Checked) (eb : b ≡ first_of (state_checks h.field.p h.gates m state)) where
       kept : b ≡ first_of (state_checks (plan_of bs).p (length (plan_of bs).gates) (last_call (plan_of bs)) state)
       kept = eb ∙ ap₂ (λ (p g : ℕ). first_of (state_checks p g m state)) (sym (plan_p pl)) (sym (plan_gates pl)) ∙ ap (λ (n : ℕ). first_of (state_checks (plan_of bs).p (length (plan_of bs).gates) n state)) em
 
-      pub check-kept : (r : Refusal) → b ≡ Err r → Err r ≡ first_of (party_checks (plan_of bs) i inputs coins state mail room)
+      pub check-kept : (r : Refusal) → b ≡ Err r → Err r ≡ first_of (party_checks (plan_of bs) i inputs coins triples state mail room)
       check-kept r e = sym (all-parts ∙ and_then_passed _ _ (sym ea ∙ pa) ∙ and_then_refused _ _ r (sym kept ∙ e))
 
       pub check-all : b ≡ (Ok tt) → (k : ℕ) → k ≡ get_or (numbers state) 0 0 → (c : Checked) → c ≡ first_of (mail_checks (plan_of bs) i k mail room)
-          → c ≡ first_of (party_checks (plan_of bs) i inputs coins state mail room)
+          → c ≡ first_of (party_checks (plan_of bs) i inputs coins triples state mail room)
       check-all pb k ek c ec =
           ec
           ∙ ap (λ (n : ℕ). first_of (mail_checks (plan_of bs) i n mail room)) ek

@@ -1,11 +1,11 @@
--- Refusals 9 to 20 in parts: one list of checks for each thing that a call takes.
+-- Refusals 9 to 20 and 29 in parts: one list of checks for each thing that a call takes.
 use Rattle.std.specs.Prelude.{ℕ, suc, ◌+◌, ◌*◌, not, ◌&&◌, List, [], ◌∷◌, ◌++◌, eqb, leb, drop, get_or}
 use Rattle.numbers.specs.Bytes.{width, numbers, holds_count, first_over, all_below}
 use Rattle.plan.specs.Refusals.{Checked}
 use Rattle.plan.specs.declared.Refusal.{Refusal}
 use Rattle.plan.specs.declared.Refusal.TheVariants as refusal
 use Rattle.plan.specs.Refusals.{need, unless_found}
-use Rattle.plan.specs.Plans.{Plan, party_count, own_input_count, own_coin_count, mail_count, written_count}
+use Rattle.plan.specs.Plans.{Plan, party_count, own_input_count, own_coin_count, triple_numbers, mail_count, written_count}
 use Rattle.plan.specs.File.{between}
 use Rattle.seat_messages.specs.Messages.{from_each}
 use Rattle.seat_messages.specs.Calls.{on_polynomial, opening_check}
@@ -14,12 +14,17 @@ use Rattle.seat_messages.specs.Calls.{on_polynomial, opening_check}
 unfoldable pub list_checks : Refusal → (ℕ → Refusal) → ℕ → ℕ → List ℕ → List Checked
 list_checks few over p count bs = need few (holds_count count bs) ∷ unless_found over (first_over p (numbers bs)) ∷ []
 
--- refusals 9 to 13
-unfoldable pub own_checks : Plan → ℕ → List ℕ → List ℕ → List Checked
-own_checks plan i inputs coins =
+-- refusals 13 and 29 of lent triples: the first of their numbers that isn't below p, then their count
+unfoldable pub triple_checks : ℕ → ℕ → List ℕ → List Checked
+triple_checks p count bs = unless_found refusal.CoinValue (first_over p (numbers bs)) ∷ need refusal.Triples (holds_count count bs) ∷ []
+
+-- refusals 9 to 13 and 29
+unfoldable pub own_checks : Plan → ℕ → List ℕ → List ℕ → List ℕ → List Checked
+own_checks plan i inputs coins triples =
     need refusal.Coalition (between 1 (party_count plan) i)
     ∷ list_checks refusal.InputCount refusal.InputValue plan.p (own_input_count plan i) inputs
-    ++ list_checks refusal.CoinCount refusal.CoinValue plan.p (own_coin_count plan i) coins
+    ++ (list_checks refusal.CoinCount refusal.CoinValue plan.p (own_coin_count plan i) coins
+    ++ triple_checks plan.p (triple_numbers plan) triples)
 
 -- refusals 14 to 16 for a plan of so many gates, with this last call
 unfoldable pub state_checks : ℕ → ℕ → ℕ → List ℕ → List Checked

@@ -1,4 +1,4 @@
-// Refusals 9 to 20 of a party's call, in their order.
+// Refusals 9 to 20 and 29 of a party's call, in their order.
 #![tactic(auto)]
 
 ghost use Rattle.std.specs.Prelude.{◌≡◌, true, ℕ, ◌<◌, ◌≤◌, length};
@@ -9,7 +9,7 @@ ghost use Rattle.plan.specs.Refusals.{first_of};
 ghost use Rattle.plan.specs.File.{plan_of};
 ghost use Rattle.seat_messages.specs.Messages.{from_each};
 ghost use Rattle.seat_messages.specs.Calls.{on_polynomial, outs_check, party_checks};
-ghost use Rattle.seat_admission.specs.Parts.{list_checks, own_checks, state_checks, mail_checks};
+ghost use Rattle.seat_admission.specs.Parts.{list_checks, triple_checks, own_checks, state_checks, mail_checks};
 
 use plan::Refusal;
 use plan_counts::Seat;
@@ -55,6 +55,21 @@ pub fn check_coins(coins: &[u8], count: usize, p: u64) -> Result<(), Refusal>
     ensures { result ≡ first_of (list_checks refusal.CoinCount refusal.CoinValue p count coins.now) }
 {
     check_list(coins, count, p, Refusal::CoinCount, Refusal::CoinValue)
+}
+
+// Refusals 13 and 29 of triples: their numbers come before their count.
+// As it is: the count is what the list has to hold, which its length is compared with.
+#[tactic(auto, using(crate::proofs::CheckLaws::tripling))]
+pub fn check_triples(triples: &[u8], count: usize, p: u64) -> Result<(), Refusal>
+    ensures { result ≡ first_of (triple_checks p count triples.now) }
+{
+    if let Some(i) = numbers::first_over(triples, p) {
+        return Err(Refusal::CoinValue(i));
+    }
+    if !numbers::count_is(triples, count) {
+        return Err(Refusal::Triples);
+    }
+    Ok(())
 }
 
 // Refusals 14 to 16, for a plan of so many gates, with this last call.
@@ -118,17 +133,18 @@ fn check_outs(seat: &Seat, mail: &[u8]) -> Result<(), Refusal>
 
 // ---- the checks in their order
 
-// Refusals 9 to 13.
+// Refusals 9 to 13 and 29.
 #[tactic(auto, using(crate::proofs::CheckLaws::owning))]
-fn check_own(seat: &Seat, lists: &Lists) -> Result<(), Refusal>
-    ensures { result ≡ first_of (own_checks (plan_of seat.now.plan.now.bytes.now) seat.now.party lists.now.inputs.now lists.now.coins.now) }
+fn check_own(seat: &Seat, lists: &Lists, triples: &[u8]) -> Result<(), Refusal>
+    ensures { result ≡ first_of (own_checks (plan_of seat.now.plan.now.bytes.now) seat.now.party lists.now.inputs.now lists.now.coins.now triples.now) }
 {
     let h = seat.plan.header;
     if seat.party < 1 || h.n < seat.party {
         return Err(Refusal::Coalition);
     }
     check_inputs(lists.inputs, seat.own_inputs(), h.field.p)?;
-    check_coins(lists.coins, seat.own_coins(), h.field.p)
+    check_coins(lists.coins, seat.own_coins(), h.field.p)?;
+    check_triples(triples, seat.own_triples(), h.field.p)
 }
 
 // Refusals 17 to 20 of call number k.
@@ -148,13 +164,19 @@ fn check_mail(seat: &Seat, k: usize, mail: &[u8], room: usize) -> Result<(), Ref
     check_outs(seat, mail)
 }
 
-// Refusals 9 to 20 of the party's call; `room` is the length of the buffer to be written.
+// Refusals 9 to 20 and 29 of the party's call; `room` is the length of the buffer to be written.
 #[tactic(auto, using(crate::proofs::CheckLaws::ordering))]
-pub fn check(seat: &Seat, lists: &Lists, state: &[u8], room: usize) -> Result<(), Refusal>
-    ensures { result ≡ first_of (party_checks (plan_of seat.now.plan.now.bytes.now) seat.now.party lists.now.inputs.now lists.now.coins.now state.now lists.now.mail.now room) }
+pub fn check(
+    seat: &Seat,
+    lists: &Lists,
+    triples: &[u8],
+    state: &[u8],
+    room: usize,
+) -> Result<(), Refusal>
+    ensures { result ≡ first_of (party_checks (plan_of seat.now.plan.now.bytes.now) seat.now.party lists.now.inputs.now lists.now.coins.now triples.now state.now lists.now.mail.now room) }
 {
     let h = seat.plan.header;
-    check_own(seat, lists)?;
+    check_own(seat, lists, triples)?;
     check_state(state, h.gates, seat.last_call(), h.field.p)?;
     let k = numbers::read(state, 0);
     check_mail(seat, k as usize, lists.mail, room)

@@ -27,7 +27,7 @@ use Rattle.numbers.specs.Bytes.{limit, numbers, stored, all_below}
 use Rattle.numbers.proofs.Tables.{length-tab, get_or-tab}
 use Rattle.numbers.proofs.Bytes.{numbers-stored}
 use Rattle.numbers.proofs.Below.{all_below-set, all_below-take, all_below-drop}
-use Rattle.field.specs.Mod.{add, mul}
+use Rattle.field.specs.Mod.{add, mul, sub}
 use Rattle.field.specs.Field.{Is, Ready}
 use Rattle.sharing_laws.specs.Basis.{sum_all}
 use Rattle.sharing_laws.specs.Interp.{weights, dot, interpolate}
@@ -41,7 +41,7 @@ use Rattle.plan.specs.declared.Gate.TheVariants.{Input, Add, Scale, Offset, Mult
 use Rattle.plan.specs.declared.Step.{Step}
 use Rattle.plan.specs.declared.Step.TheVariants.{DealInputs, DealProduct, DealZero, DealMasked, SendTruncated, DealDraws, OpenSpent, SendOuts}
 use Rattle.plan.specs.declared.Header.{Header}
-use Rattle.plan.specs.Plans.{Plan, parties, dealer_count, dealer_points, kind_of, is_kind, multiplying, is_input_of, wires_from, input_wires}
+use Rattle.plan.specs.Plans.{Plan, parties, dealer_count, dealer_points, kind_of, is_kind, multiplying, is_input_of, wires_from, input_wires, triple_at}
 use Rattle.plan.specs.File.{gate_at, plan_of}
 use Rattle.plan.specs.Planned.{Planned}
 use Rattle.plan.proofs.Wires.{length-input_wires}
@@ -51,7 +51,7 @@ use Rattle.plan_counts.specs.Counts.{IsGate, Stepped}
 use Rattle.plan_counts.proofs.Steps.{stepped-product}
 use Rattle.seat_learning.specs.Lent.{Holds}
 use Rattle.seat_results.proofs.ResultLaws.{shares_long, shares_below, dot_from_one}
-use Rattle.seat_messages.specs.Messages.{from_each, work_gate, work_from, set_all, wires_by_party, learnt, resume_at, learn_from}
+use Rattle.seat_messages.specs.Messages.{from_each, work_gate, work_from, set_all, wires_by_party, opened_at, spent_share, learnt, resume_at, learn_from}
 
 -- ---- a plan that passes
 module _ (bs : List ℕ) (h : Header) (k : Planned bs h) where
@@ -315,38 +315,53 @@ pub ruleset opening = (rules, firsts_within, firsts_long, firsts_count, pieces-o
 
 -- ---- a step's mail
 -- the other steps of a plan teach nothing
-learnt_none : (plan : Plan) (step : Step) (xs mail : List ℕ) → Stepped plan step → (step ≡ DealInputs → ⊥) → ((g a b : ℕ) → step ≡ DealProduct g a b → ⊥) → ((g : ℕ) → step ≡ SendTruncated g → ⊥) → ((g : ℕ) → step ≡ DealDraws g → ⊥)
-    → learnt plan step [] xs mail ≡ xs
-unfolding learnt Stepped
-learnt_none plan DealInputs xs mail is inputs product truncated draws = absurd (inputs refl)
-learnt_none plan (DealProduct g a b) xs mail is inputs product truncated draws = absurd (product g a b refl)
-learnt_none plan (DealZero g) xs mail is inputs product truncated draws = refl
-learnt_none plan (DealMasked g a b) xs mail is inputs product truncated draws = refl
-learnt_none plan (SendTruncated g) xs mail is inputs product truncated draws = absurd (truncated g refl)
-learnt_none plan (DealDraws g) xs mail is inputs product truncated draws = absurd (draws g refl)
-learnt_none plan (OpenSpent g a b) xs mail is inputs product truncated draws = absurd is
-learnt_none plan SendOuts xs mail is inputs product truncated draws = refl
+learnt_none : (plan : Plan) (step : Step) (ts xs mail : List ℕ) → (step ≡ DealInputs → ⊥) → ((g a b : ℕ) → step ≡ DealProduct g a b → ⊥) → ((g : ℕ) → step ≡ SendTruncated g → ⊥) → ((g : ℕ) → step ≡ DealDraws g → ⊥)
+    → ((g a b : ℕ) → step ≡ OpenSpent g a b → ⊥)
+    → learnt plan step ts xs mail ≡ xs
+unfolding learnt
+learnt_none plan DealInputs ts xs mail inputs product truncated draws spent = absurd (inputs refl)
+learnt_none plan (DealProduct g a b) ts xs mail inputs product truncated draws spent = absurd (product g a b refl)
+learnt_none plan (DealZero g) ts xs mail inputs product truncated draws spent = refl
+learnt_none plan (DealMasked g a b) ts xs mail inputs product truncated draws spent = refl
+learnt_none plan (SendTruncated g) ts xs mail inputs product truncated draws spent = absurd (truncated g refl)
+learnt_none plan (DealDraws g) ts xs mail inputs product truncated draws spent = absurd (draws g refl)
+learnt_none plan (OpenSpent g a b) ts xs mail inputs product truncated draws spent = absurd (spent g a b refl)
+learnt_none plan SendOuts ts xs mail inputs product truncated draws spent = refl
 
-module _ (bs : List ℕ) (h : Header) (k : Planned bs h) (step : Step) (mail s d : List ℕ) where
+module _ (bs : List ℕ) (h : Header) (k : Planned bs h) (step : Step) (ts mail s d : List ℕ) where
   -- a step's wire is learnt
   known : (g v x : ℕ) → Is h.field.p x v → d ≡ stored s g v → numbers d ≡ set (numbers s) g x
   known g v x i q = written s d _ g v (omega (arith, i.lt, (planned-ready bs h k).small)) q (rw i.eq)
 
-  pub learnt_inputs : step ≡ DealInputs → numbers d ≡ set_all (numbers s) (wires_by_party (plan_of bs)) mail → numbers d ≡ learnt (plan_of bs) step [] (numbers s) mail
+  pub learnt_inputs : step ≡ DealInputs → numbers d ≡ set_all (numbers s) (wires_by_party (plan_of bs)) mail → numbers d ≡ learnt (plan_of bs) step ts (numbers s) mail
   unfolding learnt
   learnt_inputs e q = rw e q
 
-  pub learnt-product : (g a b v : ℕ) → step ≡ DealProduct g a b → Is h.field.p (opened h.field.p (h.t + h.t) (plan_of bs).points mail) v → d ≡ stored s g v → numbers d ≡ learnt (plan_of bs) step [] (numbers s) mail
+  pub learnt-product : (g a b v : ℕ) → step ≡ DealProduct g a b → Is h.field.p (opened h.field.p (h.t + h.t) (plan_of bs).points mail) v → d ≡ stored s g v → numbers d ≡ learnt (plan_of bs) step ts (numbers s) mail
   unfolding learnt opened interpolate dealer_points dealer_count
   learnt-product g a b v e i q = rw (e, plan_p k, plan_t k) (known g v _ i q)
 
-  pub learnt_truncated : (g v : ℕ) → step ≡ SendTruncated g → Is h.field.p (opened h.field.p h.t (plan_of bs).points mail) v → d ≡ stored s g v → numbers d ≡ learnt (plan_of bs) step [] (numbers s) mail
+  pub learnt_truncated : (g v : ℕ) → step ≡ SendTruncated g → Is h.field.p (opened h.field.p h.t (plan_of bs).points mail) v → d ≡ stored s g v → numbers d ≡ learnt (plan_of bs) step ts (numbers s) mail
   unfolding learnt
   learnt_truncated g v e i q = rw (e, plan_p k, plan_t k) (known g v _ i q)
 
-  pub learnt_draws : (g v : ℕ) → step ≡ DealDraws g → Is h.field.p (sum_all h.field.p mail) v → d ≡ stored s g v → numbers d ≡ learnt (plan_of bs) step [] (numbers s) mail
+  pub learnt_draws : (g v : ℕ) → step ≡ DealDraws g → Is h.field.p (sum_all h.field.p mail) v → d ≡ stored s g v → numbers d ≡ learnt (plan_of bs) step ts (numbers s) mail
   unfolding learnt
   learnt_draws g v e i q = rw (e, plan_p k) (known g v _ i q)
+
+  pub learnt_spent : (g a b v : ℕ) → step ≡ OpenSpent g a b
+      → Is h.field.p (spent_share h.field.p (get_or ts (triple_at (plan_of bs) g + 2) 0) (get_or (numbers s) a 0) (get_or (numbers s) b 0) (opened_at (plan_of bs) 2 0 mail) (opened_at (plan_of bs) 2 1 mail)) v
+      → d ≡ stored s g v → numbers d ≡ learnt (plan_of bs) step ts (numbers s) mail
+  unfolding learnt
+  learnt_spent g a b v e i q =
+      let wires : List ℕ = numbers s in
+      let share : ℕ → ℕ = λ p. spent_share p (get_or ts (triple_at (plan_of bs) g + 2) 0) (get_or wires a 0) (get_or wires b 0) (opened_at (plan_of bs) 2 0 mail) (opened_at (plan_of bs) 2 1 mail) in
+      rw e (known g v (share h.field.p) i q ∙ ap (λ (p : ℕ). set wires g (share p)) (sym (plan_p k)))
+
+  -- a spent triple is that of a gate of the plan
+  pub spent_inside : (g a b : ℕ) → Stepped (plan_of bs) step → step ≡ OpenSpent g a b → g ≤ h.gates
+  unfolding Stepped
+  spent_inside g a b i e = omega (arith, (subst (Stepped (plan_of bs)) e i).within, plan_gates k)
 
   -- a product's step has its majority
   pub product_majority : (g a b : ℕ) → Stepped (plan_of bs) step → step ≡ DealProduct g a b → h.t + h.t < h.n
@@ -355,12 +370,12 @@ module _ (bs : List ℕ) (h : Header) (k : Planned bs h) (step : Step) (mail s d
       let at : IsGate (plan_of bs) g (Multiply a b) = stepped-product (plan_of bs) step g a b i e in
       omega (arith, (valid bs k.passes).majority g at.within (ap multiplying at.is), plan_t k, plan_n k)
 
-pub learnt_other : (plan : Plan) (step : Step) (xs mail : List ℕ) → Stepped plan step → (step ≡ DealInputs → ⊥) → ((g a b : ℕ) → step ≡ DealProduct g a b → ⊥) → ((g : ℕ) → step ≡ SendTruncated g → ⊥) → ((g : ℕ) → step ≡ DealDraws g → ⊥)
-    → xs ≡ learnt plan step [] xs mail
-learnt_other plan step xs mail is inputs product truncated draws = sym (learnt_none plan step xs mail is inputs product truncated draws)
+pub learnt_other : (plan : Plan) (step : Step) (ts xs mail : List ℕ) → (step ≡ DealInputs → ⊥) → ((g a b : ℕ) → step ≡ DealProduct g a b → ⊥) → ((g : ℕ) → step ≡ SendTruncated g → ⊥) → ((g : ℕ) → step ≡ DealDraws g → ⊥)
+    → ((g a b : ℕ) → step ≡ OpenSpent g a b → ⊥) → xs ≡ learnt plan step ts xs mail
+learnt_other plan step ts xs mail inputs product truncated draws spent = sym (learnt_none plan step ts xs mail inputs product truncated draws spent)
 
 -- As it is: answers name this set, since the check leaves their goals open by `using` alone.
-pub ruleset learning_mail = (rules, product_majority, learnt_inputs, learnt-product, learnt_truncated, learnt_draws, learnt_other)
+pub ruleset learning_mail = (rules, product_majority, spent_inside, learnt_inputs, learnt-product, learnt_truncated, learnt_draws, learnt_spent, learnt_other)
 
 -- ---- where the work goes on
 module _ (plan : Plan) (step : Step) where
@@ -405,7 +420,7 @@ module _ (bs : List ℕ) (h : Header) (k : Planned bs h) (step : Step) where
   past_fits i g (inl (a, b, e)) = record { fits = omega (arith, (stepped-product (plan_of bs) step g a b i e).within, plan_gates k, k.gates-high) }
   past_fits i g (inr (inl e)) = record { fits = omega (arith, (subst (Stepped (plan_of bs)) e i).0.within, plan_gates k, k.gates-high) }
   past_fits i g (inr (inr (inl e))) = record { fits = omega (arith, (subst (Stepped (plan_of bs)) e i).within, plan_gates k, k.gates-high) }
-  past_fits i g (inr (inr (inr (a, b, e)))) = absurd (subst (Stepped (plan_of bs)) e i)
+  past_fits i g (inr (inr (inr (a, b, e)))) = record { fits = omega (arith, (subst (Stepped (plan_of bs)) e i).within, plan_gates k, k.gates-high) }
 
 -- As it is: answers name this set, since the check leaves their goals open by `using` alone.
 pub ruleset resuming = (rules, resume_inputs, resume-product, resume-zero, resume_masked, resume_truncated, resume_draws, resume_spent, resume_outs, past_fits)
@@ -417,7 +432,7 @@ set_all_below p r xs [] vs b m = b
 set_all_below p r xs (w ∷ ws) vs b m =
     set_all_below p r (set xs w (get_or vs 0 0)) ws (drop 1 vs) (all_below-set p w (get_or vs 0 0) xs b (entry_below p vs 0 r m)) (all_below-drop p 1 vs m)
 
-dot_below : (p : ℕ) → 0 < p → (ws vs : List ℕ) → dot p ws vs < p
+pub dot_below : (p : ℕ) → 0 < p → (ws vs : List ℕ) → dot p ws vs < p
 unfolding dot add
 dot_below p l [] vs = l
 dot_below p l (w ∷ ws) [] = l
@@ -429,27 +444,27 @@ sum_below p l [] = l
 sum_below p l (v ∷ vs) = mod-lt _ {m = p} l
 
 -- what a step's mail makes known is below the prime
-learnt_below : (plan : Plan) → Ready plan.p → (step : Step) (xs mail : List ℕ) → Stepped plan step → all_below plan.p xs ≡ true → all_below plan.p mail ≡ true → all_below plan.p (learnt plan step [] xs mail) ≡ true
-unfolding learnt Stepped opened interpolate
-learnt_below plan r DealInputs xs mail i b m = set_all_below plan.p r xs (wires_by_party plan) mail b m
-learnt_below plan r (DealProduct g a c) xs mail i b m = all_below-set plan.p g _ xs b (dot_below plan.p (omega (arith, r.prime.above)) _ mail)
-learnt_below plan r (DealZero g) xs mail i b m = b
-learnt_below plan r (DealMasked g a c) xs mail i b m = b
-learnt_below plan r (SendTruncated g) xs mail i b m = all_below-set plan.p g _ xs b (dot_below plan.p (omega (arith, r.prime.above)) _ mail)
-learnt_below plan r (DealDraws g) xs mail i b m = all_below-set plan.p g _ xs b (sum_below plan.p (omega (arith, r.prime.above)) mail)
-learnt_below plan r (OpenSpent g a c) xs mail i b m = absurd i
-learnt_below plan r SendOuts xs mail i b m = b
+learnt_below : (plan : Plan) → Ready plan.p → (step : Step) (ts xs mail : List ℕ) → all_below plan.p xs ≡ true → all_below plan.p mail ≡ true → all_below plan.p (learnt plan step ts xs mail) ≡ true
+unfolding learnt opened interpolate spent_share sub
+learnt_below plan r DealInputs ts xs mail b m = set_all_below plan.p r xs (wires_by_party plan) mail b m
+learnt_below plan r (DealProduct g a c) ts xs mail b m = all_below-set plan.p g _ xs b (dot_below plan.p (omega (arith, r.prime.above)) _ mail)
+learnt_below plan r (DealZero g) ts xs mail b m = b
+learnt_below plan r (DealMasked g a c) ts xs mail b m = b
+learnt_below plan r (SendTruncated g) ts xs mail b m = all_below-set plan.p g _ xs b (dot_below plan.p (omega (arith, r.prime.above)) _ mail)
+learnt_below plan r (DealDraws g) ts xs mail b m = all_below-set plan.p g _ xs b (sum_below plan.p (omega (arith, r.prime.above)) mail)
+learnt_below plan r (OpenSpent g a c) ts xs mail b m = all_below-set plan.p g _ xs b (mod-lt _ {m = plan.p} (omega (arith, r.prime.above)))
+learnt_below plan r SendOuts ts xs mail b m = b
 
-pub learnt_elements : (bs : List ℕ) (h : Header) → Planned bs h → (step : Step) (xs mail d : List ℕ) → Stepped (plan_of bs) step → all_below h.field.p xs ≡ true → all_below h.field.p mail ≡ true
-    → d ≡ learnt (plan_of bs) step [] xs mail → all_below h.field.p d ≡ true
-learnt_elements bs h k step xs mail d i b m e =
+pub learnt_elements : (bs : List ℕ) (h : Header) → Planned bs h → (step : Step) (ts xs mail d : List ℕ) → all_below h.field.p xs ≡ true → all_below h.field.p mail ≡ true
+    → d ≡ learnt (plan_of bs) step ts xs mail → all_below h.field.p d ≡ true
+learnt_elements bs h k step ts xs mail d b m e =
     let q = plan_p k in
-    ap (all_below h.field.p) e ∙ rw (← q) (learnt_below (plan_of bs) (rw q (planned-ready bs h k)) step xs mail i (rw q b) (rw q m))
+    ap (all_below h.field.p) e ∙ rw (← q) (learnt_below (plan_of bs) (rw q (planned-ready bs h k)) step ts xs mail (rw q b) (rw q m))
 
-pub learnt_worked : (bs : List ℕ) (h : Header) (step : Step) (from : ℕ) (mail s d e : List ℕ) → Planned bs h → from ≡ resume_at (plan_of bs) step
-    → numbers d ≡ learnt (plan_of bs) step [] (numbers s) mail → Holds h.field.p (work_from h.field.p from (drop from (plan_of bs).gates) (numbers d)) e
-    → Holds h.field.p (learn_from (plan_of bs) step [] (numbers s) mail) e
+pub learnt_worked : (bs : List ℕ) (h : Header) (step : Step) (from : ℕ) (ts mail s d e : List ℕ) → Planned bs h → from ≡ resume_at (plan_of bs) step
+    → numbers d ≡ learnt (plan_of bs) step ts (numbers s) mail → Holds h.field.p (work_from h.field.p from (drop from (plan_of bs).gates) (numbers d)) e
+    → Holds h.field.p (learn_from (plan_of bs) step ts (numbers s) mail) e
 unfolding learn_from
-learnt_worked bs h step from mail s d e k q m n = record { eq = rw (n.eq, m, q, plan_p k); below = n.below }
+learnt_worked bs h step from ts mail s d e k q m n = record { eq = rw (n.eq, m, q, plan_p k); below = n.below }
 
 pub ruleset learning = (rules, learnt_elements, learnt_worked)

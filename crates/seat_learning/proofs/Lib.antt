@@ -1,1 +1,2 @@
 pub mod LearnLaws
+pub mod SpentLaws

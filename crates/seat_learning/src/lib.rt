@@ -1,4 +1,4 @@
-// What a call learns from its mail, and works on its shares.
+// What a call learns from its mail, works on its shares, and spends.
 #![tactic(auto)]
 
 ghost use Rattle.std.specs.Prelude.{◌≡◌, true, cond, [], ◌<◌, ◌≤◌, ◌+◌, ◌*◌, length, drop, get_or, set};
@@ -6,11 +6,12 @@ ghost use Rattle.numbers.specs.Bytes.{numbers, all_below};
 ghost use Rattle.field.specs.Field.{Is};
 ghost use Rattle.sharing_laws.specs.Basis.{sum_all};
 ghost use Rattle.sharing_laws.specs.Sharing.{opened};
-ghost use Rattle.plan.specs.Plans.{is_input_of, input_wires};
+ghost use Rattle.plan.specs.Plans.{is_input_of, input_wires, triple_at};
 ghost use Rattle.plan.specs.File.{gate_ok, plan_of};
 ghost use Rattle.plan_counts.specs.Counts.{Stepped};
 ghost use Rattle.seat_learning.specs.Lent.{Holds, Stepped-prop};
-ghost use Rattle.seat_messages.specs.Messages.{work_gate, work_from, set_all, wires_by_party, learnt, resume_at, learn_from};
+ghost use Rattle.seat_messages.specs.Messages.{work_gate, work_from, set_all, wires_by_party, opened_at, spent_share, learnt, resume_at, learn_from, spend_from};
+ghost use Rattle.seat_results.specs.Opened.{opened_outs};
 
 use plan::{Gate, Header, PlanFile, Step};
 
@@ -63,14 +64,16 @@ fn work_from(plan: &PlanFile, from: usize, shares: &mut [u8])
 
 // ---- the mail
 
-// The mail that a step of the plan brings: numbers below the plan's prime.
+// The mail that a step of the plan brings, and the triples that the party has then: numbers below the plan's prime.
 #[derive(Clone, Copy)]
 struct Mail<'a> {
     plan: &'a PlanFile<'a>,
     step: Step,
     bytes: &'a [u8],
+    triples: &'a [u8],
     ghost stepped: { Stepped (plan_of plan.now.bytes.now) step } by { Stepped-prop (plan_of plan.now.bytes.now) step },
     ghost below: { all_below plan.now.header.field.p (numbers bytes.now) ≡ true },
+    ghost triples_below: { all_below plan.now.header.field.p (numbers triples.now) ≡ true },
 }
 
 impl Mail<'_> {
@@ -132,12 +135,41 @@ impl Mail<'_> {
         sharing_openings::opened(self.plan.header.field, d, &points[..m], &pieces[..m])
     }
 
+    // The two openings of a gate that spends a triple: x - a, then y - b. All parties send them as they send two outs.
+    // As it is: as bytes, since openings are written so.
+    #[tactic(auto, using(crate::proofs::SpentLaws::opening_two))]
+    fn openings(&self) -> [u8; 8]
+        ensures { numbers result ≡ opened_outs (plan_of self.now.plan.now.bytes.now) 2 (numbers self.now.bytes.now) }
+    {
+        let mut openings = [0u8; 8];
+        seat_results::results(self.plan, self.bytes, &mut openings);
+        openings
+    }
+
+    // The share of wire g, the product of wires a and b that spends a triple.
+    #[tactic(auto, using(crate::proofs::SpentLaws::multiplying))]
+    fn spent(&self, g: usize, a: usize, b: usize, shares: &[u8]) -> u64
+        requires g_le_gates { g ≤ self.now.plan.now.header.gates }
+        requires shares_value { all_below self.now.plan.now.header.field.p (numbers shares.now) ≡ true }
+        ensures { Is self.now.plan.now.header.field.p (spent_share self.now.plan.now.header.field.p (get_or (numbers self.now.triples.now) (triple_at (plan_of self.now.plan.now.bytes.now) g + 2) 0) (get_or (numbers shares.now) a 0) (get_or (numbers shares.now) b 0) (opened_at (plan_of self.now.plan.now.bytes.now) 2 0 (numbers self.now.bytes.now)) (opened_at (plan_of self.now.plan.now.bytes.now) 2 1 (numbers self.now.bytes.now))) result }
+    {
+        let f = self.plan.header.field;
+        let openings = self.openings();
+        let d = numbers::read(&openings, 0);
+        let e = numbers::read(&openings, 1);
+        let c = numbers::read(self.triples, plan_counts::triple_at(self.plan, g) + 2);
+        let x = numbers::read(shares, a);
+        let y = numbers::read(shares, b);
+        seat_messages::spent_share(f, c, x, y, d, e)
+    }
+
     // Learns the shares that the step's mail makes known.
     // As it is: the plan's file names the step, so one `match` has to choose. A closure for a step would be made in that `match`, and its contract
     // would be the step's case of `learnt` once more.
     #[tactic(auto, using(crate::proofs::LearnLaws::learning_mail))]
     fn learn(&self, shares: &mut [u8])
-        ensures { numbers shares.new ≡ learnt (plan_of self.now.plan.now.bytes.now) self.now.step [] (numbers shares.old) (numbers self.now.bytes.now) }
+        requires shares_value { all_below self.now.plan.now.header.field.p (numbers shares.old) ≡ true }
+        ensures { numbers shares.new ≡ learnt (plan_of self.now.plan.now.bytes.now) self.now.step (numbers self.now.triples.now) (numbers shares.old) (numbers self.now.bytes.now) }
     {
         let h = self.plan.header;
         match self.step {
@@ -146,6 +178,10 @@ impl Mail<'_> {
             Step::SendTruncated(g) => numbers::write(shares, g, self.opened(h.t)),
             Step::DealDraws(g) => {
                 numbers::write(shares, g, seat_messages::sum_all(h.field, self.bytes));
+            }
+            Step::OpenSpent(g, a, b) => {
+                let share = self.spent(g, a, b, shares);
+                numbers::write(shares, g, share);
             }
             _ => {}
         }
@@ -173,17 +209,34 @@ impl Mail<'_> {
 
 // What a call learns from the mail of the step before it, and works on the shares.
 #[tactic(auto, using(crate::proofs::LearnLaws::learning))]
-pub fn learn(plan: &PlanFile, step: Step, mail: &[u8], shares: &mut [u8])
+pub fn learn(plan: &PlanFile, step: Step, mail: &[u8], triples: &[u8], shares: &mut [u8])
     requires stepped { Stepped (plan_of plan.now.bytes.now) step }
     requires mail_value { all_below plan.now.header.field.p (numbers mail.now) ≡ true }
+    requires triples_value { all_below plan.now.header.field.p (numbers triples.now) ≡ true }
     requires shares_value { all_below plan.now.header.field.p (numbers shares.old) ≡ true }
-    ensures { Holds plan.now.header.field.p (learn_from (plan_of plan.now.bytes.now) step [] (numbers shares.old) (numbers mail.now)) shares.new }
+    ensures { Holds plan.now.header.field.p (learn_from (plan_of plan.now.bytes.now) step (numbers triples.now) (numbers shares.old) (numbers mail.now)) shares.new }
 {
     let mail = Mail {
         plan,
         step,
         bytes: mail,
+        triples,
     };
     mail.learn(shares);
     work_from(plan, mail.resume_at(), shares);
+}
+
+// What a call spends that learns from the mail of a step: the triple of the step's gate becomes zeros.
+#[tactic(auto, using(crate::proofs::SpentLaws::spending))]
+pub fn spend(plan: &PlanFile, step: Step, triples: &mut [u8])
+    requires stepped { Stepped (plan_of plan.now.bytes.now) step }
+    requires triples_value { all_below plan.now.header.field.p (numbers triples.old) ≡ true }
+    ensures { Holds plan.now.header.field.p (spend_from (plan_of plan.now.bytes.now) step (numbers triples.old)) triples.new }
+{
+    if let Step::OpenSpent(g, _, _) = step {
+        let at = plan_counts::triple_at(plan, g);
+        numbers::write(triples, at, 0);
+        numbers::write(triples, at + 1, 0);
+        numbers::write(triples, at + 2, 0);
+    }
 }

@@ -1,2 +1,3 @@
 pub mod PointLaws
 pub mod SumLaws
+pub mod SpentLaws

@@ -51,8 +51,8 @@ module _ (bs : List ℕ) (h : Header) (w : Planned bs h) (pts : List ℕ) (e : t
   room-long room l = length-take-le h.n room (omega (arith, w.n-high)) ∙ sym (points-count bs h w pts e h.n (omega arith))
 
   module _ (mail values : List ℕ) (q : take h.n values ≡ from_each h.n 1 0 (numbers mail)) where
-    pub values-below : (inputs coins shares : List ℕ) → Elements (plan_of bs) inputs coins shares mail → all_below h.field.p (take h.n values) ≡ true
-    values-below inputs coins shares l = rw q (shares_below h.field.p h.n 1 0 (numbers mail) (planned-ready bs h w) (rw (← plan_p w) l.mail_below))
+    pub values-below : (inputs coins triples shares : List ℕ) → Elements (plan_of bs) inputs coins triples shares mail → all_below h.field.p (take h.n values) ≡ true
+    values-below inputs coins triples shares l = rw q (shares_below h.field.p h.n 1 0 (numbers mail) (planned-ready bs h w) (rw (← plan_p w) l.mail_below))
 
     pub values-long : length (take h.n values) ≡ length (take h.n pts)
     values-long = ap length q ∙ shares_long h.n 1 0 (numbers mail) ∙ sym (points-count bs h w pts e h.n (omega arith))
@@ -126,6 +126,6 @@ module _ (plan : Plan) (i g : ℕ) (step : Step) (e : step ≡ SendTruncated g) 
   unfolding sent_by
   cut_room out q = q ∙ ap (λ (s : Step). width * sent_by plan i s) e
 
-  pub cut_sent : (inputs coins shares mail xs : List ℕ) → xs ≡ applied plan.p plan.t plan.points mail → xs ≡ outgoing plan i step inputs coins shares mail
+  pub cut_sent : (inputs coins triples shares mail xs : List ℕ) → xs ≡ applied plan.p plan.t plan.points mail → xs ≡ outgoing plan i step inputs coins triples shares mail
   unfolding send_at applied
-  cut_sent inputs coins shares mail xs q = rw e (q ∙ sym (flat_ones (λ x. dot plan.p (row plan.p plan.t plan.points x) mail) plan.points))
+  cut_sent inputs coins triples shares mail xs q = rw e (q ∙ sym (flat_ones (λ x. dot plan.p (row plan.p plan.t plan.points x) mail) plan.points))

@@ -43,9 +43,9 @@ module _ (bs : List ℕ) (h : Header) (w : Planned bs h) where
   unfolding party_count
   there-room xs out q e = rw q e
 
-  pub there-dealing : (k s at skip : ℕ) (inputs coins shares mail : List ℕ) → Elements (plan_of bs) inputs coins shares mail → k ≤ 14 → s < h.field.p → at ≤ 65000 → skip ≤ 14
+  pub there-dealing : (k s at skip : ℕ) (inputs coins triples shares mail : List ℕ) → Elements (plan_of bs) inputs coins triples shares mail → k ≤ 14 → s < h.field.p → at ≤ 65000 → skip ≤ 14
       → Dealing h.field.p k s (numbers coins) (at + skip)
-  there-dealing k s at skip inputs coins shares mail e few l near m =
+  there-dealing k s at skip inputs coins triples shares mail e few l near m =
       record { few = few; near = omega arith; secret = l; coins = rw (← plan_p w) e.coins_below }
 
   pub there-done : (i g s at skip k : ℕ) (coins xs out : List ℕ) → xs ≡ (plan_of bs).points → at ≡ count_where (eqb i) (flat_map (coin_owners_at (plan_of bs)) (take g (plan_of bs).gates))
@@ -61,7 +61,7 @@ module _ (bs : List ℕ) (h : Header) (w : Planned bs h) where
 pub ruleset dealing_there = (rules, points-within, points-count, there-points, there-room, there-dealing, there-done)
 
 -- ---- the product
-module _ (bs : List ℕ) (h : Header) (w : Planned bs h) (inputs coins shares mail : List ℕ) (e : Elements (plan_of bs) inputs coins shares mail) where
+module _ (bs : List ℕ) (h : Header) (w : Planned bs h) (inputs coins triples shares mail : List ℕ) (e : Elements (plan_of bs) inputs coins triples shares mail) where
   shares-here : all_below h.field.p (numbers shares) ≡ true
   shares-here = rw (← plan_p w) e.shares_below
 
@@ -107,7 +107,7 @@ module _ (bs : List ℕ) (h : Header) (w : Planned bs h) where
   inside : (g : ℕ) → g < length (plan_of bs).gates → g ≤ h.gates
   inside g l = omega (arith, plan_gates w)
 
-  module _ (i : ℕ) (inputs coins shares mail : List ℕ) where
+  module _ (i : ℕ) (inputs coins triples shares mail : List ℕ) where
     -- ---- of a product, by the parties 1 to 2t + 1
     module _ (g a b : ℕ) (step : Stepped (plan_of bs) (DealProduct g a b)) where
       pub product_inside : g ≤ h.gates
@@ -115,7 +115,7 @@ module _ (bs : List ℕ) (h : Header) (w : Planned bs h) where
       product_inside = inside g step.0.within
 
       module _ (out : List ℕ) (room : length out ≡ width * sent_by (plan_of bs) i (DealProduct g a b)) where
-        pub product-none : h.t + h.t + 1 < i → numbers out ≡ outgoing (plan_of bs) i (DealProduct g a b) inputs coins shares mail
+        pub product-none : h.t + h.t + 1 < i → numbers out ≡ outgoing (plan_of bs) i (DealProduct g a b) inputs coins triples shares mail
         unfolding send_at nothing sent_by
         product-none l =
             let f : leb i (dealer_count (plan_of bs)) ≡ false = lt-leb i (dealer_count (plan_of bs)) (rw (plan_dealers w) l) in
@@ -131,7 +131,7 @@ module _ (bs : List ℕ) (h : Header) (w : Planned bs h) where
           product_room = room ∙ rw dealer
 
           pub product_done : (s : ℕ) (xs : List ℕ) → Is h.field.p (product_at (plan_of bs) a b shares) s
-              → xs ≡ deal (plan_of bs).p s (coins_at (plan_of bs) i g 0 h.t coins) (plan_of bs).points → xs ≡ outgoing (plan_of bs) i (DealProduct g a b) inputs coins shares mail
+              → xs ≡ deal (plan_of bs).p s (coins_at (plan_of bs) i g 0 h.t coins) (plan_of bs).points → xs ≡ outgoing (plan_of bs) i (DealProduct g a b) inputs coins triples shares mail
           unfolding send_at
           product_done s xs is q = rw dealer (dealt-as (plan_of bs) s _ _ _ xs is.eq (ap (λ (t : ℕ). coins_at (plan_of bs) i g 0 t coins) (sym (plan_t w))) q)
 
@@ -149,7 +149,7 @@ module _ (bs : List ℕ) (h : Header) (w : Planned bs h) where
       unfolding sent_by
       zero_room out e = e
 
-      pub zero_done : (xs : List ℕ) → xs ≡ deal (plan_of bs).p 0 (coins_at (plan_of bs) i g 0 (h.t + h.t) coins) (plan_of bs).points → xs ≡ outgoing (plan_of bs) i (DealZero g) inputs coins shares mail
+      pub zero_done : (xs : List ℕ) → xs ≡ deal (plan_of bs).p 0 (coins_at (plan_of bs) i g 0 (h.t + h.t) coins) (plan_of bs).points → xs ≡ outgoing (plan_of bs) i (DealZero g) inputs coins triples shares mail
       unfolding send_at
       zero_done xs q = dealt-as (plan_of bs) 0 0 _ _ xs refl (ap (λ (t : ℕ). coins_at (plan_of bs) i g 0 (t + t) coins) (sym (plan_t w))) q
 
@@ -168,7 +168,7 @@ module _ (bs : List ℕ) (h : Header) (w : Planned bs h) where
       masked_room out e = e
 
       pub masked_done : (x m s : ℕ) (xs : List ℕ) → Is h.field.p (product_at (plan_of bs) a b shares) x → Is h.field.p (sum_all h.field.p mail) m → Is h.field.p (add h.field.p x m) s
-          → xs ≡ deal (plan_of bs).p s (coins_at (plan_of bs) i g (h.t + h.t) h.t coins) (plan_of bs).points → xs ≡ outgoing (plan_of bs) i (DealMasked g a b) inputs coins shares mail
+          → xs ≡ deal (plan_of bs).p s (coins_at (plan_of bs) i g (h.t + h.t) h.t coins) (plan_of bs).points → xs ≡ outgoing (plan_of bs) i (DealMasked g a b) inputs coins triples shares mail
       unfolding send_at
       masked_done x m s xs ix im is q =
           dealt-as (plan_of bs) s _ _ _ xs
@@ -186,7 +186,7 @@ module _ (bs : List ℕ) (h : Header) (w : Planned bs h) where
       draw_room out e = e
 
       pub draw_done : (at s : ℕ) (xs : List ℕ) → at ≡ count_where (eqb i) (flat_map (input_owners_at (plan_of bs)) (take g (plan_of bs).gates)) → s ≡ get_or inputs at 0
-          → xs ≡ deal (plan_of bs).p s (coins_at (plan_of bs) i g 0 h.t coins) (plan_of bs).points → xs ≡ outgoing (plan_of bs) i (DealDraws g) inputs coins shares mail
+          → xs ≡ deal (plan_of bs).p s (coins_at (plan_of bs) i g 0 h.t coins) (plan_of bs).points → xs ≡ outgoing (plan_of bs) i (DealDraws g) inputs coins triples shares mail
       unfolding send_at input_at
       draw_done at s xs ea es q =
           dealt-as (plan_of bs) s _ _ _ xs (es ∙ ap (λ (n : ℕ). get_or inputs n 0) ea) (ap (λ (t : ℕ). coins_at (plan_of bs) i g 0 t coins) (sym (plan_t w))) q
@@ -195,11 +195,11 @@ module _ (bs : List ℕ) (h : Header) (w : Planned bs h) where
   pub element-zero : 0 < h.field.p
   element-zero = omega (arith, w.p_low)
 
-  pub mail_here : (inputs coins shares mail : List ℕ) → Elements (plan_of bs) inputs coins shares mail → all_below h.field.p (numbers mail) ≡ true
-  mail_here inputs coins shares mail e = rw (← plan_p w) e.mail_below
+  pub mail_here : (inputs coins triples shares mail : List ℕ) → Elements (plan_of bs) inputs coins triples shares mail → all_below h.field.p (numbers mail) ≡ true
+  mail_here inputs coins triples shares mail e = rw (← plan_p w) e.mail_below
 
-  pub draw_below : (inputs coins shares mail : List ℕ) (at s : ℕ) → Elements (plan_of bs) inputs coins shares mail → s ≡ get_or (numbers inputs) at 0 → s < h.field.p
-  draw_below inputs coins shares mail at s e q = rw q (entry_below h.field.p (numbers inputs) at (planned-ready bs h w) (rw (← plan_p w) e.inputs_below))
+  pub draw_below : (inputs coins triples shares mail : List ℕ) (at s : ℕ) → Elements (plan_of bs) inputs coins triples shares mail → s ≡ get_or (numbers inputs) at 0 → s < h.field.p
+  draw_below inputs coins triples shares mail at s e q = rw q (entry_below h.field.p (numbers inputs) at (planned-ready bs h w) (rw (← plan_p w) e.inputs_below))
 
 pub masked_pair : (p x m u v : ℕ) → Is p u x → Is p v m → Below2 p x m
 masked_pair p x m u v ix im = record { left = ix.lt; right = im.lt }

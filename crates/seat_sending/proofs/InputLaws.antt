@@ -49,9 +49,9 @@ module _ (bs : List ℕ) (h : Header) (w : Planned bs h) (i : ℕ) (inputs coins
   input_where a c x s v place old new f es is to =
       rw (← es, ← is.eq) (sent_where (is_input_of i gate) v place old new (sym e ∙ not-false t f) to (omega (arith, is.lt, (planned-ready bs h w).small)))
 
-pub input-dealing : (bs : List ℕ) (h : Header) → Planned bs h → (inputs coins shares mail : List ℕ) → Elements (plan_of bs) inputs coins shares mail → (a c s : ℕ) → s ≡ get_or (numbers inputs) a 0 → c ≤ 43008
+pub input-dealing : (bs : List ℕ) (h : Header) → Planned bs h → (inputs coins triples shares mail : List ℕ) → Elements (plan_of bs) inputs coins triples shares mail → (a c s : ℕ) → s ≡ get_or (numbers inputs) a 0 → c ≤ 43008
     → Dealing h.field.p h.t s (numbers coins) c
-input-dealing bs h w inputs coins shares mail e a c s es near = record {
+input-dealing bs h w inputs coins triples shares mail e a c s es near = record {
   few = omega (arith, w.threshold, w.n-high);
   near = omega arith;
   secret = rw es (entry_below h.field.p (numbers inputs) a (planned-ready bs h w) (rw (← plan_p w) e.inputs_below));
@@ -214,9 +214,9 @@ module _ (bs : List ℕ) (h : Header) (w : Planned bs h) (xs : List ℕ) (e : xs
 
     pub inputs-sent : (d₀ d : List ℕ) (at j : ℕ) → Rows (λ j. input_shares (plan_of bs) i (input_wires (plan_of bs) i) inputs coins (get_or xs j 0)) 1024 (length xs) d₀ d at j → length xs ≤ j
         → length d₀ ≡ width * sent_by (plan_of bs) i DealInputs
-        → (shares mail : List ℕ) → numbers d ≡ outgoing (plan_of bs) i DealInputs inputs coins shares mail
+        → (triples shares mail : List ℕ) → numbers d ≡ outgoing (plan_of bs) i DealInputs inputs coins triples shares mail
     unfolding sent_by send_at deal_to input_shares party_count
-    inputs-sent d₀ d at j r l q shares mail =
+    inputs-sent d₀ d at j r l q triples shares mail =
         let row : ℕ → List ℕ = λ x. input_shares (plan_of bs) i (input_wires (plan_of bs) i) inputs coins x in
         let k : length (flat (tab (λ j. row (get_or xs j 0)) (length xs))) ≡ length xs * length (input_wires (plan_of bs) i)
         = rows-length (λ j. row (get_or xs j 0)) (length (input_wires (plan_of bs) i)) (length xs) (λ j. inputs_long (get_or xs j 0)) in

@@ -1,4 +1,5 @@
 pub mod SendLaws
+pub mod TripleLaws
 pub mod DealLaws
 pub mod InputLaws
 pub mod GateLaws

@@ -168,19 +168,19 @@ module _ (bs : List ℕ) (h : Header) (w : Planned bs h) (shares : List ℕ) whe
       ∙ total_all h.n (length (plan_of bs).gates) (plan_of bs).outs (rw (← plan_n w) (valid bs w.passes).outs)
       ∙ plan_outs w
 
-  by_receiver : (i : ℕ) (inputs coins mail : List ℕ) → send_at (plan_of bs) i SendOuts inputs coins [] shares mail ≡ tab (λ j. out_shares shares (out_wires (plan_of bs) (j + 1))) h.n
+  by_receiver : (i : ℕ) (inputs coins triples mail : List ℕ) → send_at (plan_of bs) i SendOuts inputs coins triples shares mail ≡ tab (λ j. out_shares shares (out_wires (plan_of bs) (j + 1))) h.n
   unfolding send_at parties out_shares
-  by_receiver i inputs coins mail =
+  by_receiver i inputs coins triples mail =
       let row : ℕ → List ℕ = λ i. out_shares shares (out_wires (plan_of bs) i) in
       tab-map row suc (party_count (plan_of bs))
       ∙ ap (tab (λ j. row (suc j))) (plan_n w)
       ∙ tab-ext (λ j. row (suc j)) (λ j. row (j + 1)) h.n (λ j l. ap row (sym (add-one j)))
 
   pub outs_sent : (d₀ d : List ℕ) (at j : ℕ) → Rows (λ j. out_shares shares (out_wires (plan_of bs) (j + 1))) 64 h.n d₀ d at j → h.n ≤ j → (i : ℕ) → length d₀ ≡ width * sent_by (plan_of bs) i SendOuts
-      → (inputs coins mail : List ℕ) → numbers d ≡ outgoing (plan_of bs) i SendOuts inputs coins shares mail
+      → (inputs coins triples mail : List ℕ) → numbers d ≡ outgoing (plan_of bs) i SendOuts inputs coins triples shares mail
   unfolding sent_by
-  outs_sent d₀ d at j r l i e inputs coins mail =
-      rows_all (λ j. out_shares shares (out_wires (plan_of bs) (j + 1))) 64 h.n d₀ d at j r l (e ∙ rw (plan_outs w, outs-total)) ∙ sym (ap flat (by_receiver i inputs coins mail))
+  outs_sent d₀ d at j r l i e inputs coins triples mail =
+      rows_all (λ j. out_shares shares (out_wires (plan_of bs) (j + 1))) 64 h.n d₀ d at j r l (e ∙ rw (plan_outs w, outs-total)) ∙ sym (ap flat (by_receiver i inputs coins triples mail))
 
 -- As it is: answers name this set, since the check leaves their goals open by `using` alone.
 pub ruleset gathering = (rules, outs_few, rows_none, rows_next, outs_sent)

@@ -2,8 +2,8 @@
 --     stepping     what closes the needs of `send_step`
 --     calling      what closes the needs of `send`
 -- Assumes nothing.
-use mathlib.Core.Path.{◌≡◌, refl, sym, ap, subst, ◌∙◌}
-use mathlib.Core.List.{List, []}
+use mathlib.Core.Path.{◌≡◌, sym, ap, subst, ◌∙◌}
+use mathlib.Core.List.{List}
 use Prim.Native.Nat.{ℕ, ◌*◌, ◌/◌, ◌<◌, ◌≤◌}
 use native.Mathlib.Omega.{arith}
 use borrow.Author.Rules.{rules}
@@ -11,7 +11,6 @@ use borrow.Author.Tests.{eq-eqb, ne_eqb, lt-ltb, le-ltb}
 use lib.ListN.{length}
 use Rattle.numbers.specs.Bytes.{width, numbers}
 use Rattle.plan.specs.declared.Step.{Step}
-use Rattle.plan.specs.declared.Step.TheVariants.{DealInputs, DealProduct, DealZero, DealMasked, SendTruncated, DealDraws, OpenSpent, SendOuts}
 use Rattle.plan.specs.declared.Header.{Header}
 use Rattle.plan.specs.Plans.{Plan, step_at, last_call, own_out_count, out_wires, sent_by, written_count}
 use Rattle.plan.specs.File.{plan_of}
@@ -26,23 +25,6 @@ use Rattle.seat_sending.specs.Sending.{Lent, outgoing}
 use Rattle.seat_sending.proofs.CutLaws.{cut_room, cut_sent}
 
 -- ---- a step
-no-other : (plan : Plan) (step : Step) → Stepped plan step → (step ≡ DealInputs → ⊥) → ((g a b : ℕ) → step ≡ DealProduct g a b → ⊥) → ((g : ℕ) → step ≡ DealZero g → ⊥) → ((g a b : ℕ) → step ≡ DealMasked g a b → ⊥)
-    → ((g : ℕ) → step ≡ SendTruncated g → ⊥) → ((g : ℕ) → step ≡ DealDraws g → ⊥) → (step ≡ SendOuts → ⊥) → ⊥
-unfolding Stepped
-no-other plan DealInputs is inputs product zero masked truncated draws outs = inputs refl
-no-other plan (DealProduct g a b) is inputs product zero masked truncated draws outs = product g a b refl
-no-other plan (DealZero g) is inputs product zero masked truncated draws outs = zero g refl
-no-other plan (DealMasked g a b) is inputs product zero masked truncated draws outs = masked g a b refl
-no-other plan (SendTruncated g) is inputs product zero masked truncated draws outs = truncated g refl
-no-other plan (DealDraws g) is inputs product zero masked truncated draws outs = draws g refl
-no-other plan (OpenSpent g a b) is inputs product zero masked truncated draws outs = is
-no-other plan SendOuts is inputs product zero masked truncated draws outs = outs refl
-
--- a plan has no other steps
-pub sent-other : (plan : Plan) (i : ℕ) (step : Step) (inputs coins shares mail xs : List ℕ) → Stepped plan step → (step ≡ DealInputs → ⊥) → ((g a b : ℕ) → step ≡ DealProduct g a b → ⊥) → ((g : ℕ) → step ≡ DealZero g → ⊥)
-    → ((g a b : ℕ) → step ≡ DealMasked g a b → ⊥) → ((g : ℕ) → step ≡ SendTruncated g → ⊥) → ((g : ℕ) → step ≡ DealDraws g → ⊥) → (step ≡ SendOuts → ⊥) → xs ≡ outgoing plan i step inputs coins shares mail
-sent-other plan i step inputs coins shares mail xs is inputs' product zero masked truncated draws outs = absurd (no-other plan step is inputs' product zero masked truncated draws outs)
-
 -- what each step's own function is handed, and leaves
 module _ (plan : Plan) (i : ℕ) (step same : Step) (e : step ≡ same) where
   pub step-stepped : Stepped plan step → Stepped plan same
@@ -51,14 +33,14 @@ module _ (plan : Plan) (i : ℕ) (step same : Step) (e : step ≡ same) where
   pub step_room : (out : List ℕ) → length out ≡ width * sent_by plan i step → length out ≡ width * sent_by plan i same
   step_room out q = q ∙ ap (λ (r : Step). width * sent_by plan i r) e
 
-  pub step_sent : (inputs coins shares mail xs : List ℕ) → xs ≡ outgoing plan i same inputs coins shares mail → xs ≡ outgoing plan i step inputs coins shares mail
-  step_sent inputs coins shares mail xs q = rw e q
+  pub step_sent : (inputs coins triples shares mail xs : List ℕ) → xs ≡ outgoing plan i same inputs coins triples shares mail → xs ≡ outgoing plan i step inputs coins triples shares mail
+  step_sent inputs coins triples shares mail xs q = rw e q
 
 -- As it is: answers name this set, since the check leaves their goals open by `using` alone.
-pub ruleset stepping = (rules, step-stepped, step_room, step_sent, cut_room, cut_sent, sent-other)
+pub ruleset stepping = (rules, step-stepped, step_room, step_sent, cut_room, cut_sent)
 
 -- ---- a call
-module _ (bs : List ℕ) (h : Header) (w : Planned bs h) (i k : ℕ) (inputs coins shares mail out : List ℕ) (l : Lent (plan_of bs) i k inputs coins shares mail out) (last : ℕ) (is : last ≡ last_call (plan_of bs)) where
+module _ (bs : List ℕ) (h : Header) (w : Planned bs h) (i k : ℕ) (inputs coins triples shares mail out : List ℕ) (l : Lent (plan_of bs) i k inputs coins triples shares mail out) (last : ℕ) (is : last ≡ last_call (plan_of bs)) where
   module _ (ne : k ≡ last → ⊥) where
     early : k < last_call (plan_of bs)
     early = omega (arith, l.call)
@@ -67,8 +49,8 @@ module _ (bs : List ℕ) (h : Header) (w : Planned bs h) (i k : ℕ) (inputs coi
     unfolding written_count
     call_room step e = l.room ∙ rw (lt-ltb k (last_call (plan_of bs)) early, ← e)
 
-    pub call-sent : (step : Step) (xs : List ℕ) → step ≡ step_at (plan_of bs) k → xs ≡ outgoing (plan_of bs) i step (numbers inputs) (numbers coins) (numbers shares) (numbers mail)
-        → xs ≡ written (plan_of bs) k (call_with (plan_of bs) i k (numbers inputs) (numbers coins) [] (numbers shares) (numbers mail))
+    pub call-sent : (step : Step) (xs : List ℕ) → step ≡ step_at (plan_of bs) k → xs ≡ outgoing (plan_of bs) i step (numbers inputs) (numbers coins) (numbers triples) (numbers shares) (numbers mail)
+        → xs ≡ written (plan_of bs) k (call_with (plan_of bs) i k (numbers inputs) (numbers coins) (numbers triples) (numbers shares) (numbers mail))
     unfolding written call_with
     call-sent step xs e q = rw (ne_eqb k (last_call (plan_of bs)) (λ z. omega (arith, early)), lt-ltb k (last_call (plan_of bs)) early, ← e) q
 
@@ -82,7 +64,7 @@ module _ (bs : List ℕ) (h : Header) (w : Planned bs h) (i k : ℕ) (inputs coi
     results-room = omega (arith, own-many, out_wires_few i (plan_of bs).outs, plan_outs w, w.outs-high)
 
     pub call-opened : (xs : List ℕ) → xs ≡ opened_outs (plan_of bs) (length out / width) (numbers mail)
-        → xs ≡ written (plan_of bs) k (call_with (plan_of bs) i k (numbers inputs) (numbers coins) [] (numbers shares) (numbers mail))
+        → xs ≡ written (plan_of bs) k (call_with (plan_of bs) i k (numbers inputs) (numbers coins) (numbers triples) (numbers shares) (numbers mail))
     unfolding written call_with opened_outs
     call-opened xs q =
         let many : length out / width ≡ own_out_count (plan_of bs) i = omega (arith, own-many) in

@@ -43,19 +43,24 @@ input_shares plan i ws inputs coins x = map (λ f. eval plan.p f x) (map (λ g. 
 unfoldable pub out_shares : List ℕ → List ℕ → List ℕ
 out_shares shares ws = map (λ w. get_or shares w 0) ws
 
--- what party i sends in a step, in one list
-abbrev pub outgoing : Plan → ℕ → Step → List ℕ → List ℕ → List ℕ → List ℕ → List ℕ
-outgoing plan i step inputs coins shares mail = flat_map (λ l. l) (send_at plan i step inputs coins [] shares mail)
+-- two numbers to each point
+unfoldable pub pairs : ℕ → ℕ → List ℕ → List ℕ
+pairs d e xs = flat_map (λ x. d ∷ e ∷ []) xs
 
--- what a call sends from: its own inputs and coins, its shares and its mail, as bytes, all of elements
-pub record Elements (plan : Plan) (inputs coins shares mail : List ℕ) : Type 0 where
+-- what party i sends in a step, in one list
+abbrev pub outgoing : Plan → ℕ → Step → List ℕ → List ℕ → List ℕ → List ℕ → List ℕ → List ℕ
+outgoing plan i step inputs coins triples shares mail = flat_map (λ l. l) (send_at plan i step inputs coins triples shares mail)
+
+-- what a call sends from: its own inputs, coins and triples, its shares and its mail, as bytes, all of elements
+pub record Elements (plan : Plan) (inputs coins triples shares mail : List ℕ) : Type 0 where
   pub inputs_below : all_below plan.p (numbers inputs) ≡ true
   pub coins_below : all_below plan.p (numbers coins) ≡ true
+  pub triples_below : all_below plan.p (numbers triples) ≡ true
   pub shares_below : all_below plan.p (numbers shares) ≡ true
   pub mail_below : all_below plan.p (numbers mail) ≡ true
 
 -- what a call sends or opens, and room for exactly what it writes
-pub record Lent (plan : Plan) (i k : ℕ) (inputs coins shares mail out : List ℕ) : Type 0 where
+pub record Lent (plan : Plan) (i k : ℕ) (inputs coins triples shares mail out : List ℕ) : Type 0 where
   pub call : k ≤ last_call plan
-  pub elements : Elements plan inputs coins shares mail
+  pub elements : Elements plan inputs coins triples shares mail
   pub room : length out ≡ width * written_count plan i k

@@ -3,18 +3,19 @@
 
 ghost use Rattle.std.specs.Prelude.{◌≡◌, true, cond, ◌+◌, ◌*◌, ◌<◌, ◌≤◌, length, take, drop, get_or};
 ghost use mathlib.Core.List.{[], ◌∷◌, map};
-ghost use Rattle.numbers.specs.Bytes.{width, numbers, all_below};
+ghost use Rattle.numbers.specs.Bytes.{width, limit, numbers, all_below};
+ghost use Rattle.field.specs.Mod.{sub};
 ghost use Rattle.field.specs.Field.{Is};
 ghost use Rattle.sharing_laws.specs.Poly.{eval};
 ghost use Rattle.sharing_laws.specs.Sharing.{deal};
 ghost use Rattle.sharing_matrix.specs.Matrix.{applied};
-ghost use Rattle.plan.specs.declared.Step.TheVariants.{DealInputs, DealProduct, DealZero, DealMasked, DealDraws, SendOuts};
+ghost use Rattle.plan.specs.declared.Step.TheVariants.{DealInputs, DealProduct, DealZero, DealMasked, DealDraws, OpenSpent, SendOuts};
 ghost use Rattle.plan.specs.Plans.{party_count, is_input_of, input_wires, out_wires, coins_at, sent_by};
 ghost use Rattle.plan.specs.File.{plan_of};
 ghost use Rattle.plan_counts.specs.Counts.{Stepped};
 ghost use Rattle.seat_messages.specs.Calls.{written};
 ghost use Rattle.seat_messages.specs.Messages.{product_at, call_with};
-ghost use Rattle.seat_sending.specs.Sending.{Sent, Dealing, Past, Elements, Lent, coins_from, input_shares, out_shares, outgoing};
+ghost use Rattle.seat_sending.specs.Sending.{Sent, Dealing, Past, Elements, Lent, coins_from, input_shares, out_shares, pairs, outgoing};
 
 use field::Field;
 use plan::{Gate, Step};
@@ -103,13 +104,14 @@ impl Passed {
     }
 }
 
-// What a party's call sends from: its seat, its own inputs and coins, its mail, and its shares.
+// What a party's call sends from: its seat, its own inputs and coins, its mail, its triples, and its shares.
 #[derive(Clone, Copy)]
 struct Sender<'a> {
     seat: &'a Seat<'a>,
     lists: &'a Lists<'a>,
+    triples: &'a [u8],
     shares: &'a [u8],
-    ghost elements: { Elements (plan_of seat.now.plan.now.bytes.now) lists.now.inputs.now lists.now.coins.now shares.now lists.now.mail.now },
+    ghost elements: { Elements (plan_of seat.now.plan.now.bytes.now) lists.now.inputs.now lists.now.coins.now triples.now shares.now lists.now.mail.now },
 }
 
 impl Sender<'_> {
@@ -172,7 +174,7 @@ impl Sender<'_> {
     #[tactic(auto, using(crate::proofs::InputLaws::receiving))]
     fn send_inputs(&self, out: &mut [u8])
         requires out_len { length out.old ≡ width * sent_by (plan_of self.now.seat.now.plan.now.bytes.now) self.now.seat.now.party DealInputs }
-        ensures { numbers out.new ≡ outgoing (plan_of self.now.seat.now.plan.now.bytes.now) self.now.seat.now.party DealInputs (numbers self.now.lists.now.inputs.now) (numbers self.now.lists.now.coins.now) (numbers self.now.shares.now) (numbers self.now.lists.now.mail.now) }
+        ensures { numbers out.new ≡ outgoing (plan_of self.now.seat.now.plan.now.bytes.now) self.now.seat.now.party DealInputs (numbers self.now.lists.now.inputs.now) (numbers self.now.lists.now.coins.now) (numbers self.now.triples.now) (numbers self.now.shares.now) (numbers self.now.lists.now.mail.now) }
     {
         let plan = self.seat.plan;
         let points = seat_messages::points_of(plan);
@@ -220,7 +222,7 @@ impl Sender<'_> {
     fn send_product(&self, g: usize, a: usize, b: usize, out: &mut [u8])
         requires stepped { Stepped (plan_of self.now.seat.now.plan.now.bytes.now) (DealProduct g a b) }
         requires out_len { length out.old ≡ width * sent_by (plan_of self.now.seat.now.plan.now.bytes.now) self.now.seat.now.party (DealProduct g a b) }
-        ensures { numbers out.new ≡ outgoing (plan_of self.now.seat.now.plan.now.bytes.now) self.now.seat.now.party (DealProduct g a b) (numbers self.now.lists.now.inputs.now) (numbers self.now.lists.now.coins.now) (numbers self.now.shares.now) (numbers self.now.lists.now.mail.now) }
+        ensures { numbers out.new ≡ outgoing (plan_of self.now.seat.now.plan.now.bytes.now) self.now.seat.now.party (DealProduct g a b) (numbers self.now.lists.now.inputs.now) (numbers self.now.lists.now.coins.now) (numbers self.now.triples.now) (numbers self.now.shares.now) (numbers self.now.lists.now.mail.now) }
     {
         let t = self.seat.plan.header.t;
         if t + t + 1 < self.seat.party {
@@ -234,7 +236,7 @@ impl Sender<'_> {
     fn send_zero(&self, g: usize, out: &mut [u8])
         requires stepped { Stepped (plan_of self.now.seat.now.plan.now.bytes.now) (DealZero g) }
         requires out_len { length out.old ≡ width * sent_by (plan_of self.now.seat.now.plan.now.bytes.now) self.now.seat.now.party (DealZero g) }
-        ensures { numbers out.new ≡ outgoing (plan_of self.now.seat.now.plan.now.bytes.now) self.now.seat.now.party (DealZero g) (numbers self.now.lists.now.inputs.now) (numbers self.now.lists.now.coins.now) (numbers self.now.shares.now) (numbers self.now.lists.now.mail.now) }
+        ensures { numbers out.new ≡ outgoing (plan_of self.now.seat.now.plan.now.bytes.now) self.now.seat.now.party (DealZero g) (numbers self.now.lists.now.inputs.now) (numbers self.now.lists.now.coins.now) (numbers self.now.triples.now) (numbers self.now.shares.now) (numbers self.now.lists.now.mail.now) }
     {
         let t = self.seat.plan.header.t;
         self.deal_at(g, 0, 0, t + t, out);
@@ -245,7 +247,7 @@ impl Sender<'_> {
     fn send_masked(&self, g: usize, a: usize, b: usize, out: &mut [u8])
         requires stepped { Stepped (plan_of self.now.seat.now.plan.now.bytes.now) (DealMasked g a b) }
         requires out_len { length out.old ≡ width * sent_by (plan_of self.now.seat.now.plan.now.bytes.now) self.now.seat.now.party (DealMasked g a b) }
-        ensures { numbers out.new ≡ outgoing (plan_of self.now.seat.now.plan.now.bytes.now) self.now.seat.now.party (DealMasked g a b) (numbers self.now.lists.now.inputs.now) (numbers self.now.lists.now.coins.now) (numbers self.now.shares.now) (numbers self.now.lists.now.mail.now) }
+        ensures { numbers out.new ≡ outgoing (plan_of self.now.seat.now.plan.now.bytes.now) self.now.seat.now.party (DealMasked g a b) (numbers self.now.lists.now.inputs.now) (numbers self.now.lists.now.coins.now) (numbers self.now.triples.now) (numbers self.now.shares.now) (numbers self.now.lists.now.mail.now) }
     {
         let h = self.seat.plan.header;
         let mask = seat_messages::sum_all(h.field, self.lists.mail);
@@ -258,12 +260,49 @@ impl Sender<'_> {
     fn send_draw(&self, g: usize, out: &mut [u8])
         requires stepped { Stepped (plan_of self.now.seat.now.plan.now.bytes.now) (DealDraws g) }
         requires out_len { length out.old ≡ width * sent_by (plan_of self.now.seat.now.plan.now.bytes.now) self.now.seat.now.party (DealDraws g) }
-        ensures { numbers out.new ≡ outgoing (plan_of self.now.seat.now.plan.now.bytes.now) self.now.seat.now.party (DealDraws g) (numbers self.now.lists.now.inputs.now) (numbers self.now.lists.now.coins.now) (numbers self.now.shares.now) (numbers self.now.lists.now.mail.now) }
+        ensures { numbers out.new ≡ outgoing (plan_of self.now.seat.now.plan.now.bytes.now) self.now.seat.now.party (DealDraws g) (numbers self.now.lists.now.inputs.now) (numbers self.now.lists.now.coins.now) (numbers self.now.triples.now) (numbers self.now.shares.now) (numbers self.now.lists.now.mail.now) }
     {
         let plan = self.seat.plan;
         let place = plan_counts::inputs_below(plan, self.seat.party, g);
         let draw = numbers::read(self.lists.inputs, place);
         self.deal_at(g, draw, 0, plan.header.t, out);
+    }
+
+    // A wire's share less number k of the triples.
+    #[tactic(auto, using(crate::proofs::TripleLaws::taking_off))]
+    fn difference(&self, wire: usize, k: usize) -> u64
+        ensures { Is self.now.seat.now.plan.now.header.field.p (sub (plan_of self.now.seat.now.plan.now.bytes.now).p (get_or (numbers self.now.shares.now) wire 0) (get_or (numbers self.now.triples.now) k 0)) result }
+    {
+        let f = self.seat.plan.header.field;
+        f.sub(
+            numbers::read(self.shares, wire),
+            numbers::read(self.triples, k),
+        )
+    }
+
+    // Writes two numbers to each party.
+    #[tactic(auto, using(crate::proofs::TripleLaws::pairing))]
+    fn send_pairs(&self, d: u64, e: u64, out: &mut [u8])
+        requires d_value { d < limit }
+        requires e_value { e < limit }
+        requires out_len { length out.old ≡ width * (2 * party_count (plan_of self.now.seat.now.plan.now.bytes.now)) }
+        ensures { numbers out.new ≡ pairs d e (plan_of self.now.seat.now.plan.now.bytes.now).points }
+    {
+        for j in 0..self.seat.plan.header.n {
+            numbers::write(out, 2 * j, d);
+            numbers::write(out, 2 * j + 1, e);
+        }
+    }
+
+    // Writes what wires a and b are opened by at gate g: their shares less a and b of its triple.
+    #[tactic(auto, using(crate::proofs::TripleLaws::spend_sending))]
+    fn send_spent(&self, g: usize, a: usize, b: usize, out: &mut [u8])
+        requires stepped { Stepped (plan_of self.now.seat.now.plan.now.bytes.now) (OpenSpent g a b) }
+        requires out_len { length out.old ≡ width * sent_by (plan_of self.now.seat.now.plan.now.bytes.now) self.now.seat.now.party (OpenSpent g a b) }
+        ensures { numbers out.new ≡ outgoing (plan_of self.now.seat.now.plan.now.bytes.now) self.now.seat.now.party (OpenSpent g a b) (numbers self.now.lists.now.inputs.now) (numbers self.now.lists.now.coins.now) (numbers self.now.triples.now) (numbers self.now.shares.now) (numbers self.now.lists.now.mail.now) }
+    {
+        let at = plan_counts::triple_at(self.seat.plan, g);
+        self.send_pairs(self.difference(a, at), self.difference(b, at + 1), out);
     }
 
     // What the matrix makes of the mail: at each party's point its piece of the party's truncated share.
@@ -324,7 +363,7 @@ impl Sender<'_> {
     #[tactic(auto, using(crate::proofs::OutLaws::gathering))]
     fn send_outs(&self, out: &mut [u8])
         requires out_len { length out.old ≡ width * sent_by (plan_of self.now.seat.now.plan.now.bytes.now) self.now.seat.now.party SendOuts }
-        ensures { numbers out.new ≡ outgoing (plan_of self.now.seat.now.plan.now.bytes.now) self.now.seat.now.party SendOuts (numbers self.now.lists.now.inputs.now) (numbers self.now.lists.now.coins.now) (numbers self.now.shares.now) (numbers self.now.lists.now.mail.now) }
+        ensures { numbers out.new ≡ outgoing (plan_of self.now.seat.now.plan.now.bytes.now) self.now.seat.now.party SendOuts (numbers self.now.lists.now.inputs.now) (numbers self.now.lists.now.coins.now) (numbers self.now.triples.now) (numbers self.now.shares.now) (numbers self.now.lists.now.mail.now) }
     {
         let mut at: usize = 0;
         for j in 0..self.seat.plan.header.n {
@@ -341,7 +380,7 @@ impl Sender<'_> {
     fn send(&self, step: Step, out: &mut [u8])
         requires stepped { Stepped (plan_of self.now.seat.now.plan.now.bytes.now) step }
         requires out_len { length out.old ≡ width * sent_by (plan_of self.now.seat.now.plan.now.bytes.now) self.now.seat.now.party step }
-        ensures { numbers out.new ≡ outgoing (plan_of self.now.seat.now.plan.now.bytes.now) self.now.seat.now.party step (numbers self.now.lists.now.inputs.now) (numbers self.now.lists.now.coins.now) (numbers self.now.shares.now) (numbers self.now.lists.now.mail.now) }
+        ensures { numbers out.new ≡ outgoing (plan_of self.now.seat.now.plan.now.bytes.now) self.now.seat.now.party step (numbers self.now.lists.now.inputs.now) (numbers self.now.lists.now.coins.now) (numbers self.now.triples.now) (numbers self.now.shares.now) (numbers self.now.lists.now.mail.now) }
     {
         match step {
             Step::DealInputs => self.send_inputs(out),
@@ -350,8 +389,8 @@ impl Sender<'_> {
             Step::DealMasked(g, a, b) => self.send_masked(g, a, b, out),
             Step::SendTruncated(_) => self.send_truncated(out),
             Step::DealDraws(g) => self.send_draw(g, out),
+            Step::OpenSpent(g, a, b) => self.send_spent(g, a, b, out),
             Step::SendOuts => self.send_outs(out),
-            _ => {}
         }
     }
 }
@@ -360,9 +399,9 @@ impl Sender<'_> {
 
 // Writes what the party's call number k sends, or in the last call its results.
 #[tactic(auto, using(crate::proofs::WrittenLaws::calling))]
-pub fn send(seat: &Seat, k: usize, lists: &Lists, shares: &[u8], out: &mut [u8])
-    requires { Lent (plan_of seat.now.plan.now.bytes.now) seat.now.party k lists.now.inputs.now lists.now.coins.now shares.now lists.now.mail.now out.old }
-    ensures { numbers out.new ≡ written (plan_of seat.now.plan.now.bytes.now) k (call_with (plan_of seat.now.plan.now.bytes.now) seat.now.party k (numbers lists.now.inputs.now) (numbers lists.now.coins.now) [] (numbers shares.now) (numbers lists.now.mail.now)) }
+pub fn send(seat: &Seat, k: usize, lists: &Lists, triples: &[u8], shares: &[u8], out: &mut [u8])
+    requires { Lent (plan_of seat.now.plan.now.bytes.now) seat.now.party k lists.now.inputs.now lists.now.coins.now triples.now shares.now lists.now.mail.now out.old }
+    ensures { numbers out.new ≡ written (plan_of seat.now.plan.now.bytes.now) k (call_with (plan_of seat.now.plan.now.bytes.now) seat.now.party k (numbers lists.now.inputs.now) (numbers lists.now.coins.now) (numbers triples.now) (numbers shares.now) (numbers lists.now.mail.now)) }
 {
     if k == seat.last_call() {
         seat_results::results(seat.plan, lists.mail, out);
@@ -371,6 +410,7 @@ pub fn send(seat: &Seat, k: usize, lists: &Lists, shares: &[u8], out: &mut [u8])
     let sender = Sender {
         seat,
         lists,
+        triples,
         shares,
     };
     sender.send(plan_counts::step_at(seat.plan, k), out);

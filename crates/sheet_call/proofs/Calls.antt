@@ -10,7 +10,7 @@ use mathlib.Core.List.{List, [], ◌∷◌, ◌++◌}
 use native.Mathlib.Omega.{arith}
 use borrow.Author.Rules.{rules}
 use borrow.Author.Tests.{le-leb, lt-leb, lt-ltb, ltb-true, eq-eqb, ne_eqb, not-true, not-false}
-use lib.Dec.{T, eqb}
+use lib.Dec.{T, eqb, leb}
 use lib.ListN.{length, get_or, take, drop}
 use mir.Syntax.{w32}
 use mir.Val.{Fits}
@@ -106,7 +106,7 @@ module _ (n t p i : ℕ) (text : List ℕ) (ok : sheet_ok n p text ≡ true) whe
             let two : 2 ≤ p = prime_above n p m in
             let w = made-wire n p (sheet_tree n p text) (omega arith) (sheet_below n p text (omega arith)) names-some in
             ap (λ (c : Checked). and_then (first_of (content_checks n t p (length (sheet_bodies n p i text).gates) 1)) (and_then c major)) (rw outs-count at (outs_are w))
-        late false m = unfold content_checks in unfold first_of in rw m (by (parties_ok n) (threshold_ok n t) (and_then (need refusal.Layout (between 1 1024 (length (sheet_bodies n p i text).gates) && between 1 64 1)) (Ok tt)))
+        late false m = unfold content_checks in unfold first_of in rw m (by (parties_ok n) (threshold_ok n t) (and_then (need refusal.Layout (between 1 1024 (length (sheet_bodies n p i text).gates) && leb 1 64)) (Ok tt)))
           where
             by : (x y : Bool) (c : Checked) → and_then (and_then (need refusal.Parties x) (and_then (need refusal.Threshold y) (and_then (need refusal.Modulus false) c))) found
                 ≡ and_then (and_then (need refusal.Parties x) (and_then (need refusal.Threshold y) (and_then (need refusal.Modulus false) c))) told

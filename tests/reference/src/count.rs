@@ -13,9 +13,9 @@ fn places(plan: &Plan, members: &[u16]) -> (Vec<usize>, Vec<usize>) {
     (0..seats.len()).partition(|&place| members.contains(&seats[place]))
 }
 
-/// How many settings so many coins of the others have: 30 unless they are few and no wire is random.
+/// How many settings so many coins of the others have: 30 unless they are few, no wire is random and no triple is spent.
 fn settings(plan: &Plan, coins: usize) -> Result<usize, Refusal> {
-    require(plan.draws() == 0, 30, 0)?;
+    require(plan.draws() == 0 && plan.spends.is_empty(), 30, 0)?;
     let mut settings = 1;
     for _ in 0..coins {
         settings *= u64::from(plan.field.p());

@@ -4,7 +4,7 @@ use crate::charge::charge;
 use crate::convert::{convert, convert_file};
 use crate::count::{count, count_size};
 use crate::import::{import, import_file};
-use crate::matching::matching;
+use crate::matching::{matching, matching_prepared};
 use crate::plan::{plan_check, refuse, Plan, Refusal};
 use crate::record::{read_all, read_seat, record, record_size};
 use crate::run::bench;
@@ -16,9 +16,10 @@ use crate::sheet::{sheet, sheet_file};
 #[allow(clippy::type_complexity)]
 pub struct Interface {
     pub plan_check: fn(&[u8]) -> u64,
-    pub seat_call: fn(&[u8], u16, &[u8], &[u8], &mut [u8], &[u8], &mut [u8]) -> u64,
-    pub bench: fn(&[u8], u16, &[u8], &[u8], &mut [u8]) -> u64,
+    pub seat_call: fn(&[u8], u16, &[u8], &[u8], &mut [u8], &mut [u8], &[u8], &mut [u8]) -> u64,
+    pub bench: fn(&[u8], u16, &[u8], &[u8], &mut [u8], &mut [u8]) -> u64,
     pub matching: fn(&[u8], u16, &[u8], &[u8], &[u8], &mut [u8]) -> u64,
+    pub matching_prepared: fn(&[u8], &[u8], u16, &[u8], &[u8], &[u8], &mut [u8]) -> u64,
     pub seat_size: fn(&[u8], u16, u16, u16) -> u64,
     pub run_size: fn(&[u8], u16, u16) -> u64,
     pub import: fn(&[u8], u32, u32, u32, &mut [u8]) -> u64,
@@ -28,7 +29,7 @@ pub struct Interface {
     pub charge: fn(&[u8], u32, &mut [u8]) -> u64,
     pub convert: fn(&[u8], &mut [u8]) -> u64,
     pub convert_size: fn(&[u8]) -> u64,
-    pub record: fn(&[u8], &[u8], &[u8], &mut [u8]) -> u64,
+    pub record: fn(&[u8], &[u8], &[u8], &mut [u8], &mut [u8]) -> u64,
     pub record_size: fn(&[u8]) -> u64,
     pub read_all: fn(&[u8], &[u8], &mut [u8]) -> u64,
     pub read_seat: fn(&[u8], &[u8], u16, &mut [u8]) -> u64,
@@ -55,11 +56,12 @@ fn seat_size(plan: &[u8], seat: u16, call: u16, what: u16) -> Result<usize, Refu
         2 => 1 + plan.gates.len(),
         3 if call <= plan.last_call() => plan.mail(seat, call),
         4 if call <= plan.last_call() => plan.outgoing(seat, call),
+        5 => plan.triples_of(),
         _ => 0,
     })
 }
 
-/// The size in bytes of all figures, all coins or the set's view; 0 for an unknown thing.
+/// The size in bytes of all figures, all coins, the set's view or all triples; 0 for an unknown thing.
 fn run_size(plan: &[u8], set: u16, what: u16) -> Result<usize, Refusal> {
     let plan = Plan::read(plan)?;
     let Ok(view) = plan.view(set) else { return refuse(9) };
@@ -67,6 +69,7 @@ fn run_size(plan: &[u8], set: u16, what: u16) -> Result<usize, Refusal> {
         0 => plan.figures.len(),
         1 => plan.coins(),
         2 => view,
+        3 => plan.triples(),
         _ => 0,
     })
 }
@@ -74,12 +77,15 @@ fn run_size(plan: &[u8], set: u16, what: u16) -> Result<usize, Refusal> {
 /// The reference.
 pub const REFERENCE: Interface = Interface {
     plan_check: |plan| answer(plan_check(plan).map(|_| 0)),
-    seat_call: |plan, seat, figures, coins, state, mail, out| {
-        answer(seat_call(plan, seat, figures, coins, state, mail, out).map(|_| 0))
+    seat_call: |plan, seat, figures, coins, triples, state, mail, out| {
+        answer(seat_call(plan, seat, figures, coins, triples, state, mail, out).map(|_| 0))
     },
-    bench: |plan, set, figures, coins, view| answer(bench(plan, set, figures, coins, view)),
+    bench: |plan, set, figures, coins, triples, view| answer(bench(plan, set, figures, coins, triples, view)),
     matching: |plan, set, first, second, coins, matched| {
         answer(matching(plan, set, first, second, coins, matched).map(|_| 0))
+    },
+    matching_prepared: |preparing, plan, set, first, second, coins, matched| {
+        answer(matching_prepared(preparing, plan, set, first, second, coins, matched).map(|_| 0))
     },
     seat_size: |plan, seat, call, what| answer(seat_size(plan, seat, call, what)),
     run_size: |plan, set, what| answer(run_size(plan, set, what)),
@@ -90,7 +96,7 @@ pub const REFERENCE: Interface = Interface {
     charge: |plan, price, parts| answer(charge(plan, price, parts)),
     convert: |plan, out| answer(convert(plan, out).map(|_| 0)),
     convert_size: |plan| answer(convert_file(plan).map(|file| file.len())),
-    record: |plan, figures, coins, stored| answer(record(plan, figures, coins, stored).map(|_| 0)),
+    record: |plan, figures, coins, triples, stored| answer(record(plan, figures, coins, triples, stored).map(|_| 0)),
     record_size: |plan| answer(record_size(plan)),
     read_all: |plan, record, numbers| answer(read_all(plan, record, numbers).map(|_| 0)),
     read_seat: |plan, record, seat, numbers| answer(read_seat(plan, record, seat, numbers).map(|_| 0)),
@@ -116,6 +122,8 @@ macro_rules! linked {
                     figures_len: usize,
                     coins: Bytes,
                     coins_len: usize,
+                    triples: *mut u8,
+                    triples_len: usize,
                     state: *mut u8,
                     state_len: usize,
                     mail: Bytes,
@@ -132,6 +140,8 @@ macro_rules! linked {
                     figures_len: usize,
                     coins: Bytes,
                     coins_len: usize,
+                    triples: *mut u8,
+                    triples_len: usize,
                     view: *mut u8,
                     view_len: usize,
                 ) -> u64;
@@ -165,7 +175,7 @@ macro_rules! linked {
         }
         $crate::limit::Calls {
             plan_check: |plan| unsafe { c::plan_check(plan.as_ptr(), plan.len()) },
-            seat_call: |plan, seat, figures, coins, state, mail, out| unsafe {
+            seat_call: |plan, seat, figures, coins, triples, state, mail, out| unsafe {
                 c::seat_call(
                     plan.as_ptr(),
                     plan.len(),
@@ -174,6 +184,8 @@ macro_rules! linked {
                     figures.len(),
                     coins.as_ptr(),
                     coins.len(),
+                    triples.as_mut_ptr(),
+                    triples.len(),
                     state.as_mut_ptr(),
                     state.len(),
                     mail.as_ptr(),
@@ -182,7 +194,7 @@ macro_rules! linked {
                     out.len(),
                 )
             },
-            bench: |plan, set, figures, coins, view| unsafe {
+            bench: |plan, set, figures, coins, triples, view| unsafe {
                 c::bench(
                     plan.as_ptr(),
                     plan.len(),
@@ -191,6 +203,8 @@ macro_rules! linked {
                     figures.len(),
                     coins.as_ptr(),
                     coins.len(),
+                    triples.as_mut_ptr(),
+                    triples.len(),
                     view.as_mut_ptr(),
                     view.len(),
                 )
@@ -241,6 +255,21 @@ pub const LIBRARY: Interface = {
         extern "C" {
             pub fn pool_seat_size(plan: Bytes, plan_len: usize, seat: u16, call: u16, what: u16) -> u64;
             pub fn pool_run_size(plan: Bytes, plan_len: usize, set: u16, what: u16) -> u64;
+            pub fn pool_match_prepared(
+                preparing: Bytes,
+                preparing_len: usize,
+                plan: Bytes,
+                plan_len: usize,
+                set: u16,
+                first: Bytes,
+                first_len: usize,
+                second: Bytes,
+                second_len: usize,
+                coins: Bytes,
+                coins_len: usize,
+                matched: *mut u8,
+                matched_len: usize,
+            ) -> u64;
             pub fn pool_import(
                 text: Bytes,
                 text_len: usize,
@@ -272,6 +301,8 @@ pub const LIBRARY: Interface = {
                 figures_len: usize,
                 coins: Bytes,
                 coins_len: usize,
+                triples: *mut u8,
+                triples_len: usize,
                 record: *mut u8,
                 record_len: usize,
             ) -> u64;
@@ -301,6 +332,23 @@ pub const LIBRARY: Interface = {
         seat_call: TIMED.seat_call,
         bench: TIMED.bench,
         matching: TIMED.matching,
+        matching_prepared: |preparing, plan, set, first, second, coins, matched| unsafe {
+            c::pool_match_prepared(
+                preparing.as_ptr(),
+                preparing.len(),
+                plan.as_ptr(),
+                plan.len(),
+                set,
+                first.as_ptr(),
+                first.len(),
+                second.as_ptr(),
+                second.len(),
+                coins.as_ptr(),
+                coins.len(),
+                matched.as_mut_ptr(),
+                matched.len(),
+            )
+        },
         seat_size: |plan, seat, call, what| unsafe { c::pool_seat_size(plan.as_ptr(), plan.len(), seat, call, what) },
         run_size: |plan, set, what| unsafe { c::pool_run_size(plan.as_ptr(), plan.len(), set, what) },
         import: |text, n, t, p, plan| unsafe {
@@ -316,7 +364,7 @@ pub const LIBRARY: Interface = {
         },
         convert: |plan, out| unsafe { c::pool_convert(plan.as_ptr(), plan.len(), out.as_mut_ptr(), out.len()) },
         convert_size: |plan| unsafe { c::pool_convert_size(plan.as_ptr(), plan.len()) },
-        record: |plan, figures, coins, record| unsafe {
+        record: |plan, figures, coins, triples, record| unsafe {
             c::pool_record(
                 plan.as_ptr(),
                 plan.len(),
@@ -324,6 +372,8 @@ pub const LIBRARY: Interface = {
                 figures.len(),
                 coins.as_ptr(),
                 coins.len(),
+                triples.as_mut_ptr(),
+                triples.len(),
                 record.as_mut_ptr(),
                 record.len(),
             )

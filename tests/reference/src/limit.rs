@@ -10,8 +10,8 @@ use crate::plan::Plan;
 #[allow(clippy::type_complexity)]
 pub struct Calls {
     pub plan_check: fn(&[u8]) -> u64,
-    pub seat_call: fn(&[u8], u16, &[u8], &[u8], &mut [u8], &[u8], &mut [u8]) -> u64,
-    pub bench: fn(&[u8], u16, &[u8], &[u8], &mut [u8]) -> u64,
+    pub seat_call: fn(&[u8], u16, &[u8], &[u8], &mut [u8], &mut [u8], &[u8], &mut [u8]) -> u64,
+    pub bench: fn(&[u8], u16, &[u8], &[u8], &mut [u8], &mut [u8]) -> u64,
     pub matching: fn(&[u8], u16, &[u8], &[u8], &[u8], &mut [u8]) -> u64,
     pub count: fn(&[u8], u16, &[u8], &[u8], &mut [u8]) -> u64,
 }

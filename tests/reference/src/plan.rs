@@ -33,7 +33,12 @@ pub enum Gate {
     Multiply(usize, usize),
     /// A sum of draws, one of each seat.
     Random,
+    /// A product by the next triple.
+    Spend(usize, usize),
 }
+
+/// The most gates that spend a triple.
+pub const MOST_SPENDS: usize = 341;
 
 /// What a round between the inputs' and the outs' carries, with the gate that it is for.
 #[derive(Clone, Copy, Debug, PartialEq, Eq)]
@@ -47,12 +52,15 @@ pub enum Round {
     Zero(usize),
     Masked(usize),
     Truncated(usize),
+    /// Each seat's shares of the two factors less the triple's first two numbers.
+    Opening(usize),
 }
 
 impl Round {
     pub fn gate(self) -> usize {
         match self {
-            Round::Product(g) | Round::Draw(g) | Round::Zero(g) | Round::Masked(g) | Round::Truncated(g) => g,
+            Round::Product(g) | Round::Draw(g) | Round::Zero(g) | Round::Masked(g) => g,
+            Round::Truncated(g) | Round::Opening(g) => g,
         }
     }
 
@@ -86,8 +94,10 @@ pub struct Plan {
     pub figures: Vec<(usize, u16)>,
     /// The rounds 1 and on, up to the outs' round.
     pub rounds: Vec<Round>,
-    /// How many gates multiply.
+    /// How many gates multiply by dealings.
     pub multiplies: usize,
+    /// The gates that spend a triple, in gate order: wire and its two factors.
+    pub spends: Vec<(usize, usize, usize)>,
 }
 
 /// The two-byte number at `i`, low byte first.
@@ -149,7 +159,7 @@ impl Layout {
     fn bodies(self, bytes: &[u8]) -> Result<[usize; 3], Refusal> {
         require(bytes.len() >= self.head, 6, 0)?;
         let [first_gate, gates, first_out, outs] = [1, 2, 3, 4].map(|k| self.field(bytes, k));
-        require((1..=1024).contains(&gates) && (1..=64).contains(&outs), 6, 0)?;
+        require((1..=1024).contains(&gates) && outs <= 64, 6, 0)?;
         require(bytes[7] == 0 && first_gate == self.head && first_out == self.head + self.gate() * gates, 6, 0)?;
         let first_point = first_out + 3 * outs;
         let points = if self.has_points() { self.width * usize::from(bytes[5]) } else { 0 };
@@ -170,16 +180,20 @@ fn gate<const W: usize>(bytes: &[u8], g: usize, n: u16, p: u32) -> Option<Gate> 
         (4, 0) if wire_a < g && b < p => Some(Gate::Offset(wire_a, b)),
         (5, 0) if wire_a < g && wire_b < g => Some(Gate::Multiply(wire_a, wire_b)),
         (6, 0) if a == 0 && b == 0 => Some(Gate::Random),
+        (7, 0) if wire_a < g && wire_b < g => Some(Gate::Spend(wire_a, wire_b)),
         _ => None,
     }
 }
 
-/// Reads the gates, handing each to `take`: whether one of them multiplies, or the first that breaks its kind's rule.
+/// Reads the gates, handing each to `take`: whether one of them multiplies or spends a triple, or the first that breaks its
+/// kind's rule or spends one triple too many.
 fn gates<const W: usize>(bytes: &[u8], n: u16, p: u32, mut take: impl FnMut(Gate)) -> Result<bool, Refusal> {
-    let mut multiplies = false;
+    let (mut multiplies, mut spends) = (false, 0);
     for (g, bytes) in bytes.chunks_exact(2 + 2 * W).enumerate() {
         let Some(gate) = gate::<W>(bytes, g, n, p) else { return Err(Refusal { number: 7, place: g }) };
-        multiplies |= matches!(gate, Gate::Multiply(..));
+        multiplies |= matches!(gate, Gate::Multiply(..) | Gate::Spend(..));
+        spends += usize::from(matches!(gate, Gate::Spend(..)));
+        require(spends <= MOST_SPENDS, 7, g)?;
         take(gate);
     }
     Ok(multiplies)
@@ -249,7 +263,7 @@ impl Plan {
             Ok(gate) => gates.push(gate),
             Err(out) => outs.push(out),
         })?;
-        let (mut inputs, mut figures, mut rounds) = (Vec::new(), Vec::new(), Vec::new());
+        let (mut inputs, mut figures, mut rounds, mut spends) = (Vec::new(), Vec::new(), Vec::new(), Vec::new());
         for (wire, gate) in gates.iter().enumerate() {
             match *gate {
                 Gate::Input(seat) => {
@@ -264,11 +278,15 @@ impl Plan {
                     rounds.push(Round::Draw(wire));
                     figures.extend((1..=n).map(|seat| (wire, seat)));
                 }
+                Gate::Spend(a, b) => {
+                    rounds.push(Round::Opening(wire));
+                    spends.push((wire, a, b));
+                }
                 _ => {}
             }
         }
         let multiplies = gates.iter().filter(|gate| matches!(gate, Gate::Multiply(..))).count();
-        Ok(Plan { version: bytes[4], n, t, field, points, gates, outs, inputs, figures, rounds, multiplies })
+        Ok(Plan { version: bytes[4], n, t, field, points, gates, outs, inputs, figures, rounds, multiplies, spends })
     }
 
     /// The plan's file with these outs instead of its own.
@@ -361,6 +379,22 @@ impl Plan {
         }
     }
 
+    /// The count of a seat's own triples' numbers.
+    pub fn triples_of(&self) -> usize {
+        3 * self.spends.len()
+    }
+
+    /// The count of all triples' numbers.
+    pub fn triples(&self) -> usize {
+        self.triples_of() * usize::from(self.n)
+    }
+
+    /// Checks lent triples, so many numbers: 13 at one that isn't below p, then 29 where there is another count.
+    pub fn check_triples(&self, bytes: &[u8], count: usize) -> Result<(), Refusal> {
+        List(&bytes[..bytes.len() / 4 * 4]).below(self.field.p(), 13)?;
+        require(bytes.len() == 4 * count, 29, 0)
+    }
+
     /// The count of the seat's own inputs.
     pub fn inputs_of(&self, seat: u16) -> usize {
         self.inputs.iter().filter(|input| input.1 == seat).count()
@@ -391,7 +425,7 @@ impl Plan {
         if round == 0 {
             self.inputs_of(sender)
         } else if let Some(&round) = self.rounds.get(round - 1) {
-            usize::from(self.sends(sender, round))
+            usize::from(self.sends(sender, round)) * if matches!(round, Round::Opening(_)) { 2 } else { 1 }
         } else if round + 1 == self.last_call() {
             self.outs_of(receiver).count()
         } else {
@@ -416,10 +450,11 @@ impl Plan {
         }
     }
 
-    /// n·(inputs + M·(2t+1) + R·n + O), with R the random wires; in version 4 3n stands for 2t+1.
+    /// n·(inputs + M·(2t+1) + R·n + S·2n + O), with R the random wires and S the triples spent; in version 4 3n stands
+    /// for 2t+1.
     pub fn sent(&self) -> usize {
         let n = usize::from(self.n);
-        n * (self.inputs.len() + self.product_mail() + self.draws() * n + self.outs.len())
+        n * (self.inputs.len() + self.product_mail() + (self.draws() + 2 * self.spends.len()) * n + self.outs.len())
     }
 
     /// The seat, unless it isn't 1 to n.
@@ -438,7 +473,8 @@ impl Plan {
     pub fn view_of(&self, seat: u16) -> usize {
         let n = usize::from(self.n);
         let held = self.figures_of(seat) + self.coins_of(seat);
-        held + self.inputs.len() + self.product_mail() + self.draws() * n + (n + 1) * self.outs_of(seat).count()
+        let opened = (self.draws() + 2 * self.spends.len()) * n;
+        held + self.inputs.len() + self.product_mail() + opened + (n + 1) * self.outs_of(seat).count()
     }
 
     /// The length of the set's view.
@@ -536,6 +572,7 @@ pub fn file(version: u8, (n, t, p): (u8, u8, u32), gates: &[Gate], outs: &[Out],
             Gate::Offset(a, c) => (4, a as u32, c),
             Gate::Multiply(a, b) => (5, a as u32, b as u32),
             Gate::Random => (6, 0, 0),
+            Gate::Spend(a, b) => (7, a as u32, b as u32),
         };
         file.extend([kind, 0]);
         put(&mut file, &[a, b]);

@@ -1,7 +1,7 @@
 //! The bench program's text.
 
 use crate::plan::{bytes, number, numbers, refuse, Layout, List, Plan, Refusal};
-use crate::run::{own, run_by_calls};
+use crate::run::{own, run_spending, seen_spending};
 use std::fmt::Write;
 
 /// What the bench program prints for its standard input.
@@ -37,8 +37,14 @@ fn lines(input: &[u8]) -> Result<String, Refusal> {
     let members = plan.members(set)?;
     let (figures, coins) = numbers.split_at(numbers.len().min(4 * plan.figures.len()));
     let figures = List::new(figures, plan.figures.len(), 10)?.below(p, 11)?.to_vec();
+    // what is past the full count of coins is triples
+    let full = if plan.spends.is_empty() { coins.len() } else { coins.len().min(4 * plan.coins()) };
+    let (coins, triples) = coins.split_at(full);
     let coins = List::new(coins, plan.coins(), 12)?.below(p, 13)?.to_vec();
-    let run = run_by_calls(file, &figures, &coins, |_| ())?;
+    plan.check_triples(triples, plan.triples())?;
+    let triples = List::new(triples, plan.triples(), 29)?.to_vec();
+    seen_spending(&plan, &[], &figures, &coins, &triples)?;
+    let run = run_spending(file, &figures, &coins, &triples, |_| ())?;
 
     let mut text = String::new();
     line(&mut text, "plan", [u32::from(plan.n), plan.t as u32, p, plan.gates.len() as u32, plan.outs.len() as u32]);

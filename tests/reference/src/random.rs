@@ -363,3 +363,45 @@ pub fn tiny_plan_1988(random: &mut Random, most: u32) -> (Vec<u8>, u16) {
         return (file(4, (n as u8, t as u8, p), &gates, &outs, &points), set);
     }
 }
+
+/// Random gates of which one at least spends a triple, and at most `most` do.
+pub fn spending_gates(random: &mut Random, n: u16, p: u32, gates: usize, most: usize) -> Vec<Gate> {
+    let draws = random.once_in(3);
+    let make = if draws { drawn_gates } else { self::gates };
+    let mut list = make(random, n, p, gates.max(2), gates);
+    let (often, mut left) = (random.range(1, 4), most);
+    for g in (1..list.len()).rev() {
+        let other = matches!(list[g], Gate::Input(_) | Gate::Random);
+        if left > 0 && (left == most && g == 1 || !other && random.once_in(often)) {
+            left -= 1;
+            list[g] = Gate::Spend(random.below(g), random.below(g));
+        }
+    }
+    list
+}
+
+/// A random plan file of any version, of at most `most` gates, that passes and spends triples; now and then without outs.
+pub fn spending_plan(random: &mut Random, most: usize) -> Vec<u8> {
+    let version = random.range(1, 4) as u8;
+    let (n, t, small) = size(random);
+    let p = if version > 2 && !random.once_in(4) { large_prime(random) } else { small };
+    let count = random.range(2, most.max(2));
+    let gates = spending_gates(random, n, p, count, 341);
+    let count = if random.once_in(10) { 0 } else { random.range(1, 6) };
+    let outs = outs(random, n, gates.len(), count);
+    let points = points(random, n, p);
+    file(version, (n as u8, t as u8, p), &gates, &outs, &points)
+}
+
+/// The plan file that prepares a plan's triples, in a version that can have its prime and points.
+pub fn preparing_plan(random: &mut Random, plan: &Plan) -> Vec<u8> {
+    let p = plan.field.p();
+    let least = match (p > 65_535, plan.points.iter().copied().eq(1..=u32::from(plan.n))) {
+        (true, _) => 3,
+        (false, true) => 1,
+        (false, false) => 2,
+    };
+    let version = random.range(least, 4) as u8;
+    let gates = (0..plan.spends.len()).flat_map(|k| [Gate::Random, Gate::Random, Gate::Multiply(3 * k, 3 * k + 1)]);
+    file(version, (plan.n as u8, plan.t as u8, p), &gates.collect::<Vec<Gate>>(), &[], &plan.points)
+}

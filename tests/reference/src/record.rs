@@ -1,7 +1,7 @@
 //! The run record and its two readers.
 
-use crate::plan::{bytes, long, require, List, Plan, Refusal};
-use crate::run::seen;
+use crate::plan::{bytes, long, numbers, require, List, Plan, Refusal};
+use crate::run::seen_spending;
 
 /// An entry of the contents: a body's offset from the file's start and its length in bytes.
 const ENTRY: usize = 8;
@@ -17,11 +17,12 @@ pub fn record_size(file: &[u8]) -> Result<usize, Refusal> {
     Ok((1..=plan.n).map(|seat| ENTRY + body(&plan, seat)).sum())
 }
 
-/// Stores a run: the contents, then each seat's figures, coins, mail and results.
-pub fn record(file: &[u8], figures: &[u8], coins: &[u8], record: &mut [u8]) -> Result<(), Refusal> {
+/// Stores a run: the contents, then each seat's figures, coins, mail and results. The triples are zeroed.
+pub fn record(file: &[u8], figures: &[u8], coins: &[u8], triples: &mut [u8], record: &mut [u8]) -> Result<(), Refusal> {
     let plan = Plan::read(file)?;
     let figures = List::new(figures, plan.figures.len(), 10)?.below(plan.field.p(), 11)?.to_vec();
     let coins = List::new(coins, plan.coins(), 12)?.below(plan.field.p(), 13)?.to_vec();
+    plan.check_triples(triples, plan.triples())?;
     require(record.len() == record_size(file)?, 19, 0)?;
     let seats: Vec<u16> = (1..=plan.n).collect();
     let mut offset = ENTRY * seats.len();
@@ -30,8 +31,9 @@ pub fn record(file: &[u8], figures: &[u8], coins: &[u8], record: &mut [u8]) -> R
         contents.extend([offset as u32, body(&plan, seat) as u32]);
         offset += body(&plan, seat);
     }
-    let (contents, bodies) = (bytes(&contents), bytes(&seen(&plan, &seats, &figures, &coins)));
-    record.copy_from_slice(&[contents, bodies].concat());
+    let seen = seen_spending(&plan, &seats, &figures, &coins, &numbers(triples, 4))?;
+    record.copy_from_slice(&[bytes(&contents), bytes(&seen)].concat());
+    triples.fill(0);
     Ok(())
 }
 

@@ -1,7 +1,7 @@
 //! The whole run: by the seats' calls, and directly wire by wire; the plan's own arithmetic; the set's view.
 
-use crate::plan::{bytes, long, require, write, Gate, List, Plan, Refusal};
-use crate::seat::seat_call;
+use crate::plan::{bytes, long, numbers, require, write, Gate, List, Plan, Refusal};
+use crate::seat::{by_triple, seat_call};
 
 /// The wires' values: the plan's own arithmetic, without shares.
 pub fn ideal(plan: &Plan, figures: &[u32]) -> Vec<u32> {
@@ -14,7 +14,7 @@ pub fn ideal(plan: &Plan, figures: &[u32]) -> Vec<u32> {
             Gate::Add(a, b) => plan.field.add(values[a], values[b]),
             Gate::Scale(a, c) => plan.field.mul(values[a], c),
             Gate::Offset(a, c) => plan.field.add(values[a], c),
-            Gate::Multiply(a, b) => plan.field.mul(values[a], values[b]),
+            Gate::Multiply(a, b) | Gate::Spend(a, b) => plan.field.mul(values[a], values[b]),
         });
     }
     values
@@ -38,6 +38,7 @@ pub struct Step {
     pub call: usize,
     pub figures: Vec<u8>,
     pub coins: Vec<u8>,
+    pub triples: Vec<u8>,
     pub state: Vec<u8>,
     pub mail: Vec<u8>,
     pub written: Vec<u8>,
@@ -51,8 +52,20 @@ pub struct Run {
     pub sent: usize,
 }
 
-/// The run by every seat's calls, with the mail carried over; `watch` sees each call with the state before it.
-pub fn run_by_calls(file: &[u8], figures: &[u32], coins: &[u32], mut watch: impl FnMut(&Step)) -> Result<Run, Refusal> {
+/// The run by every seat's calls, of a plan that spends no triples.
+pub fn run_by_calls(file: &[u8], figures: &[u32], coins: &[u32], watch: impl FnMut(&Step)) -> Result<Run, Refusal> {
+    run_spending(file, figures, coins, &[], watch)
+}
+
+/// The run by every seat's calls, with the mail carried over; `watch` sees each call with the state and the triples before
+/// it. The triples stand seat by seat.
+pub fn run_spending(
+    file: &[u8],
+    figures: &[u32],
+    coins: &[u32],
+    triples: &[u32],
+    mut watch: impl FnMut(&Step),
+) -> Result<Run, Refusal> {
     let plan = Plan::read(file)?;
     let mut steps: Vec<Step> = (1..=plan.n)
         .map(|seat| Step {
@@ -60,6 +73,7 @@ pub fn run_by_calls(file: &[u8], figures: &[u32], coins: &[u32], mut watch: impl
             call: 0,
             figures: bytes(&own(figures, plan.figure_seats(), seat)),
             coins: bytes(&own(coins, plan.coin_seats(), seat)),
+            triples: bytes(triples.chunks(plan.triples_of().max(1)).nth(usize::from(seat) - 1).unwrap_or(&[])),
             state: vec![0; 4 * (1 + plan.gates.len())],
             mail: Vec::new(),
             written: Vec::new(),
@@ -71,11 +85,12 @@ pub fn run_by_calls(file: &[u8], figures: &[u32], coins: &[u32], mut watch: impl
         for step in &mut steps {
             step.call = call;
             step.written = vec![0; 4 * plan.outgoing(step.seat, call)];
-            let mut state = step.state.clone();
+            let (mut state, mut left) = (step.state.clone(), step.triples.clone());
             let Step { seat, figures, coins, mail, written, .. } = step;
-            seat_call(file, *seat, figures, coins, &mut state, mail, written)?;
+            seat_call(file, *seat, figures, coins, &mut left, &mut state, mail, written)?;
             watch(step);
             step.state = state;
+            step.triples = left;
             let mut rest = step.written.chunks_exact(4).map(|four| long(four, 0));
             if call == plan.last_call() {
                 run.results.push(rest.collect());
@@ -178,7 +193,7 @@ pub fn work(plan: &Plan, gate: Gate, shares: &[Seats]) -> Seats {
         Gate::Add(a, b) => std::array::from_fn(|i| field.add(shares[a][i], shares[b][i])),
         Gate::Scale(a, c) => shares[a].map(|share| field.mul(share, c)),
         Gate::Offset(a, c) => shares[a].map(|share| field.add(share, c)),
-        Gate::Input(_) | Gate::Multiply(..) | Gate::Random => unreachable!("dealt, not worked"),
+        Gate::Input(_) | Gate::Multiply(..) | Gate::Random | Gate::Spend(..) => unreachable!("dealt, not worked"),
     }
 }
 
@@ -187,8 +202,37 @@ pub fn total(plan: &Plan, grid: &[Seats]) -> Seats {
     std::array::from_fn(|i| grid.iter().fold(0, |sum, row| plan.field.add(sum, row[i])))
 }
 
-/// The direct run: every wire's shares, and each round's grid, a row for each sender, handed to `seen`.
-pub fn shares(plan: &Plan, figures: &[u32], coins: &[u32], mut seen: impl FnMut(&[Seats])) -> Vec<Seats> {
+/// The direct run of a plan that spends no triples.
+pub fn shares(plan: &Plan, figures: &[u32], coins: &[u32], seen: impl FnMut(&[Seats])) -> Vec<Seats> {
+    shares_spending(plan, figures, coins, &[], seen)
+}
+
+/// The numbers of triple k, one row each, from the list of all.
+pub fn triple(plan: &Plan, triples: &[u32], k: usize) -> [Seats; 3] {
+    let mut rows = [[0; 15]; 3];
+    for (seat, own) in triples.chunks(plan.triples_of()).enumerate() {
+        (0..3).for_each(|i| rows[i][seat] = own[3 * k + i]);
+    }
+    rows
+}
+
+/// A product's row by a triple, and both openings' rows.
+pub fn spend(plan: &Plan, x: &Seats, y: &Seats, triple: &[Seats; 3]) -> (Seats, [Seats; 2]) {
+    let less = |wire: &Seats, by: &Seats| std::array::from_fn(|i| plan.field.sub(wire[i], by[i]));
+    let sent: [Seats; 2] = [less(x, &triple[0]), less(y, &triple[1])];
+    let opened = [0, 1].map(|i: usize| plan.field.dot(0, &plan.opening_weights(), &sent[i][..plan.t + 1]));
+    let share = |i: usize| by_triple(plan, [x[i], y[i]], &[triple[0][i], triple[1][i], triple[2][i]], opened);
+    (std::array::from_fn(share), sent)
+}
+
+/// The direct run: every wire's shares, and each round's grid, a row for each number that is sent, handed to `seen`.
+pub fn shares_spending(
+    plan: &Plan,
+    figures: &[u32],
+    coins: &[u32],
+    triples: &[u32],
+    mut seen: impl FnMut(&[Seats]),
+) -> Vec<Seats> {
     let tables = Tables::new(plan);
     let mut shares: Vec<Seats> = Vec::with_capacity(plan.gates.len());
     let (mut figures, mut coins) = (figures.iter(), coins);
@@ -197,7 +241,7 @@ pub fn shares(plan: &Plan, figures: &[u32], coins: &[u32], mut seen: impl FnMut(
         coins = rest;
         taken
     };
-    let mut grid = [[0; 15]; 15];
+    let (mut grid, mut spent) = ([[0; 15]; 15], 0);
     for &gate in &plan.gates {
         shares.push(match gate {
             Gate::Input(_) => tables.deal(plan, *figures.next().expect("one figure per input gate"), take(plan.t)),
@@ -235,20 +279,43 @@ pub fn shares(plan: &Plan, figures: &[u32], coins: &[u32], mut seen: impl FnMut(
                 seen(grid);
                 total(plan, grid)
             }
+            Gate::Spend(a, b) => {
+                let (made, sent) = spend(plan, &shares[a], &shares[b], &triple(plan, triples, spent));
+                spent += 1;
+                // every seat gets both numbers of each sender
+                let sent = (0..usize::from(plan.n)).flat_map(|sender| [[sent[0][sender]; 15], [sent[1][sender]; 15]]);
+                seen(&sent.collect::<Vec<Seats>>());
+                made
+            }
             _ => work(plan, gate, &shares),
         });
     }
     shares
 }
 
-/// What seats hold and receive in the direct run: for each its figures, its coins, each round's mail, its results.
+/// What seats hold and receive in the direct run of a plan that spends no triples.
 pub fn seen(plan: &Plan, seats: &[u16], figures: &[u32], coins: &[u32]) -> Vec<u32> {
+    seen_spending(plan, seats, figures, coins, &[]).expect("shares on one polynomial")
+}
+
+/// What seats hold and receive in the direct run: for each its figures, its coins, each round's mail, its results; 20 for
+/// the first out whose shares do not lie on one polynomial.
+pub fn seen_spending(
+    plan: &Plan,
+    seats: &[u16],
+    figures: &[u32],
+    coins: &[u32],
+    triples: &[u32],
+) -> Result<Vec<u32>, Refusal> {
     let mut columns = vec![Vec::new(); seats.len()];
-    let shares = shares(plan, figures, coins, |grid| {
+    let shares = shares_spending(plan, figures, coins, triples, |grid| {
         for (column, &seat) in columns.iter_mut().zip(seats) {
             column.extend(grid.iter().map(|row| row[usize::from(seat) - 1]));
         }
     });
+    if !plan.spends.is_empty() {
+        check_outs(plan, &shares)?;
+    }
     let coin_seats = if seats.is_empty() { Vec::new() } else { plan.coin_seats() };
     let weights = plan.field.weights(&plan.points[..plan.t + 1], 0);
     let mut seen = Vec::with_capacity(seats.iter().map(|&seat| plan.view_of(seat)).sum());
@@ -265,16 +332,37 @@ pub fn seen(plan: &Plan, seats: &[u16], figures: &[u32], coins: &[u32]) -> Vec<u
         }
         seen.extend(plan.outs_of(seat).map(|out| plan.field.dot(0, &weights, &shares[out.wire][..plan.t + 1])));
     }
-    seen
+    Ok(seen)
 }
 
-/// The direct bench: writes the set's view and gives the count of elements sent.
-pub fn bench(file: &[u8], set: u16, figures: &[u8], coins: &[u8], view: &mut [u8]) -> Result<usize, Refusal> {
+/// 20 at the first seat that is off the polynomial through seats 1 to t + 1, for the first out in plan order that breaks.
+fn check_outs(plan: &Plan, shares: &[Seats]) -> Result<(), Refusal> {
+    let (basis, n) = (plan.t + 1, usize::from(plan.n));
+    let weights: Vec<Vec<u32>> = plan.points.iter().map(|&x| plan.field.weights(&plan.points[..basis], x)).collect();
+    for out in &plan.outs {
+        let shares = &shares[out.wire];
+        let off = (0..n).find(|&i| plan.field.dot(0, &weights[i], &shares[..basis]) != shares[i]);
+        require(off.is_none(), 20, off.map_or(0, |i| i + 1))?;
+    }
+    Ok(())
+}
+
+/// The direct bench: writes the set's view, zeroes the triples and gives the count of elements sent.
+pub fn bench(
+    file: &[u8],
+    set: u16,
+    figures: &[u8],
+    coins: &[u8],
+    triples: &mut [u8],
+    view: &mut [u8],
+) -> Result<usize, Refusal> {
     let plan = Plan::read(file)?;
     let members = plan.members(set)?;
     let figures = List::new(figures, plan.figures.len(), 10)?.below(plan.field.p(), 11)?.to_vec();
     let coins = List::new(coins, plan.coins(), 12)?.below(plan.field.p(), 13)?.to_vec();
+    plan.check_triples(triples, plan.triples())?;
     require(view.len() == 4 * plan.view(set)?, 19, 0)?;
-    write(&seen(&plan, &members, &figures, &coins), view);
+    write(&seen_spending(&plan, &members, &figures, &coins, &numbers(triples, 4))?, view);
+    triples.fill(0);
     Ok(plan.sent())
 }

@@ -1,14 +1,16 @@
 //! One seat's call.
 
-use crate::plan::{long, refuse, require, write, Gate, List, Plan, Refusal, Round};
+use crate::plan::{long, numbers, refuse, require, write, Gate, List, Plan, Refusal, Round};
 
-/// Makes the seat's next call: takes its figures, coins, state and mail, rewrites its state, and writes its outgoing
-/// elements or, in the last call, its results. A refused call writes nowhere.
+/// Makes the seat's next call: takes its figures, coins, triples, state and mail, rewrites its state, zeroes a triple that
+/// is spent, and writes its outgoing elements or, in the last call, its results. A refused call writes nowhere.
+#[allow(clippy::too_many_arguments)]
 pub fn seat_call(
     plan: &[u8],
     seat: u16,
     figures: &[u8],
     coins: &[u8],
+    triples: &mut [u8],
     state: &mut [u8],
     mail: &[u8],
     out: &mut [u8],
@@ -18,6 +20,7 @@ pub fn seat_call(
     plan.seat(seat)?;
     let figures = List::new(figures, plan.figures_of(seat), 10)?.below(p, 11)?;
     let coins = List::new(coins, plan.coins_of(seat), 12)?.below(p, 13)?;
+    plan.check_triples(triples, plan.triples_of())?;
     List::new(state, 1 + plan.gates.len(), 14)?;
     let call = long(state, 0) as usize;
     let shares = List::new(&state[4..], plan.gates.len(), 14)?;
@@ -28,21 +31,23 @@ pub fn seat_call(
     let mail = List::new(mail, plan.mail(seat, call), 17)?.below(p, 18)?.to_vec();
     require(out.len() == 4 * plan.outgoing(seat, call), 19, 0)?;
 
-    let mut shares = shares.to_vec();
+    let (mut shares, mut left) = (shares.to_vec(), numbers(triples, 4));
     let written = if call == 0 {
         deal_inputs(&plan, seat, figures, coins)
     } else if call == plan.last_call() {
         results(&plan, seat, &mail)?
     } else {
-        learn(&plan, call, &mail, &mut shares);
+        learn(&plan, call, &mail, &mut shares, &mut left);
         work(&plan, call, &mut shares);
         match plan.rounds.get(call - 1) {
+            Some(&Round::Opening(g)) => open(&plan, g, &shares, &left),
             Some(&round) => send(&plan, seat, round, &shares, figures, coins, &mail),
             None => (1..=plan.n).flat_map(|receiver| plan.outs_of(receiver)).map(|out| shares[out.wire]).collect(),
         }
     };
     state[..4].copy_from_slice(&(call as u32 + 1).to_le_bytes());
     write(&shares, &mut state[4..]);
+    write(&left, triples);
     write(&written, out);
     Ok(())
 }
@@ -93,11 +98,32 @@ fn send(plan: &Plan, seat: u16, round: Round, shares: &[u32], figures: List, coi
             deal(masked, &coins()[2 * plan.t..])
         }
         Round::Truncated(_) => plan.matrix().iter().map(|row| field.dot(0, row, mail)).collect(),
+        Round::Opening(_) => unreachable!("opened, not dealt"),
     }
 }
 
+/// Where the triple of a gate stands, and the gate's factors.
+fn spend(plan: &Plan, gate: usize) -> (usize, usize, usize) {
+    let k = plan.spends.iter().position(|spend| spend.0 == gate).expect("a gate that spends a triple");
+    (3 * k, plan.spends[k].1, plan.spends[k].2)
+}
+
+/// To every seat the same: the shares of the factors less those of the triple's first two numbers.
+fn open(plan: &Plan, gate: usize, shares: &[u32], triples: &[u32]) -> Vec<u32> {
+    let (at, x, y) = spend(plan, gate);
+    let opened = [plan.field.sub(shares[x], triples[at]), plan.field.sub(shares[y], triples[at + 1])];
+    opened.repeat(usize::from(plan.n))
+}
+
+/// A seat's share of the product of x and y by a triple, and both openings.
+pub fn by_triple(plan: &Plan, [x, y]: [u32; 2], triple: &[u32], [d, e]: [u32; 2]) -> u32 {
+    let field = plan.field;
+    let sum = field.add(triple[2], field.add(field.mul(e, x), field.mul(d, y)));
+    field.sub(sum, field.mul(d, e))
+}
+
 /// Call 1 learns the input wires, each later one the wire of the round before it, if that is its gate's last.
-fn learn(plan: &Plan, call: usize, mail: &[u32], shares: &mut [u32]) {
+fn learn(plan: &Plan, call: usize, mail: &[u32], shares: &mut [u32], triples: &mut [u32]) {
     if call == 1 {
         let by_sender = (1..=plan.n).flat_map(|sender| plan.inputs.iter().filter(move |input| input.1 == sender));
         for (&(wire, _), &piece) in by_sender.zip(mail) {
@@ -110,6 +136,15 @@ fn learn(plan: &Plan, call: usize, mail: &[u32], shares: &mut [u32]) {
         Round::Draw(g) => shares[g] = mail.iter().fold(0, |sum, &piece| plan.field.add(sum, piece)),
         Round::Zero(_) | Round::Masked(_) => {}
         Round::Truncated(g) => shares[g] = plan.field.dot(0, &plan.opening_weights(), &mail[..plan.t + 1]),
+        Round::Opening(g) => {
+            let (at, x, y) = spend(plan, g);
+            let opened = [0, 1].map(|first: usize| {
+                let sent: Vec<u32> = mail.iter().copied().skip(first).step_by(2).take(plan.t + 1).collect();
+                plan.field.dot(0, &plan.opening_weights(), &sent)
+            });
+            shares[g] = by_triple(plan, [shares[x], shares[y]], &triples[at..at + 3], opened);
+            triples[at..at + 3].fill(0);
+        }
     }
 }
 
@@ -123,7 +158,7 @@ fn work(plan: &Plan, call: usize, shares: &mut [u32]) {
             Gate::Add(a, b) => shares[wire] = plan.field.add(shares[a], shares[b]),
             Gate::Scale(a, c) => shares[wire] = plan.field.mul(shares[a], c),
             Gate::Offset(a, c) => shares[wire] = plan.field.add(shares[a], c),
-            Gate::Input(_) | Gate::Multiply(..) | Gate::Random => {}
+            Gate::Input(_) | Gate::Multiply(..) | Gate::Random | Gate::Spend(..) => {}
         }
     }
 }

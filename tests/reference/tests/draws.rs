@@ -121,7 +121,7 @@ fn states_and_call_numbers() {
     assert_eq!(states, expected.map(|state| bytes(&state)));
     let call = |first: u32| {
         let mut state = bytes(&[first, 0, 0, 0, 0]);
-        seat_call(&spot(), 3, &bytes(&[3]), &bytes(&[5, 7]), &mut state, &[], &mut [])
+        seat_call(&spot(), 3, &bytes(&[3]), &bytes(&[5, 7]), &mut [], &mut state, &[], &mut [])
     };
     assert_eq!([4, 5, 6].map(call), [refused(17, 0), refused(16, 0), refused(15, 0)]);
 }

@@ -38,7 +38,7 @@ fn input(file: &[u8], set: u16, numbers: &[u32], width: usize) -> Vec<u8> {
 fn seen(file: &[u8], set: u16, figures: &[u32], coins: &[u32]) -> Vec<u32> {
     let length = Plan::read(file).unwrap().view(set).unwrap();
     let mut view = vec![0; 4 * length];
-    bench(file, set, &bytes(figures), &bytes(coins), &mut view).unwrap();
+    bench(file, set, &bytes(figures), &bytes(coins), &mut [], &mut view).unwrap();
     List::new(&view, length, 0).unwrap().to_vec()
 }
 

@@ -17,7 +17,7 @@ fn refused<T>(number: u8) -> Result<T, Refusal> {
 
 fn stored(file: &[u8], figures: &[u32], coins: &[u32]) -> Vec<u8> {
     let mut stored = vec![7; record_size(file).unwrap()];
-    record(file, &bytes(figures), &bytes(coins), &mut stored).unwrap();
+    record(file, &bytes(figures), &bytes(coins), &mut [], &mut stored).unwrap();
     stored
 }
 
@@ -99,7 +99,8 @@ fn records_that_are_refused() {
 #[test]
 fn the_writer_is_refused() {
     let (file, coins) = (k(1, 3), bytes(&[2, 3, 1, 5, 7]));
-    let write = |figures: &[u32], coins: &[u8], room: usize| record(&file, &bytes(figures), coins, &mut vec![7; room]);
+    let write =
+        |figures: &[u32], coins: &[u8], room: usize| record(&file, &bytes(figures), coins, &mut [], &mut vec![7; room]);
     assert_eq!(write(&[4, 5], &coins, 128), Ok(()));
     assert_eq!(write(&[4], &coins, 127), refused(10));
     assert_eq!(write(&[4, 11], &coins[1..], 127), Err(Refusal { number: 11, place: 1 }));
@@ -125,7 +126,7 @@ fn readers_show_the_run() {
             assert_eq!(body, view(&plan, &[seat], &figures, &coins, &run));
             if plan.t > 0 {
                 let mut seen = vec![7; 4 * body.len()];
-                bench(&file, 1 << (seat - 1), &bytes(&figures), &bytes(&coins), &mut seen).unwrap();
+                bench(&file, 1 << (seat - 1), &bytes(&figures), &bytes(&coins), &mut [], &mut seen).unwrap();
                 assert_eq!(bytes(&body), seen);
             }
             all.extend(body);

@@ -182,7 +182,7 @@ fn states_and_call_numbers() {
             if (2..5).contains(&step.call) {
                 state[4 * 3..4 * 4].copy_from_slice(&bytes(&[7]));
                 let mut out = vec![0; step.written.len()];
-                seat_call(&k(4), 3, &step.figures, &step.coins, &mut state, &step.mail, &mut out).unwrap();
+                seat_call(&k(4), 3, &step.figures, &step.coins, &mut [], &mut state, &step.mail, &mut out).unwrap();
                 assert_eq!(out, if step.call == 4 { bytes(&[0]) } else { step.written.clone() });
                 odd.push(numbers(&state, 4));
             }
@@ -194,7 +194,7 @@ fn states_and_call_numbers() {
     assert_eq!(odd, [[3, 10, 3, 7, 0], [4, 10, 3, 7, 0], [5, 10, 3, 1, 0]]);
     let call = |first: u32| {
         let mut state = bytes(&[first, 0, 0, 0, 0]);
-        seat_call(&k(4), 3, &[], &bytes(&[7, 8, 9]), &mut state, &[], &mut [])
+        seat_call(&k(4), 3, &[], &bytes(&[7, 8, 9]), &mut [], &mut state, &[], &mut [])
     };
     assert_eq!([5, 6, 7].map(call), [refused(17, 0), refused(16, 0), refused(15, 0)]);
 }
@@ -205,7 +205,7 @@ fn the_third_rounds_mail_is_not_checked() {
     let mut state = bytes(&[4, 10, 3, 0, 0]);
     let mut out = [0; 4];
     let mail = bytes(&[10, 8, 9]);
-    seat_call(&k(4), 3, &[], &bytes(&[7, 8, 9]), &mut state, &mail, &mut out).unwrap();
+    seat_call(&k(4), 3, &[], &bytes(&[7, 8, 9]), &mut [], &mut state, &mail, &mut out).unwrap();
     assert_eq!(numbers(&state, 4), [5, 10, 3, 1, 0]);
 }
 

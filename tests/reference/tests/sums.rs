@@ -30,7 +30,7 @@ fn refused<T>(number: u8, place: usize) -> Result<T, Refusal> {
 fn bench_view(file: &[u8], set: u16, figures: &[u32], coins: &[u32]) -> Result<(Vec<u32>, usize), Refusal> {
     let length = Plan::read(file)?.view(set)?;
     let mut view = vec![0; 4 * length];
-    let sent = bench(file, set, &bytes(figures), &bytes(coins), &mut view)?;
+    let sent = bench(file, set, &bytes(figures), &bytes(coins), &mut [], &mut view)?;
     Ok((List::new(&view, length, 0)?.to_vec(), sent))
 }
 
@@ -138,7 +138,7 @@ fn shares_off_the_polynomial() {
     let before = state.clone();
     let mut call = |mail: [u32; 3]| {
         let mut out = [9; 4];
-        let result = seat_call(&k(), 3, &[], &bytes(&[7]), &mut state, &bytes(&mail), &mut out);
+        let result = seat_call(&k(), 3, &[], &bytes(&[7]), &mut [], &mut state, &bytes(&mail), &mut out);
         (result, state.clone(), out)
     };
     assert_eq!(call([10, 7, 5]), (refused(20, 3), before.clone(), [9; 4]));

@@ -106,5 +106,5 @@ fn texts_for_two_plants() {
     assert!(import_file(b"1 2\n1 1\n1 1\n1 1 0 1 INV", 2, 1, 11).is_ok());
     assert_eq!(import_file(b"1 2\n1 1\n1 1\n2 1 0 0 1 AND", 2, 1, 11), refused(25));
     assert_eq!(import_file(b"1 2\n1 1\n1 1\n2 1 0 0 1 XOR", 2, 1, 11), refused(25));
-    assert_eq!(import_file(b"1 2\n1 1\n0\n2 1 0 0 1 AND", 2, 1, 11), refused(6));
+    assert_eq!(import_file(b"1 2\n1 1\n0\n2 1 0 0 1 AND", 2, 1, 11), refused(25));
 }

@@ -1,5 +1,8 @@
 use Rattle.seat_call.proofs.CallLaws.{working}
 use Rattle.seat_call.proofs.learn.Goals as goal
 
-pub returns : goal.returns
-returns c = search working
+pub returns-clause-state : goal.returns-clause-state
+returns-clause-state c = search working
+
+pub returns-clause-triples : goal.returns-clause-triples
+returns-clause-triples c = search working

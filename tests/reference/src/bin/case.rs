@@ -5,11 +5,13 @@
 //! multiplies in turn, `case wide FOLDER` one in which a seat's mail has many shares from one sender, `case late FOLDER` one with a seat that
 //! deals nothing, `case large FOLDER` one of version 3 over the largest prime, and `case drawn FOLDER` one with random wires: seat 1 gets the first
 //! of them, and seat 2 that and its own figure added. `case masked FOLDER` writes one of version 4 with 5 seats, products in turn and a random wire.
+//! `case spending FOLDER` writes one with 5 seats and four products by triples, and `preparing`, the plan that prepares them.
 
 use reference::field::MOST;
+use reference::matching::triples_of;
 use reference::plan::{bytes_of, file, plan_file, Gate, Layout, Out, Plan};
-use reference::random::{plan, Random};
-use reference::run::{granted, own};
+use reference::random::{plan, preparing_plan, Random};
+use reference::run::{granted, own, shares};
 use std::fs::write;
 
 fn lines(list: &[u32]) -> String {
@@ -84,6 +86,15 @@ fn masked() -> Vec<u8> {
     file(4, (5, 2, MOST), &gates, &outs, &[5, 70_000, 3, 1, MOST - 1])
 }
 
+/// 5 seats with points of their choosing; four products by triples, one after another, and a product by dealings.
+fn spending() -> Vec<u8> {
+    let mut gates: Vec<Gate> = (1..=5).map(Gate::Input).collect();
+    gates.extend([Gate::Spend(0, 1), Gate::Spend(5, 5), Gate::Add(6, 2), Gate::Multiply(7, 3)]);
+    gates.extend([Gate::Spend(8, 7), Gate::Offset(9, MOST - 1), Gate::Spend(10, 4), Gate::Scale(11, 3)]);
+    let outs: Vec<Out> = (1..=5).map(|seat| Out { seat, wire: 13 - usize::from(seat) }).collect();
+    file(3, (5, 2, MOST), &gates, &outs, &[5, 70_000, 3, 1, MOST - 1])
+}
+
 fn main() {
     let args: Vec<String> = std::env::args().collect();
     let (seed, folder) = (&args[1], &args[2]);
@@ -100,6 +111,7 @@ fn main() {
         "large" => large(),
         "drawn" => drawn(),
         "masked" => masked(),
+        "spending" => spending(),
         _ => plan(&mut random, 24),
     };
     let plan = Plan::read(&file).expect("a plan that passes");
@@ -108,9 +120,17 @@ fn main() {
     let coins = if known { vec![2, 3, 1, 5, 7] } else { random.elements(plan.coins(), p) };
     let results = granted(&plan, &figures);
     std::fs::create_dir_all(folder).expect("a folder");
+    let mut triples = Vec::new();
+    if !plan.spends.is_empty() {
+        let preparing = preparing_plan(&mut random, &plan);
+        write(format!("{folder}/preparing"), &preparing).expect("a file");
+        let first = Plan::read(&preparing).expect("a plan that passes");
+        let [draws, early] = [first.figures.len(), first.coins()].map(|count| random.elements(count, p));
+        triples = triples_of(&first, &shares(&first, &draws, &early, |_| ()));
+    }
     let two = |x: u32| bytes_of(&[x], 2);
     let width = Layout::of(plan.version).width;
-    let numbers = [bytes_of(&figures, width), bytes_of(&coins, width)].concat();
+    let numbers = [bytes_of(&figures, width), bytes_of(&coins, width), bytes_of(&triples, width)].concat();
     let drawn = |k: usize| plan.gates[plan.figures[k].0] == Gate::Random;
     let put = |name: &str, contents: &[u8]| write(format!("{folder}/{name}"), contents).expect("a file");
     put("plan", &file);

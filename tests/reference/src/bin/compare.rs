@@ -7,11 +7,12 @@
 use reference::field::{Field, MOST};
 use reference::formulas::{self, Formula};
 use reference::library::{Interface, LIBRARY, LINKED, REFERENCE};
+use reference::matching::triples_of;
 use reference::plan::{bytes, bytes_of, file, long, plan_file, Gate, Layout, Out, Plan};
 use reference::primes::prime;
 use reference::program::program;
 use reference::random::{self, Random};
-use reference::run::{granted, ideal, run_by_calls, Step};
+use reference::run::{granted, ideal, run_spending, shares, Step};
 use reference::sheet::{formula_value, Name, Sheet};
 use reference::texts::{self, Text};
 use std::fmt::Write as _;
@@ -22,29 +23,121 @@ use std::time::Instant;
 /// One call over the C interface; a written buffer is given as it stands before the call.
 #[derive(Clone, PartialEq)]
 enum Case {
-    Check { plan: Vec<u8> },
-    Call { plan: Vec<u8>, seat: u16, figures: Vec<u8>, coins: Vec<u8>, state: Vec<u8>, mail: Vec<u8>, out: Vec<u8> },
-    Bench { plan: Vec<u8>, set: u16, figures: Vec<u8>, coins: Vec<u8>, view: Vec<u8> },
-    Match { plan: Vec<u8>, set: u16, first: Vec<u8>, second: Vec<u8>, coins: Vec<u8>, matched: Vec<u8> },
-    SeatSize { plan: Vec<u8>, seat: u16, call: u16, what: u16 },
-    RunSize { plan: Vec<u8>, set: u16, what: u16 },
-    Import { text: Vec<u8>, sizes: [u32; 3], plan: Vec<u8> },
-    ImportSize { text: Vec<u8>, sizes: [u32; 3] },
-    Sheet { text: Vec<u8>, sizes: [u32; 4], plan: Vec<u8> },
-    SheetSize { text: Vec<u8>, sizes: [u32; 4] },
-    Charge { plan: Vec<u8>, price: u32, parts: Vec<u8> },
-    Convert { plan: Vec<u8>, out: Vec<u8> },
-    ConvertSize { plan: Vec<u8> },
-    Record { plan: Vec<u8>, figures: Vec<u8>, coins: Vec<u8>, record: Vec<u8> },
-    RecordSize { plan: Vec<u8> },
-    ReadAll { plan: Vec<u8>, record: Vec<u8>, numbers: Vec<u8> },
-    ReadSeat { plan: Vec<u8>, record: Vec<u8>, seat: u16, numbers: Vec<u8> },
-    Count { plan: Vec<u8>, set: u16, figures: Vec<u8>, coins: Vec<u8>, rows: Vec<u8> },
-    CountSize { plan: Vec<u8>, set: u16 },
+    Check {
+        plan: Vec<u8>,
+    },
+    Call {
+        plan: Vec<u8>,
+        seat: u16,
+        figures: Vec<u8>,
+        coins: Vec<u8>,
+        triples: Vec<u8>,
+        state: Vec<u8>,
+        mail: Vec<u8>,
+        out: Vec<u8>,
+    },
+    Bench {
+        plan: Vec<u8>,
+        set: u16,
+        figures: Vec<u8>,
+        coins: Vec<u8>,
+        triples: Vec<u8>,
+        view: Vec<u8>,
+    },
+    Match {
+        plan: Vec<u8>,
+        set: u16,
+        first: Vec<u8>,
+        second: Vec<u8>,
+        coins: Vec<u8>,
+        matched: Vec<u8>,
+    },
+    Prepared {
+        preparing: Vec<u8>,
+        plan: Vec<u8>,
+        set: u16,
+        first: Vec<u8>,
+        second: Vec<u8>,
+        coins: Vec<u8>,
+        matched: Vec<u8>,
+    },
+    SeatSize {
+        plan: Vec<u8>,
+        seat: u16,
+        call: u16,
+        what: u16,
+    },
+    RunSize {
+        plan: Vec<u8>,
+        set: u16,
+        what: u16,
+    },
+    Import {
+        text: Vec<u8>,
+        sizes: [u32; 3],
+        plan: Vec<u8>,
+    },
+    ImportSize {
+        text: Vec<u8>,
+        sizes: [u32; 3],
+    },
+    Sheet {
+        text: Vec<u8>,
+        sizes: [u32; 4],
+        plan: Vec<u8>,
+    },
+    SheetSize {
+        text: Vec<u8>,
+        sizes: [u32; 4],
+    },
+    Charge {
+        plan: Vec<u8>,
+        price: u32,
+        parts: Vec<u8>,
+    },
+    Convert {
+        plan: Vec<u8>,
+        out: Vec<u8>,
+    },
+    ConvertSize {
+        plan: Vec<u8>,
+    },
+    Record {
+        plan: Vec<u8>,
+        figures: Vec<u8>,
+        coins: Vec<u8>,
+        triples: Vec<u8>,
+        record: Vec<u8>,
+    },
+    RecordSize {
+        plan: Vec<u8>,
+    },
+    ReadAll {
+        plan: Vec<u8>,
+        record: Vec<u8>,
+        numbers: Vec<u8>,
+    },
+    ReadSeat {
+        plan: Vec<u8>,
+        record: Vec<u8>,
+        seat: u16,
+        numbers: Vec<u8>,
+    },
+    Count {
+        plan: Vec<u8>,
+        set: u16,
+        figures: Vec<u8>,
+        coins: Vec<u8>,
+        rows: Vec<u8>,
+    },
+    CountSize {
+        plan: Vec<u8>,
+        set: u16,
+    },
 }
 
 /// Kinds of calls; the refusals and none.
-const KINDS: usize = 19;
+const KINDS: usize = 20;
 const NUMBERS: usize = 32;
 
 const NAMES: [&str; KINDS] = [
@@ -67,6 +160,7 @@ const NAMES: [&str; KINDS] = [
     "read seat",
     "count",
     "count size",
+    "prepared",
 ];
 
 const IMPORT: usize = 6;
@@ -78,9 +172,10 @@ const READ_ALL: usize = 15;
 const READ_SEAT: usize = 16;
 const COUNT: usize = 17;
 const COUNT_SIZE: usize = 18;
+const PREPARED: usize = 19;
 
 /// How often a call must meet a refusal: kind of call, refusal, times.
-const MET: [(usize, usize, usize); 37] = [
+const MET: [(usize, usize, usize); 41] = [
     (IMPORT, 23, 500),
     (IMPORT, 24, 500),
     (SHEET, 27, 500),
@@ -118,6 +213,10 @@ const MET: [(usize, usize, usize); 37] = [
     (COUNT, 19, 50),
     (COUNT, 30, 200),
     (COUNT_SIZE, 30, 200),
+    (PREPARED, 0, 1000),
+    (PREPARED, 29, 100),
+    (1, 29, 200),
+    (2, 29, 100),
 ];
 
 /// How often all calls together must meet a refusal.
@@ -131,6 +230,10 @@ const WIDE_ORDER: [u8; 22] = [1, 2, 3, 4, 5, 6, 7, 8, 25, 9, 10, 11, 12, 13, 14,
 
 /// The same with 25 and 26.
 const POINTED_ORDER: [u8; 23] = [1, 2, 3, 4, 5, 6, 7, 8, 25, 26, 9, 10, 11, 12, 13, 14, 15, 16, 17, 18, 19, 20, 21];
+
+/// The same with 29.
+const SPENT_ORDER: [u8; 24] = [1, 2, 3, 4, 5, 6, 7, 8, 25, 26, 9, 10, 11, 12, 13, 29, 14, 15, 16, 17, 18, 19, 20, 21];
+const SPENT_RECORD_ORDER: [u8; 18] = [1, 2, 3, 4, 5, 6, 7, 8, 25, 26, 28, 9, 10, 11, 12, 13, 29, 19];
 
 /// Those of the run record's calls.
 const RECORD_ORDER: [u8; 17] = [1, 2, 3, 4, 5, 6, 7, 8, 25, 26, 28, 9, 10, 11, 12, 13, 19];
@@ -182,6 +285,7 @@ impl Case {
             Case::ReadSeat { .. } => READ_SEAT,
             Case::Count { .. } => COUNT,
             Case::CountSize { .. } => COUNT_SIZE,
+            Case::Prepared { .. } => PREPARED,
         }
     }
 
@@ -193,6 +297,7 @@ impl Case {
         match self {
             Case::Check { plan } | Case::Call { plan, .. } | Case::Bench { plan, .. } => Some(plan),
             Case::Match { plan, .. } | Case::SeatSize { plan, .. } | Case::RunSize { plan, .. } => Some(plan),
+            Case::Prepared { plan, .. } => Some(plan),
             Case::Charge { plan, .. } | Case::Convert { plan, .. } | Case::ConvertSize { plan } => Some(plan),
             Case::Record { plan, .. } | Case::RecordSize { plan } => Some(plan),
             Case::ReadAll { plan, .. } | Case::ReadSeat { plan, .. } => Some(plan),
@@ -205,14 +310,21 @@ impl Case {
     fn make(&self, with: &Interface) -> (u64, Vec<Vec<u8>>) {
         match self {
             Case::Check { plan } => ((with.plan_check)(plan), vec![]),
-            Case::Call { plan, seat, figures, coins, state, mail, out } => {
-                let (mut state, mut out) = (Lent::new(state), Lent::new(out));
-                let answer = (with.seat_call)(plan, *seat, figures, coins, state.slice(), mail, out.slice());
-                (answer, vec![state.0, out.0])
+            Case::Call { plan, seat, figures, coins, triples, state, mail, out } => {
+                let (mut triples, mut state, mut out) = (Lent::new(triples), Lent::new(state), Lent::new(out));
+                let call = with.seat_call;
+                let answer = call(plan, *seat, figures, coins, triples.slice(), state.slice(), mail, out.slice());
+                (answer, vec![state.0, out.0, triples.0])
             }
-            Case::Bench { plan, set, figures, coins, view } => {
-                let mut view = Lent::new(view);
-                ((with.bench)(plan, *set, figures, coins, view.slice()), vec![view.0])
+            Case::Bench { plan, set, figures, coins, triples, view } => {
+                let (mut triples, mut view) = (Lent::new(triples), Lent::new(view));
+                let answer = (with.bench)(plan, *set, figures, coins, triples.slice(), view.slice());
+                (answer, vec![view.0, triples.0])
+            }
+            Case::Prepared { preparing, plan, set, first, second, coins, matched } => {
+                let mut matched = Lent::new(matched);
+                let call = with.matching_prepared;
+                (call(preparing, plan, *set, first, second, coins, matched.slice()), vec![matched.0])
             }
             Case::Match { plan, set, first, second, coins, matched } => {
                 let mut matched = Lent::new(matched);
@@ -239,9 +351,10 @@ impl Case {
                 ((with.convert)(plan, out.slice()), vec![out.0])
             }
             Case::ConvertSize { plan } => ((with.convert_size)(plan), vec![]),
-            Case::Record { plan, figures, coins, record } => {
-                let mut record = Lent::new(record);
-                ((with.record)(plan, figures, coins, record.slice()), vec![record.0])
+            Case::Record { plan, figures, coins, triples, record } => {
+                let (mut triples, mut record) = (Lent::new(triples), Lent::new(record));
+                let answer = (with.record)(plan, figures, coins, triples.slice(), record.slice());
+                (answer, vec![record.0, triples.0])
             }
             Case::RecordSize { plan } => ((with.record_size)(plan), vec![]),
             Case::ReadAll { plan, record, numbers } => {
@@ -267,14 +380,16 @@ impl Case {
         let mut numbers = String::new();
         match self {
             Case::Check { plan } | Case::ConvertSize { plan } | Case::RecordSize { plan } => list("plan", plan),
-            Case::Call { plan, seat, figures, coins, state, mail, out } => {
+            Case::Call { plan, seat, figures, coins, triples, state, mail, out } => {
                 write!(numbers, "\n  seat {seat}").unwrap();
                 let parts = [("plan", plan), ("figures", figures), ("coins", coins), ("state", state), ("mail", mail)];
                 parts.iter().for_each(|(name, bytes)| list(name, bytes));
+                list("triples", triples);
                 list("out", out);
             }
-            Case::Bench { plan, set, figures, coins, view } => {
+            Case::Bench { plan, set, figures, coins, triples, view } => {
                 write!(numbers, "\n  set {set}").unwrap();
+                list("triples", triples);
                 let parts = [("plan", plan), ("figures", figures), ("coins", coins), ("view", view)];
                 parts.iter().for_each(|(name, bytes)| list(name, bytes));
             }
@@ -316,7 +431,8 @@ impl Case {
                 write!(numbers, "\n  room {}", out.len()).unwrap();
                 list("plan", plan);
             }
-            Case::Record { plan, figures, coins, record } => {
+            Case::Record { plan, figures, coins, triples, record } => {
+                list("triples", triples);
                 write!(numbers, "\n  room {}", record.len()).unwrap();
                 [("plan", plan), ("figures", figures), ("coins", coins)]
                     .iter()
@@ -339,6 +455,12 @@ impl Case {
             Case::CountSize { plan, set } => {
                 write!(numbers, "\n  set {set}").unwrap();
                 list("plan", plan);
+            }
+            Case::Prepared { preparing, plan, set, first, second, coins, matched } => {
+                write!(numbers, "\n  set {set} room {}", matched.len()).unwrap();
+                let parts = [("preparing", preparing), ("plan", plan), ("first", first), ("second", second)];
+                parts.iter().for_each(|(name, bytes)| list(name, bytes));
+                list("coins", coins);
             }
         }
         text + &numbers
@@ -364,6 +486,8 @@ struct Tally {
     /// Random plans that have a random wire, and random plans of version 4.
     drawn: usize,
     masked: usize,
+    /// Random plans that spend triples.
+    spending: usize,
     /// Plans whose runs under both multiply rules were compared.
     twins: usize,
     /// Runs of a sheet's plan whose result was compared with the formula's value.
@@ -378,7 +502,7 @@ impl Tally {
     /// Every counter, in a fixed order.
     fn counters(&mut self) -> Vec<&mut usize> {
         let lists = [&mut self.parts[..], self.met.as_flattened_mut(), &mut self.versions, &mut self.layouts];
-        let plans = [&mut self.drawn, &mut self.masked, &mut self.twins];
+        let plans = [&mut self.drawn, &mut self.masked, &mut self.spending, &mut self.twins];
         let single = [&mut self.moved, &mut self.values, &mut self.inputs, &mut self.passed, &mut self.differences];
         lists.into_iter().flatten().chain(plans).chain(single).collect()
     }
@@ -412,7 +536,7 @@ impl Tally {
             self.versions[usize::from(version)] += 1;
             self.layouts[usize::from(version)] += usize::from(refusal == 6);
         }
-        if let Case::Match { coins, .. } = case {
+        if let Case::Match { coins, .. } | Case::Prepared { coins, .. } = case {
             self.moved += usize::from(refusal == 0 && reference.1[0] != Lent::new(coins).0);
         }
         let wrong = if expected.is_some_and(|number| usize::from(number) != refusal) {
@@ -462,7 +586,10 @@ struct World {
     plan: Plan,
     figures: Vec<u32>,
     coins: Vec<u32>,
+    triples: Vec<u32>,
     order: &'static [u8],
+    /// The preparing run, where the plan spends triples: its plan's file, draws and coins.
+    early: Option<(Vec<u8>, Vec<u32>, Vec<u32>)>,
 }
 
 impl World {
@@ -471,7 +598,15 @@ impl World {
         let p = plan.field.p();
         let figures = random.elements(plan.figures.len(), p);
         let coins = random.elements(plan.coins(), p);
-        World { file, plan, figures, coins, order }
+        let mut world = World { file, plan, figures, coins, triples: Vec::new(), order, early: None };
+        if !world.plan.spends.is_empty() {
+            let preparing = random::preparing_plan(random, &world.plan);
+            let first = Plan::read(&preparing).expect("a preparing plan passes");
+            let (draws, early) = (random.elements(first.figures.len(), p), random.elements(first.coins(), p));
+            world.triples = triples_of(&first, &shares(&first, &draws, &early, |_| ()));
+            world.early = Some((preparing, draws, early));
+        }
+        world
     }
 
     fn bench(&self, random: &mut Random) -> Case {
@@ -481,6 +616,7 @@ impl World {
             set,
             figures: bytes(&self.figures),
             coins: bytes(&self.coins),
+            triples: bytes(&self.triples),
             view: list(random, self.plan.view(set).expect("a set that passes")),
         }
     }
@@ -491,6 +627,7 @@ impl World {
             seat: step.seat,
             figures: step.figures.clone(),
             coins: step.coins.clone(),
+            triples: step.triples.clone(),
             state: step.state.clone(),
             mail: step.mail.clone(),
             out: list(random, step.written.len() / 4),
@@ -531,6 +668,18 @@ impl World {
                     }
                 }
             }
+        }
+        if let Some((preparing, draws, early)) = &self.early {
+            let coins = [&draws[..], early, &self.coins].concat();
+            return Case::Prepared {
+                preparing: preparing.clone(),
+                plan: plan.file(&outs),
+                set,
+                first: bytes(&self.figures),
+                second: bytes(&second),
+                matched: list(random, coins.len()),
+                coins: bytes(&coins),
+            };
         }
         Case::Match {
             plan: plan.file(&outs),
@@ -653,26 +802,27 @@ fn damage_plan(random: &mut Random, file: &mut Vec<u8>, plan: &Plan, refusal: u8
             let high = most / 2 + 1 + random.below(g + 1) as u32;
             let wire = random.pick(&[g as u32, g as u32 + 1, gates, high, most]);
             let constant = random.pick(&[p, p + 1, most]);
-            let mut put = |i, x| put_of(gate, i, x, layout.width);
+            let put = |gate: &mut [u8], i, x| put_of(gate, i, x, layout.width);
             match (random.below(4), plan.gates[g]) {
                 (0, _) => gate[1] = random.range(1, 255) as u8,
-                (1, kind) => {
+                (1, _) => {
                     let other = random.pick(&[0, 6, 7, 129, 255]);
-                    if other == 6 && matches!(kind, Gate::Random | Gate::Add(0, 0) | Gate::Multiply(0, 0))
-                        || other == 6 && matches!(kind, Gate::Scale(0, 0) | Gate::Offset(0, 0))
-                    {
-                        put(b, 1); // a random wire has neither a nor b
+                    let wires = [a, b].map(|i| number_at(gate, i, layout.width) as usize);
+                    if other == 6 && wires == [0, 0] {
+                        put(gate, b, 1); // a random wire has neither a nor b
                     }
-                    gate[0] = other;
+                    // a gate that spends a triple has two wires below its own
+                    gate[0] = if other == 7 && wires.iter().all(|&wire| wire < g) { 8 } else { other };
                 }
-                (of, Gate::Random) => put(if of == 2 { a } else { b }, random.pick(&[1, n, 256, most])),
-                (2, Gate::Input(_)) => put(b, random.pick(&[1, 256, most])),
-                (3, Gate::Scale(..) | Gate::Offset(..)) => put(b, constant),
-                (3, Gate::Add(..) | Gate::Multiply(..)) => put(b, wire),
-                (_, Gate::Input(_)) => put(a, random.pick(&[0, n + 1, 16, (most >> 8) + 1 + n, most])),
-                _ => put(a, wire),
+                (of, Gate::Random) => put(gate, if of == 2 { a } else { b }, random.pick(&[1, n, 256, most])),
+                (2, Gate::Input(_)) => put(gate, b, random.pick(&[1, 256, most])),
+                (3, Gate::Scale(..) | Gate::Offset(..)) => put(gate, b, constant),
+                (3, Gate::Add(..) | Gate::Multiply(..) | Gate::Spend(..)) => put(gate, b, wire),
+                (_, Gate::Input(_)) => put(gate, a, random.pick(&[0, n + 1, 16, (most >> 8) + 1 + n, most])),
+                _ => put(gate, a, wire),
             }
         }
+        8 if outs == 0 => return false,
         8 => {
             let out = &mut file[end + 3 * random.below(outs as usize)..];
             if random.once_in(2) {
@@ -699,7 +849,12 @@ fn wrong_layout(random: &mut Random, file: &mut Vec<u8>, plan: &Plan, most: u32)
         1 => put_field(file, plan, 1, random.pick(&[0, head - 1, head + 1, head + 256, most])),
         2 => put_field(file, plan, 2, random.pick(&[0, 1025, gates + 1, gates - 1, most])),
         3 => put_field(file, plan, 3, random.pick(&[0, 18, end_at + 1, end_at - 1, end_at - 6])),
-        4 => put_field(file, plan, 4, random.pick(&[0, 65, outs + 1, outs - 1, most])),
+        4 => put_field(
+            file,
+            plan,
+            4,
+            random.pick(&[if outs == 0 { 66 } else { 0 }, 65, outs + 1, outs.wrapping_sub(1), most]),
+        ),
         5 => {
             file.pop();
         }
@@ -712,7 +867,7 @@ fn wrong_layout(random: &mut Random, file: &mut Vec<u8>, plan: &Plan, most: u32)
             file.drain(layout.head..end);
         }
         _ => {
-            let outs = random.pick(&[0, 65]);
+            let outs = random.pick(&[66, 65]);
             put_field(file, plan, 4, outs);
             let first_point = end + 3 * outs as usize;
             move_points(file, plan, first_point);
@@ -779,7 +934,7 @@ fn wrong_point(random: &mut Random, file: &mut [u8], plan: &Plan) -> bool {
 /// where there is neither gate, or one seat only.
 fn too_few_seats(random: &mut Random, file: &mut [u8], plan: &Plan) -> bool {
     let seats = usize::from(plan.n);
-    if plan.multiplies == 0 {
+    if plan.multiplies == 0 && plan.spends.is_empty() {
         let adds: Vec<usize> = (0..plan.gates.len()).filter(|&g| matches!(plan.gates[g], Gate::Add(..))).collect();
         if adds.is_empty() {
             return false;
@@ -791,6 +946,27 @@ fn too_few_seats(random: &mut Random, file: &mut [u8], plan: &Plan) -> bool {
         file[6] = random.range(seats.div_ceil(2), seats - 1) as u8;
     }
     seats > 1
+}
+
+/// Another order of a product's factors, or points in another order: the same counts, but no preparing plan; false where
+/// neither is there.
+fn damage_preparing(random: &mut Random, file: &mut [u8]) -> bool {
+    let Ok(plan) = Plan::read(file) else { return false };
+    let layout = Layout::of(plan.version);
+    if layout.has_points() && plan.n > 1 && random.once_in(2) {
+        let first = ends(&plan).1;
+        (0..layout.width).for_each(|i| file.swap(first + i, first + layout.width + i));
+        return true;
+    }
+    let products: Vec<usize> = (0..plan.gates.len()).filter(|&g| matches!(plan.gates[g], Gate::Multiply(..))).collect();
+    let gate = &mut file[layout.head + layout.gate() * random.pick(&products)..][..layout.gate()];
+    (0..layout.width).for_each(|i| gate.swap(2 + i, 2 + layout.width + i));
+    true
+}
+
+/// The number of so many bytes at `i`.
+fn number_at(bytes: &[u8], i: usize, width: usize) -> u32 {
+    bytes[i..i + width].iter().rev().fold(0, |x, &byte| x << 8 | u32::from(byte))
 }
 
 /// A set that names a seat above n or has over t members.
@@ -956,8 +1132,31 @@ fn damage(random: &mut Random, case: &mut Case, world: &Plan, refusal: u8) -> bo
         (Case::Call { coins, .. } | Case::Bench { coins, .. }, 12) => wrong_length(random, coins, 4),
         (Case::Match { coins, .. } | Case::Record { coins, .. }, 12) => wrong_length(random, coins, 4),
         (Case::Count { coins, .. }, 12) => wrong_length(random, coins, 4),
-        (Case::Call { coins, .. } | Case::Bench { coins, .. }, 13) => return too_large(random, coins, p),
-        (Case::Match { coins, .. } | Case::Record { coins, .. }, 13) => return too_large(random, coins, p),
+        (
+            Case::Call { coins, triples, .. }
+            | Case::Bench { coins, triples, .. }
+            | Case::Record { coins, triples, .. },
+            13,
+        ) => {
+            let list = if !triples.is_empty() && (coins.is_empty() || random.once_in(2)) { triples } else { coins };
+            return too_large(random, list, p);
+        }
+        (Case::Call { triples, .. } | Case::Bench { triples, .. } | Case::Record { triples, .. }, 29) => {
+            wrong_length(random, triples, 4);
+        }
+        (Case::Match { coins, .. } | Case::Prepared { coins, .. }, 13) => return too_large(random, coins, p),
+        (Case::Prepared { preparing, .. }, 29) => return damage_preparing(random, preparing),
+        (Case::Prepared { set, .. }, 9) => *set = wrong_set(random, world),
+        (Case::Prepared { first, second, .. }, 10) => {
+            let list = if random.once_in(2) { first } else { second };
+            wrong_length(random, list, 4);
+        }
+        (Case::Prepared { first, second, .. }, 11) => {
+            let list = if random.once_in(2) { first } else { second };
+            return too_large(random, list, p);
+        }
+        (Case::Prepared { coins, .. }, 12) => wrong_length(random, coins, 4),
+        (Case::Prepared { matched, .. }, 19) => wrong_length(random, matched, 4),
         (Case::Count { coins, .. }, 13) => return too_large(random, coins, p),
         (Case::Call { state, .. }, 14) => wrong_length(random, state, 4),
         (Case::Call { state, .. }, 15) => {
@@ -987,7 +1186,7 @@ fn damage(random: &mut Random, case: &mut Case, world: &Plan, refusal: u8) -> bo
             let x = world.field.add(long(mail, i), change);
             put(mail, i, x);
         }
-        (Case::Match { set, second, .. }, 21) => {
+        (Case::Match { set, second, .. } | Case::Prepared { set, second, .. }, 21) => {
             let member = |seat: u16| *set >> (seat - 1) & 1 == 1;
             let own: Vec<usize> = world.figure_seats().enumerate().filter(|x| member(x.1)).map(|x| x.0).collect();
             if own.is_empty() {
@@ -1079,7 +1278,7 @@ fn calls(random: &mut Random, tally: &mut Tally, world: &World, often: usize) {
     let mut steps = Vec::new();
     let last = plan.last_call();
     let all = last * usize::from(plan.n);
-    run_by_calls(&world.file, &world.figures, &world.coins, |step| {
+    run_spending(&world.file, &world.figures, &world.coins, &world.triples, |step| {
         let likely = step.call <= 1 || step.call + 1 >= last || all < often;
         if likely || random.below(all) < often {
             steps.push(step.clone());
@@ -1108,6 +1307,9 @@ fn calls(random: &mut Random, tally: &mut Tally, world: &World, often: usize) {
         let (seat, wires) = (step.seat, plan.gates.len());
         let shares = if random.once_in(4) { vec![0; wires] } else { random.elements(wires, p) };
         step.state = bytes(&[&[step.call as u32], &shares[..]].concat());
+        if plan.triples_of() > 0 {
+            step.triples = bytes(&random.elements(plan.triples_of(), p));
+        }
         step.mail = bytes(&random.elements(if step.call > last { 0 } else { plan.mail(seat, step.call) }, p));
         step.written = vec![0; 4 * if step.call > last { 0 } else { plan.outgoing(seat, step.call) }];
         let case = world.call(random, &step);
@@ -1204,7 +1406,7 @@ fn layouts(tally: &mut Tally) {
     for (gates, outs) in [(1024, 64), (1025, 1), (0, 1), (1, 0), (1, 65), (1024, 65), (1025, 0), (10920, 1), (10923, 2)]
     {
         let gates: Vec<Gate> = (0..gates).map(|_| Gate::Input(1)).collect();
-        let refusal = if gates.len() == 1024 && outs == 64 { 0 } else { 6 };
+        let refusal = if (gates.len(), outs) == (1024, 64) || (gates.len(), outs) == (1, 0) { 0 } else { 6 };
         let plan = plan_file(3, 1, 11, &gates, &out[..outs]);
         tally.compare(&Case::Check { plan }, Some(refusal));
     }
@@ -1242,6 +1444,7 @@ fn programs(random: &mut Random, tally: &mut Tally, times: usize, plan: fn(&mut 
         let (length, set) = (bytes_of(&[world.file.len() as u32], 2), bytes_of(&[u32::from(set)], 2));
         let mut input =
             [&length[..], &world.file, &set, &bytes_of(&world.figures, width), &bytes_of(&world.coins, width)].concat();
+        input.extend(bytes_of(&world.triples, width));
         match random.below(4) {
             0 => wrong_length(random, &mut input, width),
             1 => {
@@ -1739,7 +1942,7 @@ fn large_layouts(tally: &mut Tally) {
     let out = [Out { seat: 1, wire: 0 }; 66];
     for (gates, outs) in [(1024, 64), (1025, 1), (0, 1), (1, 0), (1, 65), (1024, 65), (65536 + 1, 1), (1, 65536 + 1)] {
         let (gates, outs) = (vec![Gate::Input(1); gates], out.repeat(outs / 66 + 1)[..outs].to_vec());
-        let refusal = if gates.len() == 1024 && outs.len() == 64 { 0 } else { 6 };
+        let refusal = if [(1024, 64), (1, 0)].contains(&(gates.len(), outs.len())) { 0 } else { 6 };
         let plan = file(3, (3, 1, MOST), &gates, &outs, &[1, 2, 3]);
         tally.compare(&Case::Check { plan }, Some(refusal));
     }
@@ -1821,6 +2024,11 @@ fn money(random: &mut Random, tally: &mut Tally, text: &[u8], [n, t, p, seat]: [
     }
 }
 
+/// Whether a circuit makes a plan without gates: it has neither a bit put in nor a gate.
+fn gateless(text: &Text) -> bool {
+    text.lines.len() == 3 && text.lines[1][1..].iter().all(|width| width == "0")
+}
+
 /// Circuits and sheets for primes above 65,535, and numbers that are none.
 fn large_texts(random: &mut Random, tally: &mut Tally) {
     for round in 0..1500 {
@@ -1829,13 +2037,8 @@ fn large_texts(random: &mut Random, tally: &mut Tally) {
         let (p, none) = (random::large_prime(random), no_prime(random));
         let (gates, outputs) = (random.below(8), random.below(5));
         let whole = Text::new(random, random_values(round).min(usize::from(n)), gates, round % 4, outputs);
-        let outs = whole.lines[2][1..].iter().any(|width| width != "0");
         let multiplies = whole.lines[3..].iter().any(|line| line[line.len() - 1] != "INV");
-        let expected = match (outs, multiplies && wide) {
-            (false, _) => 6,
-            (true, true) => 25,
-            _ => 0,
-        };
+        let expected = if gateless(&whole) { 6 } else { 25 * u8::from(multiplies && wide) };
         let bytes = whole.bytes(random, true);
         text(random, tally, bytes.clone(), [u32::from(n), t as u32, p], Some(expected));
         text(random, tally, bytes, [u32::from(n), t as u32, none], Some(5));
@@ -1874,21 +2077,9 @@ fn wide_texts(random: &mut Random, tally: &mut Tally) {
         let (gates, outputs) = (random.below(6), random.below(5));
         let whole = Text::new(random, random_values(round).min(usize::from(n)), gates, round % 4, outputs);
         let multiplies = whole.lines[3..].iter().any(|line| line[line.len() - 1] != "INV");
-        let outs = whole.lines[2][1..].iter().any(|width| width != "0");
         let bytes = whole.bytes(random, true);
-        text(
-            random,
-            tally,
-            bytes.clone(),
-            sizes,
-            Some(if !outs {
-                6
-            } else if multiplies {
-                25
-            } else {
-                0
-            }),
-        );
+        let expected = if gateless(&whole) { 6 } else { 25 * u8::from(multiplies) };
+        text(random, tally, bytes.clone(), sizes, Some(expected));
         text(random, tally, bytes, [sizes[0], sizes[0] + round as u32 % 3, sizes[2]], Some(4));
 
         let operands = random.range(1, 8);
@@ -1959,6 +2150,7 @@ fn records(random: &mut Random, tally: &mut Tally, world: &World, often: usize) 
         plan: world.file.clone(),
         figures: bytes(&world.figures),
         coins: bytes(&world.coins),
+        triples: bytes(&world.triples),
         record: filler(random, size as usize),
     };
     let size = Case::RecordSize { plan: world.file.clone() };
@@ -2016,7 +2208,8 @@ fn other_outs(random: &mut Random, tally: &mut Tally, world: &World) {
         }
     }
     let mut record = vec![0; ((REFERENCE.record_size)(&world.file) >> 8) as usize];
-    let stored = (REFERENCE.record)(&plan.file(&outs), &bytes(&world.figures), &bytes(&world.coins), &mut record);
+    let (figures, coins, mut triples) = (bytes(&world.figures), bytes(&world.coins), bytes(&world.triples));
+    let stored = (REFERENCE.record)(&plan.file(&outs), &figures, &coins, &mut triples, &mut record);
     assert_eq!(stored, 0, "as many outs make a record of the same size");
     let granted = |outs: &[Out], seat| outs.iter().filter(|out| out.seat == seat).count();
     let same = (1..=plan.n).all(|seat| granted(&outs, seat) == granted(&plan.outs, seat));
@@ -2046,7 +2239,7 @@ fn counts(random: &mut Random, tally: &mut Tally, file: Vec<u8>, set: u16, often
     let plan = Plan::read(&file).expect("a plan that passes");
     let (p, t) = (plan.field.p(), plan.t);
     let settings = random::settings(plan.version, (plan.n, t, p), set, &plan.gates);
-    let few = settings <= 65_536 && !plan.gates.contains(&Gate::Random);
+    let few = settings <= 65_536 && !plan.gates.contains(&Gate::Random) && plan.spends.is_empty();
     let (order, expected): (&[u8], u8) = if few { (&COUNT_ORDER, 0) } else { (&SETTINGS_ORDER, 30) };
     let own = plan.coin_seats().iter().filter(|&&seat| set >> (seat - 1) & 1 == 1).count();
     let room =
@@ -2115,9 +2308,19 @@ fn all_counts(tally: &mut Tally) {
     }
 }
 
+/// The refusals that a plan's cases, and its records', are damaged for.
+fn orders(file: &[u8]) -> (&'static [u8], &'static [u8]) {
+    if Plan::read(file).expect("a plan that passes").spends.is_empty() {
+        (&POINTED_ORDER, &RECORD_ORDER)
+    } else {
+        (&SPENT_ORDER, &SPENT_RECORD_ORDER)
+    }
+}
+
 /// A plan from every side: its check, points, calls, runs, charge, conversion, record and counted views.
 fn whole_world(random: &mut Random, tally: &mut Tally, file: Vec<u8>, often: usize) {
-    let world = World::new(random, file, &POINTED_ORDER);
+    let (order, record_order) = orders(&file);
+    let world = World::new(random, file, order);
     plans(random, tally, &world);
     if Layout::of(world.plan.version).has_points() {
         points(random, tally, &world);
@@ -2126,19 +2329,20 @@ fn whole_world(random: &mut Random, tally: &mut Tally, file: Vec<u8>, often: usi
     runs(random, tally, &world, 2);
     charges(random, tally, &world);
     conversions(random, tally, &world);
-    records(random, tally, &World { order: &RECORD_ORDER, ..world.clone() }, 1);
+    records(random, tally, &World { order: record_order, ..world.clone() }, 1);
     let set = random::set(random, world.plan.n, world.plan.t);
     counts(random, tally, world.file, set, 2);
 }
 
 /// A plan in few cases: its check, a bench, a matching, two calls, sizes, a record, a charge, each as it is, and one of them damaged.
 fn glance(random: &mut Random, tally: &mut Tally, file: Vec<u8>) {
-    let world = World::new(random, file, &POINTED_ORDER);
+    let order = orders(&file).0;
+    let world = World::new(random, file, order);
     let (plan, file) = (&world.plan, &world.file);
     let mut steps = Vec::new();
     let all = usize::from(plan.n) * (plan.last_call() + 1);
     let (mut number, taken) = (0, [0; 2].map(|_| random.below(all)));
-    run_by_calls(file, &world.figures, &world.coins, |step| {
+    run_spending(file, &world.figures, &world.coins, &world.triples, |step| {
         if taken.contains(&number) {
             steps.push(step.clone());
         }
@@ -2161,6 +2365,7 @@ fn glance(random: &mut Random, tally: &mut Tally, file: Vec<u8>) {
             plan: file.clone(),
             figures: bytes(&world.figures),
             coins: bytes(&world.coins),
+            triples: bytes(&world.triples),
             record: filler(random, room as usize),
         },
         Case::Charge { plan: file.clone(), price, parts: filler(random, 4 * usize::from(plan.n)) },
@@ -2214,11 +2419,88 @@ fn drawn_plans(tally: &mut Tally) {
     programs(&mut random, tally, 150, random::drawn_plan);
 }
 
+/// What a plan that spends triples has besides: the plain matching, damaged preparing plans, and triples of no preparing run.
+fn spends(random: &mut Random, tally: &mut Tally, world: &World) {
+    let Case::Prepared { plan, set, first, second, .. } = world.matching(random, false) else { return };
+    let matched = list(random, world.coins.len());
+    let (coins, lists) = (bytes(&world.coins), (first, second));
+    tally.compare(&Case::Match { plan, set, first: lists.0, second: lists.1, coins, matched }, Some(29));
+    let case = world.matching(random, true);
+    let (early, _, _) = world.early.as_ref().expect("a preparing run");
+    let preparing_plan = Plan::read(early).expect("a preparing plan passes");
+    for _ in 0..2 {
+        let mut damaged = case.clone();
+        let Case::Prepared { preparing, plan, .. } = &mut damaged else { unreachable!("a joint matching") };
+        let [first, second] = [0; 2].map(|_| random.below(of_plans(&POINTED_ORDER)));
+        let early = damage_plan(random, preparing, &preparing_plan, POINTED_ORDER[first]);
+        let late = random.once_in(2) && damage_plan(random, plan, &world.plan, POINTED_ORDER[second]);
+        let wanted = match (early, late) {
+            (true, true) => first.min(second),
+            (true, false) => first,
+            (false, true) => second,
+            _ => continue,
+        };
+        tally.compare(&damaged, Some(POINTED_ORDER[wanted]));
+    }
+    let p = world.plan.field.p();
+    let mut triples = world.triples.clone();
+    let at = random.below(triples.len());
+    triples[at] = random.element(p);
+    for triples in [triples, random.elements(world.triples.len(), p)] {
+        let others = World { triples, ..world.clone() };
+        tally.compare(&others.bench(random), None);
+        let room = (REFERENCE.record_size)(&world.file) >> 8;
+        tally.compare(
+            &Case::Record {
+                plan: world.file.clone(),
+                figures: bytes(&world.figures),
+                coins: bytes(&world.coins),
+                triples: bytes(&others.triples),
+                record: filler(random, room as usize),
+            },
+            None,
+        );
+    }
+}
+
+/// Plans that spend triples, and the runs that prepare them.
+fn spending_plans(tally: &mut Tally) {
+    let mut random = Random(20_270_111);
+    let spent =
+        [vec![Gate::Input(15)], (0..341).map(|g| Gate::Spend(g, g / 2)).collect(), vec![Gate::Add(9, 9)]].concat();
+    let points: Vec<u32> = (0..15).map(|seat| MOST - 1 - seat).collect();
+    let largest = file(3, (15, 7, MOST), &spent, &[Out { seat: 8, wire: 341 }; 64], &points);
+    let small = plan_file(1, 0, 2, &[Gate::Input(1), Gate::Spend(0, 0)], &[]);
+    for file in [largest, small] {
+        whole_world(&mut random, tally, file, 8);
+    }
+    for count in 340..=344 {
+        let gates = [vec![Gate::Input(1)], vec![Gate::Spend(0, 0); count]].concat();
+        let plan = plan_file(3, 1, 11, &gates, &[]);
+        tally.compare(&Case::Check { plan }, Some(if count > 341 { 7 } else { 0 }));
+    }
+    for most in [2, 4, 6, 9, 14, 20].repeat(35) {
+        let file = random::spending_plan(&mut random, most);
+        tally.spending += 1;
+        let world = World::new(&mut random, file.clone(), &SPENT_ORDER);
+        spends(&mut random, tally, &world);
+        whole_world(&mut random, tally, file, 6);
+    }
+    for most in [2, 3, 5, 8, 12].repeat(1000) {
+        let file = random::spending_plan(&mut random, most);
+        tally.spending += 1;
+        let world = World::new(&mut random, file.clone(), &SPENT_ORDER);
+        spends(&mut random, tally, &world);
+        glance(&mut random, tally, file);
+    }
+    programs(&mut random, tally, 150, random::spending_plan);
+}
+
 /// Each seat's results in the library's record of a run.
 fn results(file: &[u8], figures: &[u32], coins: &[u32]) -> Option<Vec<Vec<u32>>> {
     let plan = Plan::read(file).expect("a plan that passes");
     let mut record = vec![0; ((LIBRARY.record_size)(file) >> 8) as usize];
-    let written = (LIBRARY.record)(file, &bytes(figures), &bytes(coins), &mut record) == 0;
+    let written = (LIBRARY.record)(file, &bytes(figures), &bytes(coins), &mut [], &mut record) == 0;
     written.then(|| {
         let mut end = 8 * usize::from(plan.n);
         let of = |seat: u16| {
@@ -2333,7 +2615,7 @@ fn other_programs(tally: &mut Tally) {
 type Part = &'static [fn(&mut Tally)];
 
 /// The streams in parts; each may be worked in a process of its own.
-const PARTS: [Part; 5] = [
+const PARTS: [Part; 6] = [
     &[
         first_plans,
         |tally| sheets(&mut Random(20_260_205), tally),
@@ -2352,6 +2634,7 @@ const PARTS: [Part; 5] = [
     &[all_counts],
     &[drawn_plans],
     &[plans_1988, counts_1988],
+    &[spending_plans],
 ];
 
 /// Works a part, counted from 0.
@@ -2393,6 +2676,7 @@ fn report(tally: &Tally) -> bool {
     }
     println!("{} random plans with random wires, {} of version 4", tally.drawn, tally.masked);
     println!("{} plans run under both multiply rules", tally.twins);
+    println!("{} random plans that spend triples", tally.spending);
     let [texts, sheets, bills] = [IMPORT, SHEET, CHARGE].map(|kind| tally.met[kind].iter().sum::<usize>());
     let records = [RECORD, READ_ALL, READ_SEAT].map(|kind| tally.met[kind].iter().sum::<usize>());
     println!("{texts} texts imported or refused");
@@ -2411,6 +2695,7 @@ fn report(tally: &Tally) -> bool {
         && tally.versions[1..].iter().all(|&lent| lent >= 10_000)
         && tally.layouts[1..].iter().all(|&refused| refused >= 200)
         && tally.drawn.min(tally.masked).min(tally.twins) >= 10_000
+        && tally.spending >= 5_000
         && texts.min(sheets) >= 20_000
         && bills >= 5_000
         && records.iter().sum::<usize>() >= 10_000

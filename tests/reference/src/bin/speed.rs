@@ -7,11 +7,12 @@
 use reference::count::count_size;
 use reference::field::MOST;
 use reference::import::made_file;
-use reference::library::{LIBRARY, LINKED, REFERENCE};
+use reference::library::{Interface, LIBRARY, LINKED, REFERENCE};
 use reference::limit::{Calls, Flint, LIMIT};
+use reference::matching::triples_of;
 use reference::plan::{bytes, plan_file, Gate, Out, Plan};
-use reference::random::Random;
-use reference::run::{run_by_calls, shares, Step};
+use reference::random::{preparing_plan, Random};
+use reference::run::{run_spending, shares, Step};
 use std::hint::black_box;
 use std::process::exit;
 use std::time::{Duration, Instant};
@@ -123,8 +124,14 @@ fn same<T: PartialEq>(name: &str, candidate: &str, library: &T, other: &T) {
 const LIBRARY_CALLS: Calls = Calls::of(&LIBRARY);
 const REFERENCE_CALLS: Calls = Calls::of(&REFERENCE);
 
-/// Candidates that write one list: `call` makes the call and gives its answer. All answers and lists are compared first.
-fn writers<'a>(name: &str, len: usize, call: impl Fn(&Calls, &mut [u8]) -> u64 + Copy + 'a) -> Candidates<'a> {
+/// Candidates that write one list: `call` makes the call and gives its answer; `c` has C's calls, if there are any. All answers and lists are compared
+/// first.
+fn writers<'a>(
+    name: &str,
+    len: usize,
+    c: Option<Calls>,
+    call: impl Fn(&Calls, &mut [u8]) -> u64 + Copy + 'a,
+) -> Candidates<'a> {
     let made = |with: &Calls| {
         let mut list = vec![0xa5; len];
         (call(with, &mut list), list)
@@ -132,8 +139,8 @@ fn writers<'a>(name: &str, len: usize, call: impl Fn(&Calls, &mut [u8]) -> u64 +
     let library = made(&LIBRARY_CALLS);
     assert_eq!(library.0 & 255, 0, "{name} is refused");
     same(name, "the reference", &library, &made(&REFERENCE_CALLS));
-    if let Some(c) = LIMIT {
-        same(name, "C", &library, &made(&c));
+    if let Some(c) = &c {
+        same(name, "C", &library, &made(c));
     }
     let work = move |with: Calls| -> Work<'a> {
         let mut list = vec![0; len];
@@ -144,7 +151,7 @@ fn writers<'a>(name: &str, len: usize, call: impl Fn(&Calls, &mut [u8]) -> u64 +
             black_box(&list);
         })
     };
-    Candidates { library: work(LIBRARY_CALLS), reference: work(REFERENCE_CALLS), c: LIMIT.map(work), flint: None }
+    Candidates { library: work(LIBRARY_CALLS), reference: work(REFERENCE_CALLS), c: c.map(work), flint: None }
 }
 
 /// An input of each of n seats and then only multiplies; one out for each seat.
@@ -164,12 +171,25 @@ fn masked(file: &[u8]) -> Vec<u8> {
     plan.file_of(4, &plan.outs, &plan.points)
 }
 
-/// A plan with its figures and coins.
+/// The same plan with its products by triples.
+fn spending(file: &[u8]) -> Vec<u8> {
+    let mut plan = Plan::read(file).expect("a plan that passes");
+    for gate in &mut plan.gates {
+        if let Gate::Multiply(a, b) = *gate {
+            *gate = Gate::Spend(a, b);
+        }
+    }
+    plan.file(&plan.outs)
+}
+
+/// A plan with its figures, coins and triples, and the preparing run that makes these: its plan's file, its draws and its coins.
 struct World {
     file: Vec<u8>,
     plan: Plan,
     figures: Vec<u32>,
     coins: Vec<u32>,
+    triples: Vec<u32>,
+    preparing: (Vec<u8>, Vec<u32>, Vec<u32>),
 }
 
 impl World {
@@ -179,7 +199,15 @@ impl World {
         let p = plan.field.p() as usize;
         let mut list = |count| (0..count).map(|_| random.below(p) as u32).collect();
         let (figures, coins) = (list(plan.figures.len()), list(plan.coins()));
-        World { file, plan, figures, coins }
+        let (mut triples, mut preparing) = Default::default();
+        if !plan.spends.is_empty() {
+            let file = preparing_plan(&mut Random(4), &plan);
+            let first = Plan::read(&file).expect("a plan that passes");
+            let (draws, early): (Vec<u32>, Vec<u32>) = (list(first.figures.len()), list(first.coins()));
+            triples = triples_of(&first, &shares(&first, &draws, &early, |_| ()));
+            preparing = (file, draws, early);
+        }
+        World { file, plan, figures, coins, triples, preparing }
     }
 
     /// The bench with a set's view.
@@ -189,12 +217,24 @@ impl World {
         }
         let (figures, coins) = (bytes(&self.figures), bytes(&self.coins));
         let len = 4 * self.plan.view(set).expect("a set that passes");
-        let call = |with: &Calls, view: &mut [u8]| (with.bench)(&self.file, set, &figures, &coins, view);
-        let mut candidates = writers(name, len, call);
+        let call = |with: &Calls, view: &mut [u8]| (with.bench)(&self.file, set, &figures, &coins, &mut [], view);
+        let mut candidates = writers(name, len, LIMIT, call);
         if set == 0 {
             candidates.flint = self.flint(name);
         }
         results.time(name, words, candidates);
+    }
+
+    /// The bench with a set's view, of a plan that spends triples: each run on a copy of them. There is no C.
+    fn bench_spending(&self, results: &mut Results, name: &str, words: &str, set: u16) {
+        if !results.wants(name) {
+            return;
+        }
+        let [figures, coins, triples] = [&self.figures, &self.coins, &self.triples].map(|list| bytes(list));
+        let len = 4 * self.plan.view(set).expect("a set that passes");
+        let call =
+            |with: &Calls, view: &mut [u8]| (with.bench)(&self.file, set, &figures, &coins, &mut triples.clone(), view);
+        results.time(name, words, writers(name, len, None, call));
     }
 
     /// FLINT's way to the table of shares.
@@ -218,14 +258,14 @@ impl World {
         let (figures, coins) = (bytes(&self.figures), bytes(&self.coins));
         let len = (REFERENCE.record_size)(&self.file) as usize >> 8;
         let mut records = [vec![0; len], vec![0; len]];
-        (LIBRARY.record)(&self.file, &figures, &coins, &mut records[0]);
-        (REFERENCE.record)(&self.file, &figures, &coins, &mut records[1]);
+        (LIBRARY.record)(&self.file, &figures, &coins, &mut [], &mut records[0]);
+        (REFERENCE.record)(&self.file, &figures, &coins, &mut [], &mut records[1]);
         same(name, "the reference", &records[0], &records[1]);
-        let work = |with: fn(&[u8], &[u8], &[u8], &mut [u8]) -> u64| -> Work {
+        let work = |with: fn(&[u8], &[u8], &[u8], &mut [u8], &mut [u8]) -> u64| -> Work {
             let (mut record, figures, coins) = (vec![0; len], &figures, &coins);
             Box::new(move |times| {
                 timed(times, || {
-                    with(&self.file, figures, coins, &mut record);
+                    with(&self.file, figures, coins, &mut [], &mut record);
                 });
                 black_box(&record);
             })
@@ -235,7 +275,7 @@ impl World {
         results.time(name, words, candidates);
     }
 
-    /// Every call of seat 1, a step each.
+    /// Every call of seat 1, a step each. There is no C for plans that spend triples.
     fn seat(&self, results: &mut Results, name: &str, words: &str) {
         if !results.wants(name) {
             return;
@@ -246,58 +286,95 @@ impl World {
                 steps.push(step.clone());
             }
         };
-        run_by_calls(&self.file, &self.figures, &self.coins, keep).expect("a whole run");
+        run_spending(&self.file, &self.figures, &self.coins, &self.triples, keep).expect("a whole run");
         let steps = &steps;
+        let limit = LIMIT.filter(|_| self.plan.spends.is_empty());
         let fresh = vec![0; 4 * (1 + self.plan.gates.len())];
-        let run = |with: &Calls, state: &mut [u8], outs: &mut [Vec<u8>], times: &mut Vec<Duration>| {
+        let own = &steps[0].triples;
+        let run = |with: &Calls, lists: &mut [Vec<u8>; 2], outs: &mut [Vec<u8>], times: &mut Vec<Duration>| {
+            let [triples, state] = lists;
+            triples.copy_from_slice(own);
             state.copy_from_slice(&fresh);
             for (step, out) in steps.iter().zip(outs) {
                 let Step { seat, figures, coins, mail, .. } = step;
                 timed_short(times, || {
-                    black_box((with.seat_call)(&self.file, *seat, figures, coins, state, mail, out));
+                    black_box((with.seat_call)(&self.file, *seat, figures, coins, triples, state, mail, out));
                 });
             }
         };
-        let lists = || (fresh.clone(), steps.iter().map(|step| vec![0; step.written.len()]).collect::<Vec<_>>());
+        let lists =
+            || ([own.clone(), fresh.clone()], steps.iter().map(|step| vec![0; step.written.len()]).collect::<Vec<_>>());
         let made = |with: &Calls| {
-            let (mut state, mut outs) = lists();
-            run(with, &mut state, &mut outs, &mut Vec::new());
-            (state, outs)
+            let (mut lists, mut outs) = lists();
+            run(with, &mut lists, &mut outs, &mut Vec::new());
+            (lists, outs)
         };
         let library = made(&LIBRARY_CALLS);
         same(name, "the reference", &library, &made(&REFERENCE_CALLS));
-        if let Some(c) = LIMIT {
+        if let Some(c) = limit {
             same(name, "C", &library, &made(&c));
         }
         let run = &run;
         let work = |with: Calls| -> Work {
-            let (mut state, mut outs) = lists();
-            Box::new(move |times| run(&with, &mut state, &mut outs, times))
+            let (mut lists, mut outs) = lists();
+            Box::new(move |times| run(&with, &mut lists, &mut outs, times))
         };
         let candidates = Candidates {
             library: work(LIBRARY_CALLS),
             reference: work(REFERENCE_CALLS),
-            c: LIMIT.map(work),
+            c: limit.map(work),
             flint: None,
         };
         results.time(name, words, candidates);
     }
 
     /// The matching for the last t seats, whose outs stand nowhere in the changed plan.
+    /// The plan with one out, to seat 1, and a second list of figures that agrees with the first at the last t seats'; and the set of these.
+    fn pair(&self) -> (Vec<u8>, Vec<u8>, u16) {
+        let Plan { n, t, field, .. } = self.plan;
+        let others = usize::from(n) - t;
+        let outs = [Out { seat: 1, wire: self.plan.gates.len() - 1 }];
+        let changed = |(i, &x): (usize, &u32)| if i < others { field.p() - 1 - x } else { x };
+        let second: Vec<u32> = self.figures.iter().enumerate().map(changed).collect();
+        (self.plan.file(&outs), bytes(&second), ((1 << t) - 1) << others)
+    }
+
     fn matching(&self, results: &mut Results, name: &str, words: &str) {
         if !results.wants(name) {
             return;
         }
-        let Plan { n, t, field, .. } = self.plan;
-        let others = usize::from(n) - t;
-        let outs = [Out { seat: 1, wire: self.plan.gates.len() - 1 }];
-        let file = self.plan.file(&outs);
-        let changed = |(i, &x): (usize, &u32)| if i < others { field.p() - 1 - x } else { x };
-        let second: Vec<u32> = self.figures.iter().enumerate().map(changed).collect();
-        let set = ((1 << t) - 1) << others;
-        let (first, second, coins) = (bytes(&self.figures), bytes(&second), bytes(&self.coins));
+        let (file, second, set) = self.pair();
+        let (first, coins) = (bytes(&self.figures), bytes(&self.coins));
         let call = |with: &Calls, matched: &mut [u8]| (with.matching)(&file, set, &first, &second, &coins, matched);
-        results.time(name, words, writers(name, coins.len(), call));
+        results.time(name, words, writers(name, coins.len(), LIMIT, call));
+    }
+
+    /// Both runs matched together, of a plan that spends triples; there is no C.
+    fn matching_prepared(&self, results: &mut Results, name: &str, words: &str) {
+        if !results.wants(name) {
+            return;
+        }
+        let (file, second, set) = self.pair();
+        let (preparing, draws, early) = &self.preparing;
+        let (first, coins) = (bytes(&self.figures), bytes(&[&draws[..], early, &self.coins].concat()));
+        let call = |with: &Interface, matched: &mut [u8]| {
+            (with.matching_prepared)(preparing, &file, set, &first, &second, &coins, matched)
+        };
+        let mut lists = [vec![0xa5; coins.len()], vec![0xa5; coins.len()]];
+        assert_eq!(call(&LIBRARY, &mut lists[0]), 0, "{name} is refused");
+        assert_eq!(call(&REFERENCE, &mut lists[1]), 0, "{name} is refused");
+        same(name, "the reference", &lists[0], &lists[1]);
+        let work = |with: &'static Interface| -> Work {
+            let mut list = vec![0; coins.len()];
+            Box::new(move |times| {
+                timed(times, || {
+                    call(with, &mut list);
+                });
+                black_box(&list);
+            })
+        };
+        let candidates = Candidates { library: work(&LIBRARY), reference: work(&REFERENCE), c: None, flint: None };
+        results.time(name, words, candidates);
     }
 }
 
@@ -330,7 +407,7 @@ fn count(results: &mut Results, name: &str, words: &str, file: &[u8], set: u16, 
     let (figures, coins) = (bytes(figures), bytes(coins));
     let len = count_size(file, set).expect("few settings");
     let call = |with: &Calls, rows: &mut [u8]| (with.count)(file, set, &figures, &coins, rows);
-    results.time(name, words, writers(name, len, call));
+    results.time(name, words, writers(name, len, LIMIT, call));
 }
 
 fn counts(results: &mut Results) {
@@ -369,6 +446,26 @@ fn main() {
     world.bench(&mut results, "bench-15-7-v4", "bench with the view of 7", 127);
     world.seat(&mut results, "seat-15-7-v4", "one seat's whole run");
     world.matching(&mut results, "match-15-7-v4", "matching");
+    println!(
+        "341 products, dealt anew and by triples: one seat's whole run, the bench, and both runs matched together:"
+    );
+    for (n, t) in [(15, 7), (5, 2), (3, 1)] {
+        let file = products(n, t, P, 341);
+        let name = |by: &str| format!("seat-{n}-{t}-{by}");
+        let words = |by: &str| format!("341 {by}, n={n} t={t}");
+        World::new(file.clone()).seat(&mut results, &name("products"), &words("multiplies"));
+        let world = World::new(spending(&file));
+        world.seat(&mut results, &name("triples"), &words("triples"));
+        let set = (1 << t) - 1;
+        world.bench_spending(
+            &mut results,
+            &format!("bench-{n}-{t}-triples"),
+            &format!("bench, {}, a view of {t}", words("triples")),
+            set,
+        );
+        let name = format!("match-{n}-{t}-prepared");
+        world.matching_prepared(&mut results, &name, &format!("both runs matched, {}", words("triples")));
+    }
     println!("counted views:");
     counts(&mut results);
     println!("p = {P}, n=15 t=7, the view of 7, by multiplies:");

@@ -8,7 +8,7 @@ use reference::run::bench;
 pub fn direct(file: &[u8], set: u16, figures: &[u32], coins: &[u32]) -> (Vec<u32>, usize) {
     let length = Plan::read(file).unwrap().view(set).unwrap();
     let mut seen = vec![0; 4 * length];
-    let sent = bench(file, set, &bytes(figures), &bytes(coins), &mut seen).unwrap();
+    let sent = bench(file, set, &bytes(figures), &bytes(coins), &mut [], &mut seen).unwrap();
     (List::new(&seen, length, 0).unwrap().to_vec(), sent)
 }
 

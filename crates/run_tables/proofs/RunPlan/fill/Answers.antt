@@ -15,3 +15,6 @@ loop-g-preserved c = search filling_table
 
 pub returns-clause-table_after : goal.returns-clause-table_after
 returns-clause-table_after c = search filling_table
+
+pub step-requires-clause-spending : goal.step-requires-clause-spending
+step-requires-clause-spending c = search filling_table

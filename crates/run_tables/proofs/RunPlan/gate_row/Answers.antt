@@ -88,3 +88,18 @@ truncated_row-requires-clause-rowed_2 c = search working
 
 pub returns-in-Some : goal.returns-in-Some
 returns-in-Some c = search working
+
+pub spent_row-requires-clause-t_in_bounds : goal.spent_row-requires-clause-t_in_bounds
+spent_row-requires-clause-t_in_bounds c = search working
+
+pub spent_row-requires-clause-points_value : goal.spent_row-requires-clause-points_value
+spent_row-requires-clause-points_value c = search working
+
+pub spent_row-requires-clause-spending : goal.spent_row-requires-clause-spending
+spent_row-requires-clause-spending c = search working
+
+pub spent_row-requires-clause-rowed : goal.spent_row-requires-clause-rowed
+spent_row-requires-clause-rowed c = search working
+
+pub spent_row-requires-clause-rowed_2 : goal.spent_row-requires-clause-rowed_2
+spent_row-requires-clause-rowed_2 c = search working

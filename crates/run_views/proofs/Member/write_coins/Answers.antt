@@ -6,5 +6,5 @@ use Rattle.run_views.proofs.Member.write_coins.Goals as goal
 pub returns : goal.returns
 returns c =
     let w =
-    c.put_gates.ensures (coins_at (plan_of c.args.self.now.run.now.plan.now.bytes.now) c.args.self.now.i (numbers c.args.self.now.run.now.coins.now)) (λ x next from w v p. search own_gates) in
+    c.put_gates.ensures (coins_at (plan_of c.args.self.now.run.now.plan.now.bytes.now) c.args.self.now.i (numbers c.args.self.now.run.now.coins.now)) (λ x next from spent w v p. search own_gates) in
     record { same = w.same; wrote = coins_put _ _ _ _ _ _ _ w.wrote }

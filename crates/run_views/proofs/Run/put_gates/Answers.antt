@@ -26,7 +26,7 @@ loop-g-preserved g c =
       put =
           λ f k.
           let w = c.loop-g.invariant.put f k in
-          let v = k c.gate-gate.result c.loop-g.i c.loop-g.from _ _ c.put.ensures in
+          let v = k c.gate-gate.result c.loop-g.i c.loop-g.from c.loop-g.spent _ _ c.put.ensures in
           (v.same ∙ w.0, search (gathering, is, w.1, v.wrote));
     }
 

@@ -9,3 +9,6 @@ slice_bounds-owners-end-2 c = search rooming
 
 pub slice_bounds-settings-end : goal.slice_bounds-settings-end
 slice_bounds-settings-end c = search rooming
+
+pub invariant_of-settings : goal.invariant_of-settings
+invariant_of-settings c = record { lent = search rooming }

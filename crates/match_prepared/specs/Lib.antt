@@ -1,0 +1,3 @@
+pub mod PreparedCalls
+pub mod PreparedParts
+pub mod MatchingParts
