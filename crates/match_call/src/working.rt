@@ -54,6 +54,7 @@ impl Matcher<'_> {
     {
         let mover = Mover {
             header: self.run.plan.header,
+            sums: self.run.dealings.sums,
             set: self.set,
             delta: self.delta,
             first: self.first,

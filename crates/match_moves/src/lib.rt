@@ -49,6 +49,7 @@ pub fn members<'a>(set: u16, points: &[u64], room: &'a mut [u64]) -> &'a [u64]
 #[derive(Clone, Copy)]
 pub struct Mover<'a> {
     pub header: Header,
+    pub sums: Sums,
     pub set: u16,
     pub delta: &'a [u64],
     pub first: &'a [u8],
@@ -58,6 +59,7 @@ pub struct Mover<'a> {
     pub after: &'a [u64],
     pub truncation: &'a Truncation<'a>,
     pub ghost sized: { Sized header },
+    pub ghost summed: { sums.field.p ≡ header.field.p },
     pub ghost movable: { Movable header.field.p header.t delta.now first.now second.now },
     pub ghost truncating: { Truncating header truncation.now.bases.field.p truncation.now.bases.t truncation.now.bases.points.now truncation.now.spares.now },
 }
@@ -131,7 +133,7 @@ impl Mover<'_> {
         ensures { record { eq : take (self.now.header.t + self.now.header.t + 1) result ≡ products_of self.now.header.field.p self.now.header.n (self.now.header.t + self.now.header.t + 1) a b table.now; below : all_below self.now.header.field.p (take (self.now.header.t + self.now.header.t + 1) result) ≡ true } }
     {
         let h = self.header;
-        run_dealings::products(Sums::new(h.field), h.n, h.t + h.t + 1, a, b, table)
+        run_dealings::products(self.sums, h.n, h.t + h.t + 1, a, b, table)
     }
 
     // Writes the moved coins of a multiply gate's dealings; answers the place after them.

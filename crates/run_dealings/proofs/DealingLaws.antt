@@ -37,7 +37,7 @@ use Rattle.run_dealings.specs.Rows.{terms, powers, power_rows, products_of, shar
 use Rattle.run_dealings.specs.Columns.{column_sum, piece_by, pieces_by, share_at}
 use Rattle.run_dealings.proofs.RowLaws.{Making, make-none, make-next, part_front, made}
 use Rattle.run_dealings.proofs.PowerLaws.{eval-powers, length-powers, power-row, rows-flat}
-use Rattle.run_dealings.proofs.PolynomialLaws.{length_shared, shared_short, below-cons, length-padded, polynomial_at, terms_few, terms_many, terms_within, terms_small, terms_above}
+use Rattle.run_dealings.proofs.PolynomialLaws.{length_shared, shared_short, below-cons, length-padded, polynomial_at, terms_few, terms_eight, terms_within, terms_small, terms_above}
 use Rattle.run_dealings.proofs.ColumnLaws.{few_weights, powered_by, rowing, row_is, row_long, row_small}
 
 -- ---- a dealing's row: j pieces stand
@@ -115,7 +115,7 @@ one_dealing p t at coins c = omega (arith, c.room, numbers-length coins)
 pub ruleset inputs = (rules, terms_within, one_dealing, front-counted, front_wide, whole_long, dealt_below, input-dealt)
 
 -- ---- a multiply's row
--- the two counts of coefficients, where the grid is worked
+-- the counts of coefficients, where the grid is worked
 module _ (t k : ℕ) (e : k ≡ terms t) where
   pub shares_by : (p i : ℕ) (row ws fs points : List ℕ) → take i row ≡ map (share_at p k ws fs) points → take i row ≡ map (share_at p (terms t) ws fs) points
   shares_by p i row ws fs points r = rw (← e) r
@@ -124,7 +124,7 @@ module _ (t k : ℕ) (e : k ≡ terms t) where
 pub in_range : (p : ℕ) (w v : Bool) → w ≡ is_wide p → w ≡ v → v ≡ is_wide p
 in_range p w v e f = sym f ∙ e
 
-pub ruleset sharing_by = (rules, terms_few, terms_many, shares_by)
+pub ruleset sharing_by = (rules, terms_eight, shares_by)
 
 -- what stands below p
 tab_below : (p : ℕ) (F : List ℕ → List ℕ) (f : ℕ → List ℕ) (n : ℕ) → ((i : ℕ) → i < n → all_below p (F (f i)) ≡ true) → all_below p (flat_map F (tab f n)) ≡ true
@@ -185,12 +185,12 @@ module _ (t k : ℕ) (few : t < 8) (e : k ≡ terms t) (ws points : List ℕ) (l
   pub used_fits : Fits w64 (k * length ws)
   used_fits = record { fits = omega (arith, used_few) }
 
-  pub used_within : k * length ws ≤ 120
-  used_within = used_few
+  module _ (d : List ℕ) (room : terms t * length ws ≤ length d) where
+    pub used_within : k * length ws ≤ length d
+    used_within = rw e room
 
-  module _ (d : List ℕ) (long : length d ≡ 120) where
     used-long : length (take (k * length ws) d) ≡ k * length ws
-    used-long = length-take-le (k * length ws) d (omega (arith, used_few))
+    used-long = length-take-le (k * length ws) d used_within
 
     pub used-counted : k * length ws ≡ length (take (k * length ws) d)
     used-counted = sym used-long
@@ -200,7 +200,7 @@ module _ (t k : ℕ) (few : t < 8) (e : k ≡ terms t) (ws points : List ℕ) (l
 
     module _ (ys : List ℕ) (kept : length ys ≡ length (take (k * length ws) d)) where
       ys-front : take (k * length ws) (ys ++ drop (k * length ws) d) ≡ ys
-      ys-front = front-is d ys (k * length ws) (omega (arith, used_few)) kept
+      ys-front = front-is d ys (k * length ws) used_within kept
 
       ys-sized : length (take (k * length ws) (ys ++ drop (k * length ws) d)) ≡ k * length ws
       ys-sized = ap length ys-front ∙ kept ∙ used-long
@@ -244,6 +244,18 @@ coined_spaced p t step m at cs c l = record {
       )
       (all_below-take p t _ (all_below-drop p (step * d) (take (step * m) (drop at cs)) c.below));
 }
+
+-- the room of few parties' polynomials, and of all's
+module _ (t : ℕ) (ws points : List ℕ) (lw : length ws ≤ length points) where
+  pub room_small : t < 4 → length points ≤ 5 → terms t * length ws ≤ 20
+  room_small l few =
+      let k : t + 1 ≡ terms t = terms_few t l in
+      mul-le-mul {n₁ = terms t} {m₁ = length ws} {n₂ = 4} {m₂ = 5} (omega arith) (omega arith)
+
+  pub room_whole : t < 8 → length points ≤ 15 → terms t * length ws ≤ 120
+  room_whole l lp = used_few t (terms t) l refl ws points lw lp
+
+pub ruleset rooming = (rules, room_small, room_whole)
 
 pub ruleset weighing = (rules, used_fits, used_within, used-counted, values-room, dealt-within, dealt-again, dealt-room, dealt-elements, dealt-wide, dealt-spaced, row-mixed)
 

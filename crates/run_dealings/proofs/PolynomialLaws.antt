@@ -155,9 +155,9 @@ module _ (t step k : ℕ) (vs coins : List ℕ) (at : ℕ) where
 pub ruleset sharing = (rules, share-none, share-room, share-end-fits, share-start-fits, share-wide, share-coins, share-step-fits, share-from-fits, share-place-fits, share-next, all-shared)
 
 -- ---- the count of coefficients
-pub terms_few : (t : ℕ) → t < 4 → 4 ≡ terms t
+pub terms_few : (t : ℕ) → t < 4 → t + 1 ≡ terms t
 unfolding terms
-terms_few t l = rw (lt-ltb t 4 l)
+terms_few t l = rw (lt-ltb t 4 l) (omega arith)
 
 pub terms_many : (t : ℕ) → 4 ≤ t → t < 8 → 8 ≡ terms t
 unfolding terms
@@ -178,8 +178,9 @@ module _ (t k : ℕ) (e : k ≡ terms t) where
 
   terms_by : (b c : Bool) → ltb t 4 ≡ b → ltb t 8 ≡ c → Counted
   terms_by true c l m =
-      let q : k ≡ 4 = e ∙ sym (terms_few t (ltb-true t 4 l)) in
-      record { most = omega arith; small = λ s. omega arith; above = λ s. omega (arith, ltb-true t 4 l) }
+      let q : k ≡ t + 1 = e ∙ sym (terms_few t (ltb-true t 4 l)) in
+      let few : t < 4 = ltb-true t 4 l in
+      record { most = omega arith; small = λ s. omega arith; above = λ s. omega arith }
   terms_by false true l m =
       let q : k ≡ 8 = e ∙ sym (terms_many t (ltb-false t 4 l) (ltb-true t 8 m)) in
       record { most = omega arith; small = λ s. omega arith; above = λ s. omega (arith, ltb-true t 8 m) }
@@ -195,3 +196,11 @@ module _ (t k : ℕ) (e : k ≡ terms t) where
 
   pub terms_above : t < 16 → t < k
   terms_above = (terms_by (ltb t 4) (ltb t 8) refl refl).above
+
+  -- more than four are eight
+  pub terms_eight : t < 8 → (k ≡ 1 → ⊥) → (k ≡ 2 → ⊥) → (k ≡ 3 → ⊥) → (k ≡ 4 → ⊥) → 8 ≡ terms t
+  terms_eight s a b c d = terms_many t (by (ltb t 4) refl) s
+    where
+      by : (m : Bool) → ltb t 4 ≡ m → 4 ≤ t
+      by true l = let q : k ≡ t + 1 = e ∙ sym (terms_few t (ltb-true t 4 l)) in omega (arith, ltb-true t 4 l, a, b, c, d)
+      by false l = ltb-false t 4 l

@@ -87,7 +87,7 @@ spent_of p t points a b ts at table =
 
 -- how many coefficients a dealing of t coins is worked with, for t below 16
 unfoldable pub terms : ℕ → ℕ
-terms t = cond (ltb t 4) 4 (cond (ltb t 8) 8 16)
+terms t = cond (ltb t 4) (suc t) (cond (ltb t 8) 8 16)
 
 -- the bounds of a plan's contents
 pub record Sized (h : Header) : Type 0 where

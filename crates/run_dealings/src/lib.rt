@@ -49,13 +49,13 @@ fn power_rows(f: Field, k: usize, points: &[u64], rows: &mut [u64])
     }
 }
 
-// How many coefficients a dealing of t coins is worked with; those above the coins are 0. With multiply gates t is below 8, and both its counts
-// are constants where the columns are worked, so that the loop over the coefficients is unrolled.
+// How many coefficients a dealing of t coins is worked with; those above the coins are 0. With multiply gates t is below 8, and each count
+// is a constant where the columns are worked, so that the loop over the coefficients is unrolled.
 fn terms(t: usize) -> usize
     ensures { result ≡ terms t }
 {
     match t {
-        0..4 => 4,
+        0..4 => t + 1,
         4..8 => 8,
         _ => 16,
     }
@@ -337,11 +337,17 @@ impl Product<'_> {
         ensures { take (length self.now.dealings.now.points.now) result ≡ map (share_at self.now.dealings.now.sums.field.p (terms self.now.dealings.now.t) self.now.dealings.now.weights.now self.now.polynomials.now) self.now.dealings.now.points.now }
     {
         let mut grid = [[0u64; 15]; 15];
-        match (self.dealings.sums.wide, self.dealings.t < 4) {
-            (true, true) => self.columns::<true, 4>(&mut grid),
-            (true, false) => self.columns::<true, 8>(&mut grid),
-            (false, true) => self.columns::<false, 4>(&mut grid),
-            (false, false) => self.columns::<false, 8>(&mut grid),
+        match (self.dealings.sums.wide, terms(self.dealings.t)) {
+            (true, 1) => self.columns::<true, 1>(&mut grid),
+            (true, 2) => self.columns::<true, 2>(&mut grid),
+            (true, 3) => self.columns::<true, 3>(&mut grid),
+            (true, 4) => self.columns::<true, 4>(&mut grid),
+            (true, _) => self.columns::<true, 8>(&mut grid),
+            (false, 1) => self.columns::<false, 1>(&mut grid),
+            (false, 2) => self.columns::<false, 2>(&mut grid),
+            (false, 3) => self.columns::<false, 3>(&mut grid),
+            (false, 4) => self.columns::<false, 4>(&mut grid),
+            (false, _) => self.columns::<false, 8>(&mut grid),
         }
     }
 
@@ -686,12 +692,13 @@ impl<'a> Dealings<'a> {
         row
     }
 
-    // The row of these dealings: each receiver's pieces are weighed and summed.
+    // The row of these dealings, where room is lent for their polynomials.
     // As it is: the way is kept with the dealings. A closure would be a type parameter of `Dealings` and of each struct that keeps one, and its contract
     // would be the one that both methods have.
     #[tactic(auto, using(crate::proofs::DealingLaws::weighing))]
-    pub fn weighed_row(&self, dealt: &Dealt) -> [u64; 15]
+    fn weighed_in(&self, dealt: &Dealt, room: &mut [u64]) -> [u64; 15]
         requires t_bound { self.now.t < 8 }
+        requires room_in_bounds { terms self.now.t * length self.now.weights.now ≤ length room.old }
         requires t_value { dealt.now.t ≡ self.now.t }
         requires values_len { length dealt.now.values.now ≡ length self.now.weights.now }
         requires values_value { all_below self.now.sums.field.p dealt.now.values.now ≡ true }
@@ -700,7 +707,6 @@ impl<'a> Dealings<'a> {
     {
         let k = terms(self.t);
         let used = k * self.weights.len();
-        let mut room = [0u64; 120];
         polynomials(dealt, k, &mut room[..used]);
         let product = Product {
             dealings: self,
@@ -709,6 +715,24 @@ impl<'a> Dealings<'a> {
         match self.way {
             Way::Grid => product.gridded(),
             Way::Sum => product.mixed(),
+        }
+    }
+
+    // The row of these dealings: each receiver's pieces are weighed and summed. The room of a large plan is as much to clear as a small plan's product is
+    // work, so a small plan has less.
+    #[tactic(auto, using(crate::proofs::DealingLaws::rooming))]
+    pub fn weighed_row(&self, dealt: &Dealt) -> [u64; 15]
+        requires t_bound { self.now.t < 8 }
+        requires t_value { dealt.now.t ≡ self.now.t }
+        requires values_len { length dealt.now.values.now ≡ length self.now.weights.now }
+        requires values_value { all_below self.now.sums.field.p dealt.now.values.now ≡ true }
+        requires spaced { Spaced self.now.sums.field.p dealt.now.t dealt.now.step (length dealt.now.values.now) dealt.now.at (numbers dealt.now.coins.now) }
+        ensures { take (length self.now.points.now) result ≡ map (mixed_at self.now.sums.field.p self.now.weights.now (shared_by dealt.now.t dealt.now.step dealt.now.values.now (drop dealt.now.at (numbers dealt.now.coins.now)))) self.now.points.now }
+    {
+        if self.t < 4 && self.points.len() <= 5 {
+            self.weighed_in(dealt, &mut [0; 20])
+        } else {
+            self.weighed_in(dealt, &mut [0; 120])
         }
     }
 

@@ -1,5 +1,5 @@
 use Rattle.run_dealings.proofs.DealingLaws.{weighing}
-use Rattle.run_dealings.proofs.Dealings.weighed_row.Goals as goal
+use Rattle.run_dealings.proofs.Dealings.weighed_in.Goals as goal
 
 pub polynomials-requires-clause-t_lt_k : goal.polynomials-requires-clause-t_lt_k
 polynomials-requires-clause-t_lt_k c = search weighing
