@@ -74,7 +74,9 @@ impl Matcher<'_> {
         ensures stepped { Stepped (plan_of self.now.run.plan.now.bytes.now) self.now.run.plan.now.header.n (gate_at self.now.run.plan.now.bytes.now at.gate) at.gate (drop at.input (numbers self.now.first.now)) (drop at.coin (numbers self.now.coins.now)) (numbers self.now.first_triples.now) at.spent before.old before.new }
         ensures stepped_2 { Stepped (plan_of self.now.run.plan.now.bytes.now) self.now.run.plan.now.header.n (gate_at self.now.run.plan.now.bytes.now at.gate) at.gate (drop at.input (numbers self.now.second.now)) (drop at.coin (numbers new.now)) (numbers self.now.second_triples.now) at.spent after.old after.new }
     {
+        let gate = self.run.plan.gate(at.gate);
         self.run.step(
+            gate,
             at.gate,
             self.first,
             at.input,
@@ -85,6 +87,7 @@ impl Matcher<'_> {
             before,
         );
         self.run.step(
+            gate,
             at.gate,
             self.second,
             at.input,

@@ -13,7 +13,7 @@ use native.Mathlib.Numerals.{add-one}
 use native.Mathlib.Nat.{add-sub_cancel_left, eq-or-lt_of_le}
 use native.Mathlib.Omega.{arith}
 use borrow.Author.Rules.{rules}
-use lib.ListN.{length, take, drop, get_or, set, replicate, length-set, length-drop, length-map, get_or-map}
+use lib.ListN.{length, take, drop, get_or, set, length-set, length-drop, length-map, get_or-map}
 use lib.Seq.{get_or-set_same, get_or-set_other, get_or-take, ext_get_or, length-take-le}
 use mir.Syntax.{w64}
 use mir.Val.{Fits}
@@ -281,19 +281,19 @@ pub record Gridding (p k : ℕ) (points ws fs : List ℕ) (grid₀ grid : List (
   pub dealt : grid ≡ with_columns (column_at p k points fs (length ws)) j grid₀
 
 module _ (p k : ℕ) (points ws fs : List ℕ) (grid₀ : List (List ℕ)) where
-  pub grid-none : Gridding p k points ws fs grid₀ grid₀ (replicate 15 0) 0
+  pub grid-none : (sums : List ℕ) → length points ≤ length sums → Gridding p k points ws fs grid₀ grid₀ sums 0
   unfolding with_columns
-  grid-none = record { shares = make-none _ (length points); dealt = refl }
+  grid-none sums l = record { shares = make-none _ (length points) sums l; dealt = refl }
 
   module _ (grid : List (List ℕ)) (sums : List ℕ) (j : ℕ) (h : Gridding p k points ws fs grid₀ grid sums j) where
     module _ (t : ℕ) (counted : k ≡ terms t) (rows : List ℕ) (b : Powered p (terms t) points rows) (l : j < length points) where
-      pub grid-next : (v : ℕ) (after : List (List ℕ)) → length points ≤ 15
+      pub grid-next : (v : ℕ) (after : List (List ℕ))
           → Is p (column_sum p ws (pieces_by p (length (take (k * j + k - k * j) (drop (k * j) rows))) (take (k * j + k - k * j) (drop (k * j) rows)) fs (length ws))) v
           → after ≡ with_column j (pieces_by p (length (take (k * j + k - k * j) (drop (k * j) rows))) (take (k * j + k - k * j) (drop (k * j) rows)) fs (length ws)) grid
           → Gridding p k points ws fs grid₀ after (set sums j v) (j + 1)
       unfolding with_columns column_at share_at
-      grid-next v after m is to = record {
-        shares = make-next _ (length points) sums j h.shares v m l (is.eq ∙ ap (column_sum p ws) column-is);
+      grid-next v after is to = record {
+        shares = make-next _ (length points) sums j h.shares v l (is.eq ∙ ap (column_sum p ws) column-is);
         dealt = to ∙ ap₂ (with_column j) column-is h.dealt ∙ rw (add-one j);
       }
         where

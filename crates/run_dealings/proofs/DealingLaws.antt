@@ -10,7 +10,7 @@ use Prim.Native.Nat.{ℕ, zero, suc, ◌+◌, ◌-◌, ◌*◌, ◌/◌, ◌^◌
 use native.Mathlib.Nat.{mul-le-mul}
 use native.Mathlib.Omega.{arith}
 use borrow.Author.Rules.{rules}
-use lib.ListN.{length, take, drop, set, get_or, replicate, length-append, length-take, take-append-drop}
+use lib.ListN.{length, take, drop, set, get_or, length-append, length-take, take-append-drop}
 use lib.Seq.{take_at, drop_at, drop-drop, length-take-le}
 use mir.Syntax.{w64}
 use mir.Val.{Fits}
@@ -45,8 +45,8 @@ pub record Piecing (p : ℕ) (f points d : List ℕ) (j : ℕ) : Type 0 where
   pub fills : Making (λ i. eval p f (get_or points i 0)) (length points) d j
 
 module _ (p : ℕ) (f points : List ℕ) where
-  pub piece-none : Piecing p f points (replicate 15 0) 0
-  piece-none = record { fills = make-none _ (length points) }
+  pub piece-none : (d : List ℕ) → length points ≤ length d → Piecing p f points d 0
+  piece-none d l = record { fills = make-none _ (length points) d l }
 
   module _ (d : List ℕ) (j : ℕ) (h : Piecing p f points d j) where
     module _ (t : ℕ) (counted : length f ≡ terms t) (rows : List ℕ) (b : Powered p (terms t) points rows) (l : j < length points) where
@@ -56,10 +56,10 @@ module _ (p : ℕ) (f points : List ℕ) where
       pub row_within_16 : length (take (length f * j + length f - length f * j) (drop (length f * j) rows)) ≤ 16
       row_within_16 = row_small p t (length f) counted points rows b j l
 
-      pub piece-next : (v : ℕ) → length points ≤ 15 → Is p (dot p (take (length f * j + length f - length f * j) (drop (length f * j) rows)) f) v → Piecing p f points (set d j v) (j + 1)
-      piece-next v m is =
+      pub piece-next : (v : ℕ) → Is p (dot p (take (length f * j + length f - length f * j) (drop (length f * j) rows)) f) v → Piecing p f points (set d j v) (j + 1)
+      piece-next v is =
           let e : v ≡ eval p f (get_or points j 0) = is.eq ∙ ap (λ (ws : List ℕ). dot p ws f) (row_is p t (length f) counted points rows b j l) ∙ eval-powers p f (get_or points j 0) in
-          record { fills = make-next _ (length points) d j h.fills v m l e }
+          record { fills = make-next _ (length points) d j h.fills v l e }
 
     pub pieces-made : length points ≤ j → take (length points) d ≡ map (eval p f) points
     pieces-made l = made _ (length points) d j h.fills l ∙ sym (map-tab (eval p f) points)

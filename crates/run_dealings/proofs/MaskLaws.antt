@@ -10,7 +10,7 @@ use native.Mathlib.Omega.{arith}
 use borrow.Author.Rules.{rules}
 use borrow.Author.Tests.{lt-ltb}
 use lib.ListN.{length, take, drop, get_or, replicate, length-replicate, length-append, length-drop}
-use lib.Seq.{length-take-le, take_all}
+use lib.Seq.{length-take-le, take_all, take_at}
 use mir.Syntax.{w64}
 use mir.Val.{Fits}
 use Rattle.numbers.specs.Tables.{tab}
@@ -158,14 +158,14 @@ module _ (p t : ℕ) (points table cs : List ℕ) (a b : ℕ) where
   pub masks_elements : (right : List ℕ) → Ready p → right ≡ map (summed_at p (shared_by (t + t) (3 * t) (replicate (length points) 0) cs)) points → all_below p right ≡ true
   masks_elements right r e = masks_below p t points [] (shared_by (t + t) (3 * t) (replicate (length points) 0) cs) right r e
 
-  pub masked_all : (left right shares : List ℕ) → left ≡ products_of p (length points) (length points) a b table
+  pub masked_all : (left right ys rest : List ℕ) → left ≡ products_of p (length points) (length points) a b table
       → right ≡ map (summed_at p (shared_by (t + t) (3 * t) (replicate (length points) 0) cs)) points
-      → take (length left) shares ≡ tab (λ j. add p (get_or left j 0) (get_or right j 0)) (length left)
-      → take (length points) shares ≡ masked_of p t points a b table cs
+      → ys ≡ tab (λ j. add p (get_or left j 0) (get_or right j 0)) (length left)
+      → take (length points) (ys ++ rest) ≡ masked_of p t points a b table cs
   unfolding masked_of products_of
-  masked_all left right shares el er is =
+  masked_all left right ys rest el er is =
       let n : length left ≡ length points = ap length el ∙ length-tab _ (length points) in
-      ap (λ (k : ℕ). take k shares) (sym n)
+      take_at ys rest (length points) (ap length is ∙ length-tab _ (length left) ∙ n)
       ∙ is
       ∙ ap (tab (λ j. add p (get_or left j 0) (get_or right j 0))) n
       ∙ tab-ext _ _ (length points)

@@ -8,6 +8,8 @@ use mathlib.Core.Path.{◌≡◌, refl, sym, ap, ◌∙◌, fun_ext}
 use mathlib.Core.Bool.{true}
 use mathlib.Core.List.{List, [], ◌∷◌, ◌++◌, map}
 use Prim.Native.Nat.{ℕ, zero, suc, ◌+◌, ◌*◌, ◌%◌, ◌^◌, ◌<◌, ◌≤◌}
+use native.Mathlib.Numerals.{add-one}
+use native.Mathlib.Nat.{mul-suc, mul-zero}
 use native.Mathlib.Omega.{arith}
 use borrow.Author.Rules.{rules}
 use lib.ListN.{length, take, drop, get_or, length-drop}
@@ -86,29 +88,27 @@ mixture_dealt p k ws fs x room =
 abbrev pub coefficients_at : ℕ → List ℕ → List ℕ → ℕ → List ℕ
 coefficients_at k ws fs i = tab (λ d. get_or fs (k * d + i) 0) (length ws)
 
-pub record Mixing (p k : ℕ) (ws fs : List ℕ) (i sum d : ℕ) : Type 0 where
+pub record Mixing (p k : ℕ) (ws fs : List ℕ) (i sum at d : ℕ) : Type 0 where
+  pub place : at ≡ k * d + i
   pub summed : Summed p ws (coefficients_at k ws fs i) sum d
 
 module _ (p k : ℕ) (ws fs : List ℕ) (i : ℕ) where
-  pub mix-none : Mixing p k ws fs i 0 0
-  mix-none = record { summed = sum-none p ws (coefficients_at k ws fs i) }
+  pub mix-none : Mixing p k ws fs i 0 i 0
+  mix-none = record { place = omega (arith, mul-zero k); summed = sum-none p ws (coefficients_at k ws fs i) }
 
-  module _ (sum d : ℕ) (h : Mixing p k ws fs i sum d) where
+  module _ (sum at d : ℕ) (h : Mixing p k ws fs i sum at d) where
     module _ (l : d < length ws) (room : k * length ws ≤ length fs) (few : i < k) where
-      pub mix-within : k * d + i < length fs
-      mix-within = omega (arith, row_room k d (length ws) l)
+      pub mix-within : at < length fs
+      mix-within = omega (arith, h.place, row_room k d (length ws) l)
 
-      pub mix-row-fits : length fs * 8 < 2 ^ 63 → Fits w64 (k * d)
-      mix-row-fits f = record { fits = omega (arith, row_room k d (length ws) l) }
+      pub mix-next-fits : length fs * 8 < 2 ^ 63 → Fits w64 (at + k)
+      mix-next-fits f = record { fits = omega (arith, h.place, row_room k d (length ws) l) }
 
-      pub mix-entry-fits : length fs * 8 < 2 ^ 63 → Fits w64 (k * d + i)
-      mix-entry-fits f = record { fits = omega (arith, row_room k d (length ws) l) }
+      pub mix-place-fits : length fs * 8 < 2 ^ 63 → Fits w64 (at * 8)
+      mix-place-fits f = record { fits = omega (arith, h.place, row_room k d (length ws) l) }
 
-      pub mix-place-fits : length fs * 8 < 2 ^ 63 → Fits w64 ((k * d + i) * 8)
-      mix-place-fits f = record { fits = omega (arith, row_room k d (length ws) l) }
-
-      pub mix-below : Ready p → all_below p ws ≡ true → all_below p fs ≡ true → Below2 p (get_or ws d 0) (get_or fs (k * d + i) 0)
-      mix-below r hw hf = record { left = entry_below p ws d r hw; right = entry_below p fs (k * d + i) r hf }
+      pub mix-below : Ready p → all_below p ws ≡ true → all_below p fs ≡ true → Below2 p (get_or ws d 0) (get_or fs at 0)
+      mix-below r hw hf = record { left = entry_below p ws d r hw; right = entry_below p fs at r hf }
 
     pub mix-few : Ready p → length ws ≤ 15 → sum ≤ 4294967296 * p
     mix-few r m = sum_low p ws (coefficients_at k ws fs i) r sum d h.summed (omega arith)
@@ -128,25 +128,26 @@ module _ (p k : ℕ) (ws fs : List ℕ) (i : ℕ) where
       unfolding all
       all-below = all_below-tab p (λ e. get_or fs (k * e + i) 0) (length ws) (λ e m. entry_below p fs (k * e + i) r hf)
 
-      here : get_or all d 0 ≡ get_or fs (k * d + i) 0
+      here : get_or all d 0 ≡ get_or fs at 0
       unfolding all
-      here = get_or-tab (λ e. get_or fs (k * e + i) 0) (length ws) d 0 l
+      here = get_or-tab (λ e. get_or fs (k * e + i) 0) (length ws) d 0 l ∙ ap (λ (n : ℕ). get_or fs n 0) (sym h.place)
 
       long : length ws ≤ length all
       unfolding all
       long = omega (arith, length-tab (λ e. get_or fs (k * e + i) 0) (length ws))
 
-      pub mix_next : (y : ℕ) → y ≡ kept p (sum + get_or ws d 0 * get_or fs (k * d + i) 0) → Mixing p k ws fs i y (d + 1)
+      pub mix_next : (y : ℕ) → y ≡ kept p (sum + get_or ws d 0 * get_or fs at 0) → Mixing p k ws fs i y (at + k) (d + 1)
       unfolding all
       mix_next y e = record {
+        place = omega (arith, h.place, add-one d, mul-suc k d);
         summed =
-            sum_more p ws all r sum d h.summed hw all-below (get_or ws d 0) (get_or fs (k * d + i) 0)
+            sum_more p ws all r sum d h.summed hw all-below (get_or ws d 0) (get_or fs at 0)
             (record { within = l; also = omega (arith, long); left = refl; right = sym here })
             y (d + 1) e refl;
       }
 
 -- As it is: answers name this set, since the check leaves their goals open by `using` alone.
-pub ruleset mixing = (rules, few_weights, mix-none, mix-within, mix-row-fits, mix-entry-fits, mix-place-fits, mix-below, mix-few, mix_bound, mix-whole, mix_next)
+pub ruleset mixing = (rules, few_weights, mix-none, mix-within, mix-next-fits, mix-place-fits, mix-below, mix-few, mix_bound, mix-whole, mix_next)
 
 -- ---- the loop over the coefficients
 pub mixture-filled : (p k : ℕ) (ws fs d₀ d : List ℕ) (i : ℕ) → k ≡ length d₀ → length d ≤ i → Filled (mixed_coefficient p k ws fs) d₀ d i → d ≡ mixture_of p (length d₀) ws fs

@@ -1,5 +1,6 @@
 -- Loops that fill a row.
---     Making, entry-none, entry-next, entries-made     loops that fill an array's first n entries
+--     Making, entry-none, entry-next, entries-made     loops that fill a row, or its first n entries
+--     row-given                                        a row that is given
 -- Assumes nothing.
 use mathlib.Core.Path.{◌≡◌, refl, sym, ap, ◌∙◌}
 use mathlib.Core.Bool.{true}
@@ -15,7 +16,7 @@ use mir.Syntax.{w64}
 use mir.Val.{Fits}
 use Rattle.numbers.specs.Tables.{tab}
 use Rattle.numbers.specs.Bytes.{all_below}
-use Rattle.numbers.proofs.Tables.{tab-next, tab-zero, get_or-tab, row_room}
+use Rattle.numbers.proofs.Tables.{length-tab, tab-next, tab-zero, get_or-tab, row_room}
 use Rattle.numbers.proofs.Below.{all_below_at, all_below-take, all_below-drop}
 use Rattle.numbers.proofs.Fills.{Filled, fill_none, fill_next, filled}
 use Rattle.field.specs.Mod.{mul}
@@ -52,49 +53,55 @@ drop_zeros zero m = let e : m - zero ≡ m = omega arith in rw e
 drop_zeros (suc n) zero = let e : zero - suc n ≡ zero = omega arith in rw e
 drop_zeros (suc n) (suc m) = let e : suc m - suc n ≡ m - n = omega arith in rw e (drop_zeros n m)
 
--- ---- a loop that fills the first n entries of an array of 15
+-- ---- a loop that fills the first n entries of a row
 pub record Making (f : ℕ → ℕ) (n : ℕ) (d : List ℕ) (j : ℕ) : Type 0 where
   pub within : j ≤ n
-  pub long : length d ≡ 15
+  pub long : n ≤ length d
   pub front : take j d ≡ tab f j
 
 module _ (f : ℕ → ℕ) (n : ℕ) where
-  pub make-none : Making f n (replicate 15 0) 0
-  make-none = record { within = omega arith; long = length-replicate {A = ℕ} 15 0; front = sym (tab-zero f) }
+  pub make-none : (d : List ℕ) → n ≤ length d → Making f n d 0
+  make-none d l = record { within = omega arith; long = l; front = sym (tab-zero f) }
 
   module _ (d : List ℕ) (j : ℕ) (h : Making f n d j) where
-    pub make-next : (v : ℕ) → n ≤ 15 → j < n → v ≡ f j → Making f n (set d j v) (j + 1)
-    make-next v m l e = record {
+    pub make-next : (v : ℕ) → j < n → v ≡ f j → Making f n (set d j v) (j + 1)
+    make-next v l e = record {
       within = omega arith;
-      long = length-set d j v ∙ h.long;
+      long = omega (arith, h.long, length-set d j v);
       front = rw (tab-next, add-one, take-suc-set d j v (omega (arith, h.long)), h.front, e);
     }
 
     pub made : n ≤ j → take n d ≡ tab f n
     made l = let q : j ≡ n = omega (arith, h.within) in rw (← q) h.front
 
--- ---- a loop over these entries alone
-pub entries : (n : ℕ) → n ≤ 15 → length (take n (replicate {A = ℕ} 15 0)) ≡ n
-entries n m = length-take-le n (replicate 15 0) (omega (arith, length-replicate {A = ℕ} 15 0))
+-- ---- a loop over all entries of a row
+module _ (f : ℕ → ℕ) (d₀ : List ℕ) where
+  pub entry-none : Filled f d₀ d₀ 0
+  entry-none = record { within = omega arith; long = refl; front = fill_none f d₀ }
 
-module _ (f : ℕ → ℕ) (n : ℕ) (m : n ≤ 15) where
-  pub entry-none : Filled f (take n (replicate 15 0)) (take n (replicate 15 0)) 0
-  entry-none = record { within = omega arith; long = refl; front = fill_none f (take n (replicate 15 0)) }
-
-  module _ (d : List ℕ) (j : ℕ) (h : Filled f (take n (replicate 15 0)) d j) where
-    pub entry-next : (v : ℕ) → j < length (take n (replicate {A = ℕ} 15 0)) → v ≡ f j → Filled f (take n (replicate 15 0)) (set d j v) (j + 1)
+  module _ (d : List ℕ) (j : ℕ) (h : Filled f d₀ d j) where
+    pub entry-next : (v : ℕ) → j < length d₀ → v ≡ f j → Filled f d₀ (set d j v) (j + 1)
     entry-next v l e = record {
       within = omega arith;
       long = length-set d j v ∙ h.long;
       front = fill_next f j d v (omega (arith, h.long)) e h.front;
     }
 
-    pub entries-made : length (take n (replicate {A = ℕ} 15 0)) ≤ j → (take n (d ++ drop n (replicate 15 0)) ≡ tab f n) × (drop n (d ++ drop n (replicate 15 0)) ≡ replicate (15 - n) 0)
-    entries-made l =
-        let k : length d ≡ n = h.long ∙ entries n m in (
-          take_at d (drop n (replicate 15 0)) n k ∙ filled f (take n (replicate 15 0)) d j (omega (arith, h.long)) h ∙ ap (tab f) (entries n m),
-          drop_at d (drop n (replicate 15 0)) n k ∙ drop_zeros n 15,
-        )
+    pub entries-made : length d₀ ≤ j → d ≡ tab f (length d₀)
+    entries-made l = filled f d₀ d j (omega (arith, h.long)) h
+
+-- ---- n entries of an array of 15, and zeros after them
+pub entries : (n : ℕ) → n ≤ 15 → length (take n (replicate {A = ℕ} 15 0)) ≡ n
+entries n m = length-take-le n (replicate 15 0) (omega (arith, length-replicate {A = ℕ} 15 0))
+
+pub row-given : (f : ℕ → ℕ) (n : ℕ) → n ≤ 15 → (ys : List ℕ) → ys ≡ tab f (length (take n (replicate {A = ℕ} 15 0)))
+    → (take n (ys ++ drop n (replicate 15 0)) ≡ tab f n) × (drop n (ys ++ drop n (replicate 15 0)) ≡ replicate (15 - n) 0)
+row-given f n m ys e =
+    let is : ys ≡ tab f n = e ∙ ap (tab f) (entries n m) in
+    let k : length ys ≡ n = ap length is ∙ length-tab f n in (
+      take_at ys (drop n (replicate 15 0)) n k ∙ is,
+      drop_at ys (drop n (replicate 15 0)) n k ∙ drop_zeros n 15,
+    )
 
 -- ---- reading a row of the table
 module _ (p n w : ℕ) (table : List ℕ) (r : Rowed p n w table) where

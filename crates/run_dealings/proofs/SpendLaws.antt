@@ -12,7 +12,7 @@ use Prim.Native.Nat.{ℕ, ◌+◌, ◌*◌, ◌/◌, ◌^◌, ◌<◌, ◌≤◌
 use native.Mathlib.Nat.{mul-div-le}
 use native.Mathlib.Omega.{arith}
 use borrow.Author.Rules.{rules}
-use lib.ListN.{length, take, set, get_or, replicate}
+use lib.ListN.{length, take, set, get_or}
 use mir.Syntax.{w64}
 use mir.Val.{Fits}
 use Rattle.numbers.specs.Bytes.{width, numbers, all_below}
@@ -76,12 +76,12 @@ pub record Differing (p n w j at : ℕ) (ts table row : List ℕ) (d : ℕ) : Ty
   pub fills : Making (λ i. sub p (get_or table (n * w + i) 0) (triple_in n ts at i j)) n row d
 
 module _ (p n w j at : ℕ) (ts table : List ℕ) where
-  pub differ-none : Differing p n w j at ts table (replicate 15 0) 0
-  differ-none = record { fills = make-none _ n }
+  pub differ-none : (row : List ℕ) → n ≤ length row → Differing p n w j at ts table row 0
+  differ-none row l = record { fills = make-none _ n row l }
 
   module _ (row : List ℕ) (d : ℕ) (h : Differing p n w j at ts table row d) where
-    pub differ-next : (v c : ℕ) → n ≤ 15 → d < n → c ≡ triple_in n ts at d j → Is p (sub p (get_or table (n * w + d) 0) c) v → Differing p n w j at ts table (set row d v) (d + 1)
-    differ-next v c m l e is = record { fills = make-next _ n row d h.fills v m l (is.eq ∙ ap (sub p (get_or table (n * w + d) 0)) e) }
+    pub differ-next : (v c : ℕ) → d < n → c ≡ triple_in n ts at d j → Is p (sub p (get_or table (n * w + d) 0) c) v → Differing p n w j at ts table (set row d v) (d + 1)
+    differ-next v c l e is = record { fills = make-next _ n row d h.fills v l (is.eq ∙ ap (sub p (get_or table (n * w + d) 0)) e) }
 
     pub differ-done : n ≤ d → take n row ≡ differences_of p n w j ts at table
     unfolding differences_of
@@ -115,14 +115,14 @@ pub record Parting (p n a b at : ℕ) (ts table : List ℕ) (u v : ℕ) (row : L
   pub fills : Making (λ i. spent_share p (triple_in n ts at i 2) (get_or table (n * a + i) 0) (get_or table (n * b + i) 0) u v) n row i
 
 module _ (p n a b at : ℕ) (ts table : List ℕ) (u v : ℕ) where
-  pub part-none : Parting p n a b at ts table u v (replicate 15 0) 0
-  part-none = record { fills = make-none _ n }
+  pub part-none : (row : List ℕ) → n ≤ length row → Parting p n a b at ts table u v row 0
+  part-none row l = record { fills = make-none _ n row l }
 
   module _ (row : List ℕ) (i : ℕ) (h : Parting p n a b at ts table u v row i) where
-    pub part-next : (c r : ℕ) → n ≤ 15 → i < n → c ≡ triple_in n ts at i 2 → Is p (spent_share p c (get_or table (n * a + i) 0) (get_or table (n * b + i) 0) u v) r
+    pub part-next : (c r : ℕ) → i < n → c ≡ triple_in n ts at i 2 → Is p (spent_share p c (get_or table (n * a + i) 0) (get_or table (n * b + i) 0) u v) r
         → Parting p n a b at ts table u v (set row i r) (i + 1)
-    part-next c r m l e is =
-        record { fills = make-next _ n row i h.fills r m l (is.eq ∙ ap (λ (k : ℕ). spent_share p k (get_or table (n * a + i) 0) (get_or table (n * b + i) 0) u v) e) }
+    part-next c r l e is =
+        record { fills = make-next _ n row i h.fills r l (is.eq ∙ ap (λ (k : ℕ). spent_share p k (get_or table (n * a + i) 0) (get_or table (n * b + i) 0) u v) e) }
 
 pub part-done : (p t : ℕ) (points : List ℕ) (a b at : ℕ) (ts table : List ℕ) (u v : ℕ) (row : List ℕ) (i : ℕ) → Parting p (length points) a b at ts table u v row i → length points ≤ i
     → Is p (opened p t points (differences_of p (length points) a 0 ts at table)) u → Is p (opened p t points (differences_of p (length points) b 1 ts at table)) v

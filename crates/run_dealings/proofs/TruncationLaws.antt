@@ -11,13 +11,13 @@ use Prim.Native.Nat.{ℕ, ◌*◌, ◌^◌, ◌<◌, ◌≤◌}
 use native.Mathlib.Omega.{arith}
 use borrow.Author.Rules.{rules}
 use lib.ListN.{length, take, drop, get_or, replicate, length-map, length-replicate}
-use lib.Seq.{length-take-le}
+use lib.Seq.{take_all, length-take-le}
 use mir.Syntax.{w64}
 use mir.Val.{Fits}
 use Rattle.std.proofs.lemmas.List.{take-replicate}
 use Rattle.numbers.specs.Tables.{tab}
 use Rattle.numbers.specs.Bytes.{all_below}
-use Rattle.numbers.proofs.Tables.{tab-ext}
+use Rattle.numbers.proofs.Tables.{length-tab, tab-ext}
 use Rattle.numbers.proofs.Below.{all_below_at}
 use Rattle.field.specs.Mod.{add}
 use Rattle.field.specs.Field.{Ready}
@@ -105,13 +105,13 @@ module _ (p t : ℕ) (points vs : List ℕ) (fs : List (List ℕ)) where
   masks_below right r e = rw e (map_below p (summed_at p fs) points (λ x. canon-lt (pos r.prime) (list_canon p _)))
 
   pub truncated : (left right shares : List ℕ) → left ≡ applied p t points vs → right ≡ map (summed_at p fs) points
-      → take (length left) shares ≡ tab (λ j. add p (get_or left j 0) (get_or right j 0)) (length left)
+      → shares ≡ tab (λ j. add p (get_or left j 0) (get_or right j 0)) (length left)
       → take (length points) shares ≡ map (truncated_at p t points vs fs) points
   unfolding applied truncated_at
   truncated left right shares el er is =
       let product : ℕ → ℕ = λ x. dot p (row p t points x) vs in
       let n : length left ≡ length points = ap length el ∙ length-map points product in
-      ap (λ (k : ℕ). take k shares) (sym n)
+      take_all (length points) shares (omega (arith, n, ap length is, length-tab (λ j. add p (get_or left j 0) (get_or right j 0)) (length left)))
       ∙ is
       ∙ ap (tab (λ j. add p (get_or left j 0) (get_or right j 0))) n
       ∙ tab-ext _ _ (length points)

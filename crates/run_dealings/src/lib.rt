@@ -175,17 +175,25 @@ fn sum_polynomials(f: Field, dealt: &Dealt, out: &mut [u64])
 
 // ---- rows
 
-// A row by a rule: n entries, and zeros after them.
-// As it is: there is no heap, so that each row here has room for the 15 parties of the largest plan, and who takes it knows n.
+// A row by a rule, where it is lent.
+pub fn fill_row<F: Fn(usize) -> u64>(row: &mut [u64], rule: F)
+    requires { (j : ℕ) → j < length row.old → F.pre rule j }
+    ensures { (entry : ℕ → ℕ) → ((j r : ℕ) → j < length row.old → F.post rule j r → r ≡ entry j) → row.new ≡ tab entry (length row.old) }
+{
+    for (j, entry) in row.iter_mut().enumerate() {
+        *entry = rule(j);
+    }
+}
+
+// The same: n entries, and zeros after them.
+// As it is: there is no heap, so that a row that is given has room for the 15 parties of the largest plan, and who takes it knows n.
 pub fn row_by<F: Fn(usize) -> u64>(n: usize, rule: F) -> [u64; 15]
     requires n_bound { n ≤ 15 }
     requires callable { (j : ℕ) → j < n → F.pre rule j }
     ensures { (entry : ℕ → ℕ) → ((j r : ℕ) → j < n → F.post rule j r → r ≡ entry j) → (take n result ≡ tab entry n) × (drop n result ≡ replicate (15 - n) 0) }
 {
     let mut row = [0u64; 15];
-    for (j, entry) in row[..n].iter_mut().enumerate() {
-        *entry = rule(j);
-    }
+    fill_row(&mut row[..n], rule);
     row
 }
 
@@ -209,14 +217,14 @@ pub fn products(sums: Sums, n: usize, m: usize, a: usize, b: usize, table: &[u64
 }
 
 // The sum of two rows, entry by entry.
-fn add_rows(f: Field, left: &[u64], right: &[u64]) -> [u64; 15]
+fn add_rows(f: Field, left: &[u64], right: &[u64], row: &mut [u64])
     requires left_value { all_below f.p left.now ≡ true }
     requires right_value { all_below f.p right.now ≡ true }
     requires lengths { length left.now ≡ length right.now }
-    requires left_in_bounds { length left.now ≤ 15 }
-    ensures { take (length left.now) result ≡ tab (λ j. add f.p (get_or left.now j 0) (get_or right.now j 0)) (length left.now) }
+    requires row_len { length row.old ≡ length left.now }
+    ensures { row.new ≡ tab (λ j. add f.p (get_or left.now j 0) (get_or right.now j 0)) (length left.now) }
 {
-    row_by(left.len(), |j| f.add(left[j], right[j]))
+    fill_row(row, |j| f.add(left[j], right[j]));
 }
 
 // ---- random wires
@@ -310,48 +318,54 @@ impl Product<'_> {
         sums.reduced(sum)
     }
 
-    // The columns of all receivers, by their power rows of K powers each, and every column's sum.
+    // The columns of all receivers, by their power rows of K powers each, and every column's sum, in a row that is lent.
     #[inline(always)]
     #[tactic(auto, using(crate::proofs::ColumnLaws::gridding))]
-    fn columns<const WIDE: bool, const K: usize>(&self, grid: &mut [[u64; 15]; 15]) -> [u64; 15]
+    fn columns<const WIDE: bool, const K: usize>(
+        &self,
+        grid: &mut [[u64; 15]; 15],
+        sums: &mut [u64],
+    )
         requires wide_value { WIDE ≡ self.now.dealings.now.sums.wide }
         requires k_value { K ≡ terms self.now.dealings.now.t }
-        ensures result_value { take (length self.now.dealings.now.points.now) result ≡ map (share_at self.now.dealings.now.sums.field.p K self.now.dealings.now.weights.now self.now.polynomials.now) self.now.dealings.now.points.now }
+        requires sums_in_bounds { length self.now.dealings.now.points.now ≤ length sums.old }
+        ensures sums_after { take (length self.now.dealings.now.points.now) sums.new ≡ map (share_at self.now.dealings.now.sums.field.p K self.now.dealings.now.weights.now self.now.polynomials.now) self.now.dealings.now.points.now }
         ensures grid_after { grid.new ≡ with_columns (column_at self.now.dealings.now.sums.field.p K self.now.dealings.now.points.now self.now.polynomials.now (length self.now.dealings.now.weights.now)) (length self.now.dealings.now.points.now) grid.old }
     {
         let points = self.dealings.points;
         let rows = self.dealings.rows;
-        let mut sums = [0u64; 15];
         for j in 0..points.len() {
             let at = K * j;
             sums[j] = self.column::<WIDE>(&rows[at..at + K], j, grid);
         }
-        sums
     }
 
     // Every receiver's share: the polynomials are dealt into the grid, and each receiver's column is weighed and summed there. The prime's range and
     // the count of coefficients are constants in each call.
     #[inline(never)]
     #[tactic(auto, using(crate::proofs::DealingLaws::sharing_by))]
-    fn gridded(&self) -> [u64; 15]
-        ensures { take (length self.now.dealings.now.points.now) result ≡ map (share_at self.now.dealings.now.sums.field.p (terms self.now.dealings.now.t) self.now.dealings.now.weights.now self.now.polynomials.now) self.now.dealings.now.points.now }
+    fn gridded(&self, row: &mut [u64])
+        requires { length self.now.dealings.now.points.now ≤ length row.old }
+        ensures { take (length self.now.dealings.now.points.now) row.new ≡ map (share_at self.now.dealings.now.sums.field.p (terms self.now.dealings.now.t) self.now.dealings.now.weights.now self.now.polynomials.now) self.now.dealings.now.points.now }
     {
         let mut grid = [[0u64; 15]; 15];
         match (self.dealings.sums.wide, terms(self.dealings.t)) {
-            (true, 1) => self.columns::<true, 1>(&mut grid),
-            (true, 2) => self.columns::<true, 2>(&mut grid),
-            (true, 3) => self.columns::<true, 3>(&mut grid),
-            (true, 4) => self.columns::<true, 4>(&mut grid),
-            (true, _) => self.columns::<true, 8>(&mut grid),
-            (false, 1) => self.columns::<false, 1>(&mut grid),
-            (false, 2) => self.columns::<false, 2>(&mut grid),
-            (false, 3) => self.columns::<false, 3>(&mut grid),
-            (false, 4) => self.columns::<false, 4>(&mut grid),
-            (false, _) => self.columns::<false, 8>(&mut grid),
+            (true, 1) => self.columns::<true, 1>(&mut grid, row),
+            (true, 2) => self.columns::<true, 2>(&mut grid, row),
+            (true, 3) => self.columns::<true, 3>(&mut grid, row),
+            (true, 4) => self.columns::<true, 4>(&mut grid, row),
+            (true, _) => self.columns::<true, 8>(&mut grid, row),
+            (false, 1) => self.columns::<false, 1>(&mut grid, row),
+            (false, 2) => self.columns::<false, 2>(&mut grid, row),
+            (false, 3) => self.columns::<false, 3>(&mut grid, row),
+            (false, 4) => self.columns::<false, 4>(&mut grid, row),
+            (false, _) => self.columns::<false, 8>(&mut grid, row),
         }
     }
 
     // Coefficient i of the weighted sum of the polynomials, k coefficients each.
+    // As it is: the place moves on with the dealers. Read at `k * d + i`, by the dealer's number, it was tried: a match of 15 parties over a prime
+    // below 2^16 took 1.29 ms in place of 1.20 ms.
     #[tactic(auto, using(crate::proofs::MixtureLaws::mixing))]
     fn mixed_coefficient(&self, k: usize, i: usize) -> u64
         requires k_value { k ≡ terms self.now.dealings.now.t }
@@ -361,8 +375,10 @@ impl Product<'_> {
         let sums = self.dealings.sums;
         let polynomials = self.polynomials;
         let mut sum: u64 = 0;
-        for (d, weight) in self.dealings.weights.iter().enumerate() {
-            sum = sums.add_product(sum, *weight, polynomials[k * d + i]);
+        let mut at: usize = i;
+        for weight in self.dealings.weights {
+            sum = sums.add_product(sum, *weight, polynomials[at]);
+            at += k;
         }
         sums.reduced(sum)
     }
@@ -381,13 +397,14 @@ impl Product<'_> {
 
     // Every receiver's share, by the sum of the polynomials, which is dealt.
     #[tactic(auto, using(crate::proofs::MixtureLaws::mixed_sharing))]
-    fn mixed(&self) -> [u64; 15]
-        ensures { take (length self.now.dealings.now.points.now) result ≡ map (share_at self.now.dealings.now.sums.field.p (terms self.now.dealings.now.t) self.now.dealings.now.weights.now self.now.polynomials.now) self.now.dealings.now.points.now }
+    fn mixed(&self, row: &mut [u64])
+        requires { length self.now.dealings.now.points.now ≤ length row.old }
+        ensures { take (length self.now.dealings.now.points.now) row.new ≡ map (share_at self.now.dealings.now.sums.field.p (terms self.now.dealings.now.t) self.now.dealings.now.weights.now self.now.polynomials.now) self.now.dealings.now.points.now }
     {
         let k = terms(self.dealings.t);
         let mut mixed = [0u64; 16];
         self.mix(&mut mixed[..k]);
-        self.dealings.dealing(&mixed[..k])
+        self.dealings.dealing(&mixed[..k], row);
     }
 }
 
@@ -441,56 +458,58 @@ impl<'a> Dealings<'a> {
 
     // The pieces of a dealing: the polynomial's values at the points, by their power rows.
     #[tactic(auto, using(crate::proofs::DealingLaws::dealing))]
-    fn dealing(&self, polynomial: &[u64]) -> [u64; 15]
+    fn dealing(&self, polynomial: &[u64], row: &mut [u64])
         requires polynomial_len { length polynomial.now ≡ terms self.now.t }
         requires polynomial_value { all_below self.now.sums.field.p polynomial.now ≡ true }
-        ensures { take (length self.now.points.now) result ≡ map (eval self.now.sums.field.p polynomial.now) self.now.points.now }
+        requires row_in_bounds { length self.now.points.now ≤ length row.old }
+        ensures { take (length self.now.points.now) row.new ≡ map (eval self.now.sums.field.p polynomial.now) self.now.points.now }
     {
         let sums = self.sums;
         let rows = self.rows;
         let k = polynomial.len();
-        let mut row = [0u64; 15];
         for j in 0..self.points.len() {
             let at = k * j;
             row[j] = sharing::dot_by(sums, &rows[at..at + k], polynomial);
         }
-        row
     }
 
     // An input gate's row: the input is dealt.
     #[tactic(auto, using(crate::proofs::DealingLaws::inputs))]
-    pub fn input_row(&self, x: u64, coins: &[u8], at: usize) -> [u64; 15]
+    pub fn input_row(&self, x: u64, coins: &[u8], at: usize, row: &mut [u64])
         requires x_lt_p { x < self.now.sums.field.p }
         requires coined { Coined self.now.sums.field.p self.now.t 1 at (numbers coins.now) }
-        ensures { take (length self.now.points.now) result ≡ map (eval self.now.sums.field.p (x ∷ take self.now.t (drop at (numbers coins.now)))) self.now.points.now }
+        requires row_in_bounds { length self.now.points.now ≤ length row.old }
+        ensures { take (length self.now.points.now) row.new ≡ map (eval self.now.sums.field.p (x ∷ take self.now.t (drop at (numbers coins.now)))) self.now.points.now }
     {
         let k = terms(self.t);
         let mut dealt = [0u64; 16];
         polynomial(x, coins, at, self.t, &mut dealt[..k]);
-        self.dealing(&dealt[..k])
+        self.dealing(&dealt[..k], row);
     }
 
     // The row of these dealings where each receiver's pieces are summed: the sum of the polynomials is dealt.
     #[tactic(auto, using(crate::proofs::SumLaws::summed_sharing))]
-    fn summed_row(&self, dealt: &Dealt) -> [u64; 15]
+    fn summed_row(&self, dealt: &Dealt, row: &mut [u64])
         requires t_value { dealt.now.t ≡ self.now.t }
         requires values_value { all_below self.now.sums.field.p dealt.now.values.now ≡ true }
         requires spaced { Spaced self.now.sums.field.p dealt.now.t dealt.now.step (length dealt.now.values.now) dealt.now.at (numbers dealt.now.coins.now) }
-        ensures { take (length self.now.points.now) result ≡ map (summed_at self.now.sums.field.p (shared_by dealt.now.t dealt.now.step dealt.now.values.now (drop dealt.now.at (numbers dealt.now.coins.now)))) self.now.points.now }
+        requires row_in_bounds { length self.now.points.now ≤ length row.old }
+        ensures { take (length self.now.points.now) row.new ≡ map (summed_at self.now.sums.field.p (shared_by dealt.now.t dealt.now.step dealt.now.values.now (drop dealt.now.at (numbers dealt.now.coins.now)))) self.now.points.now }
     {
         let k = terms(self.t);
         let mut sum = [0u64; 16];
         sum_polynomials(self.sums.field, dealt, &mut sum[..k]);
-        self.dealing(&sum[..k])
+        self.dealing(&sum[..k], row);
     }
 
     // A random wire's row: all parties deal their draws, with which the inputs begin, and each receiver's pieces are summed.
     #[inline(never)]
     #[tactic(auto, using(crate::proofs::SumLaws::drawing))]
-    pub fn random_row(&self, inputs: &[u8], coins: &[u8], at: usize) -> [u64; 15]
+    pub fn random_row(&self, inputs: &[u8], coins: &[u8], at: usize, row: &mut [u64])
         requires inputs_value { all_below self.now.sums.field.p (numbers inputs.now) ≡ true }
         requires coined { Coined self.now.sums.field.p self.now.t (length self.now.points.now) at (numbers coins.now) }
-        ensures { take (length self.now.points.now) result ≡ map (summed_at self.now.sums.field.p (shared_by self.now.t self.now.t (draws_of (length self.now.points.now) (numbers inputs.now)) (drop at (numbers coins.now)))) self.now.points.now }
+        requires row_in_bounds { length self.now.points.now ≤ length row.old }
+        ensures { take (length self.now.points.now) row.new ≡ map (summed_at self.now.sums.field.p (shared_by self.now.t self.now.t (draws_of (length self.now.points.now) (numbers inputs.now)) (drop at (numbers coins.now)))) self.now.points.now }
     {
         let n = self.points.len();
         let draws = draws(n, inputs);
@@ -501,7 +520,7 @@ impl<'a> Dealings<'a> {
             at,
             step: self.t,
         };
-        self.summed_row(&dealt)
+        self.summed_row(&dealt, row);
     }
 
     // What the matrix makes of the products of the parties' shares.
@@ -533,7 +552,9 @@ impl<'a> Dealings<'a> {
             at,
             step: 3 * self.t,
         };
-        self.summed_row(&dealt)
+        let mut row = [0u64; 15];
+        self.summed_row(&dealt, &mut row);
+        row
     }
 
     // A multiply gate's row by truncation. No piece is seen in it, so there is no grid; nor is a coin in it of the masked shares' dealings.
@@ -547,17 +568,19 @@ impl<'a> Dealings<'a> {
         coins: &[u8],
         at: usize,
         table: &[u64],
-    ) -> [u64; 15]
+        row: &mut [u64],
+    )
         requires cutting { Cutting self.now.sums.field.p self.now.t self.now.points.now matrix.now }
         requires coined { Coined self.now.sums.field.p (3 * self.now.t) (length self.now.points.now) at (numbers coins.now) }
         requires rowed { Rowed self.now.sums.field.p (length self.now.points.now) a table.now }
         requires rowed_2 { Rowed self.now.sums.field.p (length self.now.points.now) b table.now }
-        ensures { take (length self.now.points.now) result ≡ map (truncated_at self.now.sums.field.p self.now.t self.now.points.now (products_of self.now.sums.field.p (length self.now.points.now) (length self.now.points.now) a b table.now) (shared_by self.now.t (3 * self.now.t) (replicate (length self.now.points.now) 0) (drop at (numbers coins.now)))) self.now.points.now }
+        requires row_len { length row.old ≡ length self.now.points.now }
+        ensures { take (length self.now.points.now) row.new ≡ map (truncated_at self.now.sums.field.p self.now.t self.now.points.now (products_of self.now.sums.field.p (length self.now.points.now) (length self.now.points.now) a b table.now) (shared_by self.now.t (3 * self.now.t) (replicate (length self.now.points.now) 0) (drop at (numbers coins.now)))) self.now.points.now }
     {
         let n = self.points.len();
         let products = self.cut_products(matrix, a, b, table);
         let zeros = self.zeros_row(coins, at);
-        add_rows(self.sums.field, &products[..n], &zeros[..n])
+        add_rows(self.sums.field, &products[..n], &zeros[..n], row);
     }
 
     // The value at point j of a polynomial with twice as many coefficients as a power row has powers: the upper half is worked by the same row, and takes
@@ -617,7 +640,9 @@ impl<'a> Dealings<'a> {
         let n = self.points.len();
         let products = products(self.sums, n, n, a, b, table);
         let masks = self.masks(coins, at);
-        add_rows(self.sums.field, &products[..n], &masks[..n])
+        let mut row = [0u64; 15];
+        add_rows(self.sums.field, &products[..n], &masks[..n], &mut row[..n]);
+        row
     }
 
     // All parties' differences of wire w and number j of their next triples.
@@ -670,13 +695,15 @@ impl<'a> Dealings<'a> {
         triples: &[u8],
         at: usize,
         table: &[u64],
-    ) -> [u64; 15]
+        row: &mut [u64],
+    )
         requires t_in_bounds { self.now.t < length self.now.points.now }
         requires points_value { all_below self.now.sums.field.p self.now.points.now ≡ true }
         requires spending { Spending self.now.sums.field.p (length self.now.points.now) 3 at (numbers triples.now) }
         requires rowed { Rowed self.now.sums.field.p (length self.now.points.now) a table.now }
         requires rowed_2 { Rowed self.now.sums.field.p (length self.now.points.now) b table.now }
-        ensures { take (length self.now.points.now) result ≡ spent_of self.now.sums.field.p self.now.t self.now.points.now a b (numbers triples.now) at table.now }
+        requires row_in_bounds { length self.now.points.now ≤ length row.old }
+        ensures { take (length self.now.points.now) row.new ≡ spent_of self.now.sums.field.p self.now.t self.now.points.now a b (numbers triples.now) at table.now }
     {
         let f = self.sums.field;
         let n = self.points.len();
@@ -684,26 +711,25 @@ impl<'a> Dealings<'a> {
         let right = n * b;
         let d = self.opened_difference(a, 0, triples, at, table);
         let e = self.opened_difference(b, 1, triples, at, table);
-        let mut row = [0u64; 15];
         for i in 0..n {
             let c = triple_number(n, triples, at, i, 2);
             row[i] = seat_messages::spent_share(f, c, table[left + i], table[right + i], d, e);
         }
-        row
     }
 
     // The row of these dealings, where room is lent for their polynomials.
     // As it is: the way is kept with the dealings. A closure would be a type parameter of `Dealings` and of each struct that keeps one, and its contract
     // would be the one that both methods have.
     #[tactic(auto, using(crate::proofs::DealingLaws::weighing))]
-    fn weighed_in(&self, dealt: &Dealt, room: &mut [u64]) -> [u64; 15]
+    fn weighed_in(&self, dealt: &Dealt, room: &mut [u64], row: &mut [u64])
         requires t_bound { self.now.t < 8 }
         requires room_in_bounds { terms self.now.t * length self.now.weights.now ≤ length room.old }
         requires t_value { dealt.now.t ≡ self.now.t }
         requires values_len { length dealt.now.values.now ≡ length self.now.weights.now }
         requires values_value { all_below self.now.sums.field.p dealt.now.values.now ≡ true }
         requires spaced { Spaced self.now.sums.field.p dealt.now.t dealt.now.step (length dealt.now.values.now) dealt.now.at (numbers dealt.now.coins.now) }
-        ensures { take (length self.now.points.now) result ≡ map (mixed_at self.now.sums.field.p self.now.weights.now (shared_by dealt.now.t dealt.now.step dealt.now.values.now (drop dealt.now.at (numbers dealt.now.coins.now)))) self.now.points.now }
+        requires row_in_bounds { length self.now.points.now ≤ length row.old }
+        ensures { take (length self.now.points.now) row.new ≡ map (mixed_at self.now.sums.field.p self.now.weights.now (shared_by dealt.now.t dealt.now.step dealt.now.values.now (drop dealt.now.at (numbers dealt.now.coins.now)))) self.now.points.now }
     {
         let k = terms(self.t);
         let used = k * self.weights.len();
@@ -713,26 +739,27 @@ impl<'a> Dealings<'a> {
             polynomials: &room[..used],
         };
         match self.way {
-            Way::Grid => product.gridded(),
-            Way::Sum => product.mixed(),
+            Way::Grid => product.gridded(row),
+            Way::Sum => product.mixed(row),
         }
     }
 
     // The row of these dealings: each receiver's pieces are weighed and summed. The room of a large plan is as much to clear as a small plan's product is
     // work, so a small plan has less.
     #[tactic(auto, using(crate::proofs::DealingLaws::rooming))]
-    pub fn weighed_row(&self, dealt: &Dealt) -> [u64; 15]
+    pub fn weighed_row(&self, dealt: &Dealt, row: &mut [u64])
         requires t_bound { self.now.t < 8 }
         requires t_value { dealt.now.t ≡ self.now.t }
         requires values_len { length dealt.now.values.now ≡ length self.now.weights.now }
         requires values_value { all_below self.now.sums.field.p dealt.now.values.now ≡ true }
         requires spaced { Spaced self.now.sums.field.p dealt.now.t dealt.now.step (length dealt.now.values.now) dealt.now.at (numbers dealt.now.coins.now) }
-        ensures { take (length self.now.points.now) result ≡ map (mixed_at self.now.sums.field.p self.now.weights.now (shared_by dealt.now.t dealt.now.step dealt.now.values.now (drop dealt.now.at (numbers dealt.now.coins.now)))) self.now.points.now }
+        requires row_in_bounds { length self.now.points.now ≤ length row.old }
+        ensures { take (length self.now.points.now) row.new ≡ map (mixed_at self.now.sums.field.p self.now.weights.now (shared_by dealt.now.t dealt.now.step dealt.now.values.now (drop dealt.now.at (numbers dealt.now.coins.now)))) self.now.points.now }
     {
         if self.t < 4 && self.points.len() <= 5 {
-            self.weighed_in(dealt, &mut [0; 20])
+            self.weighed_in(dealt, &mut [0; 20], row)
         } else {
-            self.weighed_in(dealt, &mut [0; 120])
+            self.weighed_in(dealt, &mut [0; 120], row)
         }
     }
 
@@ -745,12 +772,14 @@ impl<'a> Dealings<'a> {
         coins: &[u8],
         at: usize,
         table: &[u64],
-    ) -> [u64; 15]
+        row: &mut [u64],
+    )
         requires t_bound { self.now.t < 8 }
         requires coined { Coined self.now.sums.field.p self.now.t (length self.now.weights.now) at (numbers coins.now) }
         requires rowed { Rowed self.now.sums.field.p (length self.now.points.now) a table.now }
         requires rowed_2 { Rowed self.now.sums.field.p (length self.now.points.now) b table.now }
-        ensures { take (length self.now.points.now) result ≡ map (mixed_at self.now.sums.field.p self.now.weights.now (shared_by self.now.t self.now.t (products_of self.now.sums.field.p (length self.now.points.now) (length self.now.weights.now) a b table.now) (drop at (numbers coins.now)))) self.now.points.now }
+        requires row_in_bounds { length self.now.points.now ≤ length row.old }
+        ensures { take (length self.now.points.now) row.new ≡ map (mixed_at self.now.sums.field.p self.now.weights.now (shared_by self.now.t self.now.t (products_of self.now.sums.field.p (length self.now.points.now) (length self.now.weights.now) a b table.now) (drop at (numbers coins.now)))) self.now.points.now }
     {
         let dealers = self.weights.len();
         let products = products(self.sums, self.points.len(), dealers, a, b, table);
@@ -761,7 +790,7 @@ impl<'a> Dealings<'a> {
             at,
             step: self.t,
         };
-        self.weighed_row(&dealt)
+        self.weighed_row(&dealt, row);
     }
 }
 

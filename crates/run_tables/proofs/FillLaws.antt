@@ -9,16 +9,16 @@
 -- Assumes nothing.
 use mathlib.Core.Path.{◌≡◌, refl, sym, ap, ap₂, ◌∙◌}
 use mathlib.Core.Bool.{Bool, true, false, cond}
-use mathlib.Core.List.{List, [], ◌∷◌, ◌++◌, map, flat_map}
-use Prim.Native.Nat.{ℕ, suc, ◌+◌, ◌-◌, ◌*◌, ◌/◌, ◌<◌, ◌≤◌}
+use mathlib.Core.List.{List, [], ◌∷◌, ◌++◌, append_assoc, map, flat_map}
+use Prim.Native.Nat.{ℕ, suc, ◌+◌, ◌-◌, ◌*◌, ◌/◌, ◌^◌, ◌<◌, ◌≤◌}
 use native.Mathlib.Numerals.{add-one}
 use native.Mathlib.Nat.{mul-suc, mul-zero, mul-div_cancel_left}
 use native.Mathlib.Omega.{arith}
 use borrow.Author.Rules.{rules}
-use lib.ListN.{length, take, drop, get_or, length-append, take-append-drop}
-use lib.Seq.{paste, take-paste, drop-paste, take-suc, take_all, drop-drop, length-take-le, get_or-take, get_or-drop}
-use borrow.Rule.Slice.PartMut.{put_mid}
-use Rattle.std.proofs.lemmas.Slice.{put_mid-paste}
+use lib.ListN.{length, take, drop, get_or, length-append, length-drop, take-append-drop}
+use lib.Seq.{take_at, drop_at, take-suc, take_all, take-take, drop-drop, length-take-le, get_or-take, get_or-drop}
+use mir.Syntax.{w64}
+use mir.Val.{Fits}
 use Rattle.numbers.specs.Tables.{count_where}
 use Rattle.numbers.specs.Bytes.{numbers, all_below}
 use Rattle.numbers.proofs.Tables.{row_room}
@@ -56,30 +56,54 @@ unfolding rows_of
 rows_snoc points env f = flat-snoc (λ (h : ℕ → ℕ). map h points) env f
 
 module _ (n g gates : ℕ) (table : List ℕ) (l : g < gates) (room : n * gates ≤ length table) where
-  pub row_fits : n * g + n ≤ length table
-  row_fits = omega (arith, row_room n g gates l)
+  row_end : n * g + n ≤ length table
+  row_end = omega (arith, row_room n g gates l)
 
-pub stepped : (plan : Plan) (n : ℕ) (gate : Gate) (g gates : ℕ) (xs cs ts : List ℕ) (spent : ℕ) (old row ys : List ℕ) → g < gates → n * gates ≤ length old → n ≤ length row
-    → Worked plan n gate g xs cs ts spent old row → ys ≡ take n row → Stepped plan n gate g xs cs ts spent old (put_mid (n * g) (n * g + n - n * g) old ys)
+  pub front_fits : length table * 8 < 2 ^ 63 → Fits w64 (n * g)
+  front_fits f = record { fits = omega (arith, row_end) }
+
+  pub front_within : n * g ≤ length table
+  front_within = omega (arith, row_end)
+
+  pub row_within : n ≤ length (drop (n * g) table)
+  row_within = omega (arith, row_end, length-drop (n * g) table)
+
+  pub row_counted : length (take n (drop (n * g) table)) ≡ n
+  row_counted = length-take-le n (drop (n * g) table) row_within
+
+-- the rows below a gate, by themselves
+pub standing_front : (p n g : ℕ) (table : List ℕ) → Standing p n g table → Standing p n g (take (n * g) table)
+standing_front p n g table s = record {
+  room = omega (arith, length-take-le (n * g) table s.room);
+  below = rw (take-take (n * g) (n * g) table (omega arith)) s.below;
+}
+
+pub stepped : (plan : Plan) (n : ℕ) (gate : Gate) (g gates : ℕ) (xs cs ts : List ℕ) (spent : ℕ) (old ys : List ℕ) → g < gates → n * gates ≤ length old
+    → length ys ≡ length (take n (drop (n * g) old)) → Worked plan n gate g xs cs ts spent (take (n * g) old) ys
+    → Stepped plan n gate g xs cs ts spent old (take (n * g) old ++ (ys ++ drop n (drop (n * g) old)))
 unfolding past
-stepped plan n gate g gates xs cs ts spent old row ys l room le w is =
-    let fits : n * g + n ≤ length old = row_fits n g gates old l room in
-    let long : length (take n row) ≡ n = length-take-le n row le in
-    let to : put_mid (n * g) (n * g + n - n * g) old ys ≡ paste old (n * g) (take n row) n = put_mid-paste (n * g) (n * g + n - n * g) old ys (take n row) n is (omega arith) (sym long) in
+stepped plan n gate g gates xs cs ts spent old ys l room kept w =
+    let within : n * g ≤ length old = front_within n g gates old l room in
+    let long : length ys ≡ n = kept ∙ row_counted n g gates old l room in
+    let both : length (take (n * g) old ++ ys) ≡ n * g + n = length-append (take (n * g) old) ys ∙ omega (arith, long, length-take-le (n * g) old within) in
+    let same : take (n * g) (take (n * g) old) ≡ take (n * g) old = take-take (n * g) (n * g) old (omega arith) in
+    let parts : take (n * g) old ++ (ys ++ drop n (drop (n * g) old)) ≡ (take (n * g) old ++ ys) ++ drop n (drop (n * g) old) = sym (append_assoc (take (n * g) old) ys _) in
     record {
       next =
           λ s holds.
-          ap₂ (λ (k : ℕ) (d : List ℕ). take k d) (next_row n g) to
-          ∙ take-paste old (n * g) (take n row) n (omega arith) (omega (arith, long))
-          ∙ ap₂ (λ (a b : List ℕ). a ++ b) holds.rows (take_all n (take n row) (omega (arith, long)) ∙ w.is s holds)
+          ap₂ (λ (k : ℕ) (d : List ℕ). take k d) (next_row n g) parts
+          ∙ take_at (take (n * g) old ++ ys) (drop n (drop (n * g) old)) (n * g + n) both
+          ∙ ap₂ (λ (a b : List ℕ). a ++ b) holds.rows
+          (sym (take_all n ys (omega (arith, long))) ∙ w.is s (record { rows = same ∙ holds.rows; inputs = holds.inputs; coins = holds.coins; triples = holds.triples }))
           ∙ sym (rows_snoc plan.points s.env (gate_share plan gate s));
       rest =
-          ap₂ (λ (k : ℕ) (d : List ℕ). drop k d) (next_row n g) to
-          ∙ drop-paste old (n * g) (take n row) n (omega arith) (omega (arith, long))
+          ap₂ (λ (k : ℕ) (d : List ℕ). drop k d) (next_row n g) parts
+          ∙ drop_at (take (n * g) old ++ ys) (drop n (drop (n * g) old)) (n * g + n) both
+          ∙ drop-drop n (n * g) old
           ∙ ap (λ (k : ℕ). drop k old) (sym (next_row n g));
     }
 
-pub ruleset stepping = (rules, row_fits, stepped)
+pub ruleset stepping = (rules, front_fits, front_within, row_within, row_counted, standing_front, stepped)
 
 -- ---- what stands before a gate
 module _ (plan : Plan) (xs cs : List ℕ) (tf : List (ℕ → ℕ)) where

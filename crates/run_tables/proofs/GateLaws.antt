@@ -214,6 +214,13 @@ module _ (bs : List ℕ) (h : Header) (p t : ℕ) (points ws : List ℕ) (fitted
     pub fitted_elements : all_below p points ≡ true
     fitted_elements = rw (fitted.field, fitted.are) (plan_points_below bs h k)
 
+    module _ (row : List ℕ) (long : length row ≡ h.n) where
+      pub row_of_points : length row ≡ length points
+      row_of_points = long ∙ sym parties
+
+      pub row_for_points : length points ≤ length row
+      row_for_points = omega (arith, row_of_points)
+
     -- the dealers are parties
     module _ (two : 2 * h.t < h.n) where
       weights-long : length ws ≡ h.t + h.t + 1
@@ -428,6 +435,10 @@ multiple_at p n a c table j = mul p (get_or table (n * a + j) 0) c
 
 abbrev pub shifted_at : ℕ → ℕ → ℕ → ℕ → List ℕ → ℕ → ℕ
 shifted_at p n a c table j = add p (get_or table (n * a + j) 0) c
+
+-- a row by a rule
+pub filled_row : (f : ℕ → ℕ) (n m : ℕ) (ys : List ℕ) → m ≡ n → ys ≡ tab f m → take n ys ≡ tab f n
+filled_row f n m ys em e = let is : ys ≡ tab f n = e ∙ ap (tab f) em in take_all n ys (omega (arith, ap length is, length-tab f n)) ∙ is
 
 pub ruleset reading = (row_reading, add-left-stands, add-right-stands, scale-stands, scale_constant, offset-stands, offset_constant)
 

@@ -11,7 +11,7 @@ ghost use Rattle.run_protocol.specs.Tables.{Tabled};
 ghost use Rattle.run_dealings.specs.Rows.{rows_of, Fitted, Ruling, Standing, Taking, Spending, Worked, Stepped, Given};
 
 use plan::{Gate, PlanFile, Rule};
-use run_dealings::{Dealings, Way, row_by};
+use run_dealings::{Dealings, Way, fill_row};
 use sharing_matrix::Matrix;
 
 // A plan with what its dealings are worked with.
@@ -66,12 +66,13 @@ impl<'a> RunPlan<'a> {
         }
     }
 
-    // The row of gate g's wire, from the rows of the wires below it.
+    // The row of gate g's wire, where it is lent, from the rows of the wires below it.
     // As it is: inputs, coins, triples and table go together from `fill` on, but two runs may be worked by one `RunPlan`, each with its own lists, and the table is
     // written; a struct of them and of their places would be made for each gate.
     #[tactic(auto, using(crate::proofs::GateLaws::working))]
     fn gate_row(
         &self,
+        gate: Gate,
         g: usize,
         inputs: &[u8],
         i: usize,
@@ -80,36 +81,40 @@ impl<'a> RunPlan<'a> {
         triples: &[u8],
         spent: usize,
         table: &[u64],
-    ) -> [u64; 15]
+        row: &mut [u64],
+    )
         requires g_lt_gates { g < self.now.plan.now.header.gates }
+        requires gate_value { gate ≡ gate_at self.now.plan.now.bytes.now g }
         requires inputs_value { all_below self.now.plan.now.header.field.p (numbers inputs.now) ≡ true }
         requires taking { Taking (plan_of self.now.plan.now.bytes.now) (gate_at self.now.plan.now.bytes.now g) at (numbers coins.now) }
         requires spending { Spending self.now.plan.now.header.field.p self.now.plan.now.header.n (triples_taken (gate_at self.now.plan.now.bytes.now g)) spent (numbers triples.now) }
         requires standing { Standing self.now.plan.now.header.field.p self.now.plan.now.header.n g table.now }
-        ensures { Worked (plan_of self.now.plan.now.bytes.now) self.now.plan.now.header.n (gate_at self.now.plan.now.bytes.now g) g (drop i (numbers inputs.now)) (drop at (numbers coins.now)) (numbers triples.now) spent table.now result }
+        requires row_len { length row.old ≡ self.now.plan.now.header.n }
+        ensures { Worked (plan_of self.now.plan.now.bytes.now) self.now.plan.now.header.n (gate_at self.now.plan.now.bytes.now g) g (drop i (numbers inputs.now)) (drop at (numbers coins.now)) (numbers triples.now) spent table.now row.new }
     {
         let f = self.plan.header.field;
         let n = self.plan.header.n;
-        match self.plan.gate(g) {
-            Gate::Input(_) => self.dealings.input_row(numbers::read(inputs, i), coins, at),
-            Gate::Add(a, b) => row_by(n, |j| f.add(table[n * a + j], table[n * b + j])),
-            Gate::Scale(a, c) => row_by(n, |j| f.mul(table[n * a + j], c)),
-            Gate::Offset(a, c) => row_by(n, |j| f.add(table[n * a + j], c)),
+        let dealings = &self.dealings;
+        match gate {
+            Gate::Input(_) => dealings.input_row(numbers::read(inputs, i), coins, at, row),
+            Gate::Add(a, b) => fill_row(row, |j| f.add(table[n * a + j], table[n * b + j])),
+            Gate::Scale(a, c) => fill_row(row, |j| f.mul(table[n * a + j], c)),
+            Gate::Offset(a, c) => fill_row(row, |j| f.add(table[n * a + j], c)),
             Gate::Multiply(a, b) => match &self.matrix {
-                None => self.dealings.multiply_row(a, b, coins, at, table),
-                Some(matrix) => self.dealings.truncated_row(matrix, a, b, coins, at, table),
+                None => dealings.multiply_row(a, b, coins, at, table, row),
+                Some(matrix) => dealings.truncated_row(matrix, a, b, coins, at, table, row),
             },
-            Gate::Random => self
-                .dealings
-                .random_row(numbers::rest(inputs, i), coins, at),
-            Gate::Spend(a, b) => self.dealings.spent_row(a, b, triples, spent, table),
+            Gate::Random => dealings.random_row(numbers::rest(inputs, i), coins, at, row),
+            Gate::Spend(a, b) => dealings.spent_row(a, b, triples, spent, table, row),
         }
     }
 
     // Works gate g for all parties: sets the row of its wire, from the rows of the wires below it. Its inputs stand from place i on, its coins from
     // place `at` on, and `spent` numbers of each party's triples are spent.
+    #[tactic(auto, using(crate::proofs::FillLaws::stepping))]
     pub fn step(
         &self,
+        gate: Gate,
         g: usize,
         inputs: &[u8],
         i: usize,
@@ -120,6 +125,7 @@ impl<'a> RunPlan<'a> {
         table: &mut [u64],
     )
         requires g_lt_gates { g < self.now.plan.now.header.gates }
+        requires gate_value { gate ≡ gate_at self.now.plan.now.bytes.now g }
         requires inputs_value { all_below self.now.plan.now.header.field.p (numbers inputs.now) ≡ true }
         requires taking { Taking (plan_of self.now.plan.now.bytes.now) (gate_at self.now.plan.now.bytes.now g) at (numbers coins.now) }
         requires spending { Spending self.now.plan.now.header.field.p self.now.plan.now.header.n (triples_taken (gate_at self.now.plan.now.bytes.now g)) spent (numbers triples.now) }
@@ -128,9 +134,19 @@ impl<'a> RunPlan<'a> {
         ensures { Stepped (plan_of self.now.plan.now.bytes.now) self.now.plan.now.header.n (gate_at self.now.plan.now.bytes.now g) g (drop i (numbers inputs.now)) (drop at (numbers coins.now)) (numbers triples.now) spent table.old table.new }
     {
         let n = self.plan.header.n;
-        let start = n * g;
-        let row = self.gate_row(g, inputs, i, coins, at, triples, spent, table);
-        table[start..start + n].copy_from_slice(&row[..n]);
+        let (below, rest) = table.split_at_mut(n * g);
+        self.gate_row(
+            gate,
+            g,
+            inputs,
+            i,
+            coins,
+            at,
+            triples,
+            spent,
+            below,
+            &mut rest[..n],
+        );
     }
 
     // The table of a run: every party's share of every wire, gate by gate, in front of what the table holds beyond. It is the table for all functions that
@@ -147,9 +163,10 @@ impl<'a> RunPlan<'a> {
         let mut i: usize = 0;
         let mut at: usize = 0;
         let mut spent: usize = 0;
+        let gates = self.plan.gates();
         for g in 0..self.plan.header.gates {
-            self.step(g, inputs, i, coins, at, triples, spent, table);
-            let gate = self.plan.gate(g);
+            let gate = gates.gate(g);
+            self.step(gate, g, inputs, i, coins, at, triples, spent, table);
             i += run_ideal::inputs_taken(self.plan, gate);
             at += run_dealings::coins_taken(self.plan, gate);
             spent += run_dealings::triples_taken(gate);

@@ -295,7 +295,8 @@ impl Pieces<'_> {
             rows: dealings.rows,
             weights: matrix.row(self.i - 1),
         };
-        let pieces = weighed.weighed_row(masked);
+        let mut pieces = [0u64; 15];
+        weighed.weighed_row(masked, &mut pieces);
         out.put_row(&pieces[..self.run.plan.header.n]);
     }
 

@@ -1,14 +1,10 @@
-use Rattle.run_dealings.proofs.RowLaws.{entries, entry-none, entry-next, entries-made}
+use Rattle.run_dealings.proofs.RowLaws.{entries, row-given}
 use Rattle.run_dealings.proofs.row_by.Goals as goal
 
-pub loop-j-init : goal.loop-j-init
-loop-j-init g c = λ entry is. entry-none entry c.args.n c.requires.n_bound
-
-pub loop-j-preserved : goal.loop-j-preserved
-loop-j-preserved g c =
-    λ entry is.
-    entry-next entry c.args.n c.requires.n_bound c.loop-j.entry-items c.loop-j.j (c.loop-j.invariant entry is) c.rule.result c.loop-j-test.true
-    (is _ _ (rw (entries c.args.n c.requires.n_bound) at c.loop-j-test.true) c.rule.ensures)
+pub fill_row-requires : goal.fill_row-requires
+fill_row-requires g c = λ j l. c.requires.callable j (rw (entries c.args.n c.requires.n_bound) at l)
 
 pub returns : goal.returns
-returns g c = λ entry is. entries-made entry c.args.n c.requires.n_bound c.loop-j.entry-items c.loop-j.j (c.loop-j.invariant entry is) c.loop-j-test.false
+returns g c =
+    λ entry is.
+    row-given entry c.args.n c.requires.n_bound _ (c.fill_row.ensures entry (λ j r l q. is j r (rw (entries c.args.n c.requires.n_bound) at l) q))

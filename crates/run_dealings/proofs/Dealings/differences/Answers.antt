@@ -9,4 +9,4 @@ sub-requires c = record {
 }
 
 pub loop-d-preserved : goal.loop-d-preserved
-loop-d-preserved c = differ-next _ _ _ _ _ _ _ _ _ c.loop-d.invariant _ _ c.args.self.now.parties c.loop-d-test.true c.triple_number.ensures c.sub.ensures
+loop-d-preserved c = differ-next _ _ _ _ _ _ _ _ _ c.loop-d.invariant _ _ c.loop-d-test.true c.triple_number.ensures c.sub.ensures

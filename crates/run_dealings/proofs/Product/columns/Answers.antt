@@ -7,5 +7,5 @@ loop-j-init g c = search gridding
 pub loop-j-preserved : goal.loop-j-preserved
 loop-j-preserved g c = search gridding
 
-pub returns-clause-result_value : goal.returns-clause-result_value
-returns-clause-result_value g c = search gridding
+pub returns-clause-sums_after : goal.returns-clause-sums_after
+returns-clause-sums_after g c = search gridding

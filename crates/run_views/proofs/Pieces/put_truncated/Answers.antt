@@ -15,13 +15,13 @@ invariant_of-weighed c =
       weights_below = row_small _ _ _ _ c.requires.cutting _ _ c.row.ensures (search truncating);
     }
 
-pub weighed_row-pieces-requires-clause-values_len : goal.weighed_row-pieces-requires-clause-values_len
-weighed_row-pieces-requires-clause-values_len c =
+pub weighed_row-requires-clause-values_len : goal.weighed_row-requires-clause-values_len
+weighed_row-requires-clause-values_len c =
     counted_as_points _ _ c.args.self.now.run.now.plan.now.planned _ _ _ _ c.args.self.now.run.now.fitted _ c.requires.masked_len
     ∙ sym (matrix_row_long _ _ _ _ c.requires.cutting _ _ c.row.ensures)
 
-pub weighed_row-pieces-requires-clause-spaced : goal.weighed_row-pieces-requires-clause-spaced
-weighed_row-pieces-requires-clause-spaced c = search truncating
+pub weighed_row-requires-clause-spaced : goal.weighed_row-requires-clause-spaced
+weighed_row-requires-clause-spaced c = search truncating
 
 pub returns : goal.returns
 returns c =
@@ -29,5 +29,5 @@ returns c =
       same = c.put_row.ensures.same;
       wrote =
           truncated_put _ _ c.args.self.now.run.now.plan.now.planned _ _ _ _ c.args.self.now.run.now.fitted _ _ _ _ _ _ _ _ (row_is_of _ _ _ _ c.requires.cutting _ _ c.row.ensures)
-          c.weighed_row-pieces.ensures c.put_row.ensures.wrote;
+          c.weighed_row.ensures c.put_row.ensures.wrote;
     }
