@@ -3,30 +3,25 @@
 --     bench_passes, view-written, triples_spent with triples from a preparing run
 -- Assumes nothing.
 use Rattle.std.proofs.Common.{Ok}
-use Prim.Native.Nat.{ℕ, suc, ◌+◌, ◌*◌, ◌<◌, ◌≤◌}
+use Prim.Native.Nat.{ℕ, ◌*◌, ◌≤◌}
 use mathlib.Core.Path.{◌≡◌, refl, ap, ap₂, ◌∙◌}
 use mathlib.Core.Bool.{Bool, true}
-use mathlib.Core.List.{List, [], ◌∷◌, ◌++◌, map}
-use native.Mathlib.Omega.{arith}
-use borrow.Author.Tests.{ltb-true, eq-eqb}
-use lib.ListN.{length, get_or, replicate}
+use mathlib.Core.List.{List, [], ◌∷◌, ◌++◌}
+use borrow.Author.Tests.{eq-eqb}
+use lib.ListN.{length, replicate}
 use Rattle.numbers.specs.Bytes.{width, limit, numbers, bytes_of, holds_count}
-use Rattle.numbers.proofs.Truth.{both_true}
-use Rattle.sharing_laws.specs.Sharing.{first_off}
 use Rattle.plan.specs.Refusals.{Checked}
 use Rattle.plan.specs.declared.Refusal.{Refusal}
 use Rattle.plan.specs.declared.Refusal.TheVariants as refusal
-use Rattle.plan.specs.declared.Output.{Output}
 use Rattle.plan.specs.Refusals.{and_then, first_of, need}
-use Rattle.plan.proofs.Refusals.{and_then_passed, and_then_end, first_of-nil, first_of-cons, first_of-append, need-true, found_nothing, next_passes}
-use Rattle.plan.specs.Plans.{Plan, party_count, input_count, coin_count, triple_numbers}
-use Rattle.plan.specs.File.{between, out_ok, plan_checks, plan_check, plan_of}
-use Rattle.plan.proofs.Valid.{Valid}
+use Rattle.plan.proofs.Refusals.{and_then_passed, and_then_end, first_of-nil, first_of-cons, first_of-append, need-true, next_passes}
+use Rattle.plan.specs.Plans.{party_count, input_count, coin_count, triple_numbers}
+use Rattle.plan.specs.File.{plan_checks, plan_check, plan_of}
 use Rattle.plan_coalition.specs.Coalitions.{members, set_ok}
-use Rattle.seat_messages.specs.Calls.{on_polynomial, unless_refused}
+use Rattle.seat_messages.specs.Calls.{unless_refused}
 use Rattle.run_protocol.specs.Rounds.{at_end, view, view_count}
 use Rattle.run_protocol.proofs.Accepted.{back, count_holds, values_pass}
-use Rattle.run_bench.specs.BenchCalls.{shares_at_end, broken_check, given_checks, run_checks, bench_answer, view_after, spent_after}
+use Rattle.run_bench.specs.BenchCalls.{broken_check, given_checks, run_checks, bench_answer, view_after, spent_after}
 use Rattle.run_bench.proofs.OutLaws.{none_broken}
 use Rattle.demands.specs.Demands.{Given}
 use Rattle.demands.specs.Further.{Filled}

@@ -41,9 +41,10 @@ use Rattle.match_privacy.specs.Matching.{matched_coins}
 use Rattle.match_privacy.specs.Bijections as Bijections
 use Rattle.match_privacy.proofs.Private.{Agreeing}
 use Rattle.match_agreement.specs.MatchCalls.{pair_checks, inputs_agree, outs_agree, match_answer, matched_after}
-use Rattle.match_joint.specs.Joint.{draws_of, preparing_coins, main_coins, joint_triples, matched_joint, joint_held, joint_view, JointlyPrivate}
+use Rattle.match_joint.specs.JointLists.{draws_of, preparing_coins, main_coins, joint_triples, joint_held}
+use Rattle.match_joint.specs.Joint.{matched_joint, joint_view, JointlyPrivate}
 use Rattle.match_joint.proofs.Joint.{Parts, parts}
-use Rattle.match_prepared.specs.PreparedCalls.{in_turn, preparing_count, joint_count, joint_over, prepared_ok, joint_checks, prepared_checks, prepared_answer, prepared_after}
+use Rattle.match_prepared.specs.PreparedCalls.{in_turn, preparing_count, joint_count, joint_below, joint_over, prepared_ok, joint_checks, prepared_checks, prepared_answer, prepared_after}
 use Rattle.demands.specs.Demands.{Given, Alike, SameBytes, PrivateAlone, PrivatePrepared, Demand3}
 use Rattle.demands.proofs.Turns.{first_past}
 use Rattle.demands.proofs.Second.{small_prime, no_spends, whole}
@@ -230,7 +231,7 @@ module _ (bytes : List ℕ) (set : ℕ) (xs ys : List ℕ) (alike : Alike bytes 
       coins_back = back plan.p c few full.small
 
       over_none : joint_over first_plan plan (numbers (bytes_of c)) ≡ Ok tt
-      unfolding joint_over
+      unfolding joint_over joint_below
       over_none =
           ap (λ (l : List ℕ). unless_found refusal.CoinValue (first_failing (λ i. ltb (get_or l i 0) (cond (ltb i (preparing_count first_plan)) first_plan.p plan.p)) (length l))) coins_back
           ∙ found_nothing refusal.CoinValue _
@@ -283,6 +284,7 @@ module _ (bytes : List ℕ) (set : ℕ) (xs ys : List ℕ) (alike : Alike bytes 
     unfolding joint_count preparing_count
     both_matched = record {
       matches = record {
+        matched = matched_joint first_plan plan (members set) xs ys;
         answers = λ c out full fits. joint-passes c full (length out) fits;
         writes = λ c out full fits. joint-written c full out fits;
         among = λ own c full e. (private.full c full, private.keeps c full ∙ e);
@@ -304,6 +306,7 @@ module _ (bytes : List ℕ) (set : ℕ) (xs ys : List ℕ) (alike : Alike bytes 
       let v : Bijections.Private plan (members set) xs ys = runs_private.alone bytes set xs ys none alike in
       record {
         matches = record {
+          matched = matched_coins plan (members set) xs ys;
           answers = λ c out s fits. match-passes none c s (length out) fits;
           writes = λ c out s fits. match-written none c s out fits;
           among = λ own c s e. (v.full c s, v.keeps c s ∙ e);

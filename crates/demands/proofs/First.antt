@@ -31,7 +31,7 @@ use Rattle.seat_messages.specs.Messages.{Called, from_each}
 use Rattle.seat_messages.specs.Calls.{on_polynomial, outs_check, opening_check, party_checks, call_checks, call_answer, unless_refused, state_after, triples_after, out_after}
 use Rattle.run_bench.specs.BenchCalls.{shares_at_end, broken_check, given_checks, run_checks, bench_answer, benched_of, view_after, spent_after}
 use Rattle.match_agreement.specs.MatchCalls.{inputs_agree, outs_agree, pair_checks, match_answer, matched_after}
-use Rattle.match_prepared.specs.PreparedCalls.{in_turn, preparing_count, joint_count, joint_over, joint_checks, prepared_checks, prepared_answer, prepared_after}
+use Rattle.match_prepared.specs.PreparedCalls.{in_turn, preparing_count, joint_count, joint_below, joint_over, joint_checks, prepared_checks, prepared_answer, prepared_after}
 use Rattle.import_call.specs.Importing.{import_file, text_checks, import_checks, import_answer, import_after}
 use Rattle.sheet_call.specs.Compiling as sheet
 use Rattle.charge_laws.specs.Charges.{bill_of}
@@ -355,7 +355,7 @@ pair-numbers plan set xs ys coins room =
     ▹ none
 
 joint-numbers : (prep plan : Plan) (set : ℕ) (xs ys coins : List ℕ) (room : ℕ) → Numbers joint_numbers (joint_checks prep plan set xs ys coins room)
-unfolding joint_checks joint_over number_of
+unfolding joint_checks joint_over joint_below number_of
 joint-numbers prep plan set xs ys coins room =
     need_number refusal.Coalition _
     ▹ need_number refusal.Coalition _
@@ -588,7 +588,7 @@ module _ (bs : List ℕ) (passes : plan_check bs ≡ Ok tt) where
 -- of two plans that pass
 joint_bounded : (prep bs : List ℕ) → plan_check prep ≡ Ok tt → plan_check bs ≡ Ok tt → (set : ℕ) (xs ys coins : List ℕ) (room : ℕ)
     → Bounded (joint_checks (plan_of prep) (plan_of bs) set xs ys coins room)
-unfolding joint_checks joint_over joint_count preparing_count place_of
+unfolding joint_checks joint_over joint_below joint_count preparing_count place_of
 joint_bounded prep bs first second set xs ys coins room =
     need_small refusal.Coalition _ refl
     ▸ λ e0. need_small refusal.Coalition _ refl

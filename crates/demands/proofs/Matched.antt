@@ -1,5 +1,5 @@
 -- Where the matching refuses nothing, its two lists meet the premises of demand 3.
---     inputs-left, outs-left                    what refusals 21 and 22 leave
+--     outs-left                                 what refusal 22 leaves
 --     matched_bytes                             the claim of a plan alone, on any bytes
 --     draws_are, coins_are, main_are            the parts of a joint list in bytes
 --     joint_bytes                               the claim of two runs together, on any bytes
@@ -22,7 +22,7 @@ use Rattle.plan.specs.declared.Refusal.{Refusal}
 use Rattle.plan.specs.declared.Refusal.TheVariants as refusal
 use Rattle.plan.specs.Refusals.{first_of, unless_found}
 use Rattle.plan.proofs.Refusals.{first_of-append, passed_both, passed-need, passed_found}
-use Rattle.plan.specs.Plans.{Plan, kind_count, input_count, coin_count, out_wires_of, out_wires, own_inputs}
+use Rattle.plan.specs.Plans.{Plan, kind_count, input_count, coin_count, out_wires_of, out_wires}
 use Rattle.plan.specs.File.{plan_checks, plan_check, plan_of}
 use Rattle.plan_coalition.specs.Coalitions.{in_set, members, set_ok}
 use Rattle.run_protocol.specs.Ideal.{values, granted}
@@ -30,10 +30,10 @@ use Rattle.run_protocol.specs.Rounds.{view_count}
 use Rattle.run_protocol.specs.Settings.{Full, Coins}
 use Rattle.run_protocol.proofs.Accepted.{back}
 use Rattle.sharing_laws.proofs.Lists.{map-all}
-use Rattle.match_agreement.specs.MatchCalls.{inputs_agree, outs_agree, pair_checks, match_answer, matched_after}
-use Rattle.match_agreement.proofs.Agreed.{either_back, inputs_left}
-use Rattle.match_joint.specs.Joint.{draws_of, preparing_coins, main_coins, joint_triples, matched_joint, joint_held}
-use Rattle.match_prepared.specs.PreparedCalls.{in_turn, preparing_count, joint_count, joint_over, prepared_ok, joint_checks, prepared_checks, prepared_answer, prepared_after}
+use Rattle.match_agreement.specs.MatchCalls.{outs_agree, pair_checks, match_answer, matched_after}
+use Rattle.match_agreement.proofs.Agreed.{either_back, own-inputs}
+use Rattle.match_joint.specs.JointLists.{draws_of, preparing_coins, main_coins, joint_triples, joint_held}
+use Rattle.match_prepared.specs.PreparedCalls.{in_turn, preparing_count, joint_count, joint_below, joint_over, prepared_ok, joint_checks, prepared_checks, prepared_answer, prepared_after}
 use Rattle.demands.specs.Demands.{Alike, SameBytes, PrivatePrepared}
 use Rattle.demands.specs.Further.{draw_bytes, preparing_bytes, main_bytes, triple_bytes, MatchedBytes, JointlyMatched, JointBytes}
 use Rattle.demands.proofs.Turns.{turned_passed}
@@ -57,11 +57,6 @@ module _ (set i : ℕ) (on : in_set set i ≡ true) where
       step false e r = r
 
 module _ (plan : Plan) (set : ℕ) (ok : set_ok plan set ≡ true) (xs ys : List ℕ) where
-  inputs-left : inputs_agree plan set xs ys ≡ Ok tt → map (λ i. own_inputs plan i xs) (members set) ≡ map (λ i. own_inputs plan i ys) (members set)
-  inputs-left e =
-      map-all (λ i. own_inputs plan i xs) (λ i. own_inputs plan i ys) (members set)
-      (each_member (λ i. own_inputs plan i xs ≡ own_inputs plan i ys) plan set ok (λ i l m on. inputs_left set i on plan xs ys e))
-
   outs-left : outs_agree plan set (values plan xs) (values plan ys) ≡ Ok tt → map (granted plan xs) (members set) ≡ map (granted plan ys) (members set)
   unfolding outs_agree granted out_wires
   outs-left e =
@@ -130,7 +125,7 @@ module _ (bytes : List ℕ) (set : ℕ) (first second coins out view view' : Lis
     set_passes = set_passes;
     first = full_of plan.p (input_count plan) first refusal.InputValue first_count (each 3);
     second = full_of plan.p (input_count plan) second refusal.InputValue second-count (each 4);
-    agree = inputs-left plan set set_passes (numbers first) (numbers second) (each 9);
+    agree = own-inputs plan set (numbers first) (numbers second) (each 9);
     grants = outs-left plan set set_passes (numbers first) (numbers second) (each 10);
   }
 
@@ -214,13 +209,13 @@ module _ (prep bytes : List ℕ) (set : ℕ) (first second coins out : List ℕ)
     set_passes = main_set;
     first = full_of main_plan.p (input_count main_plan) first refusal.InputValue count_first (each_of 4);
     second = full_of main_plan.p (input_count main_plan) second refusal.InputValue count_second (each_of 5);
-    agree = inputs-left main_plan set main_set (numbers first) (numbers second) (each_of 10);
+    agree = own-inputs main_plan set (numbers first) (numbers second) (each_of 10);
     grants = outs-left main_plan set main_set (numbers first) (numbers second) (each_of 11);
   }
 
   -- every number of the joint list is below the one prime
   coin_below : (i : ℕ) → i < length (numbers coins) → get_or (numbers coins) i 0 < main_plan.p
-  unfolding joint_checks joint_over
+  unfolding joint_checks joint_over joint_below
   coin_below i l =
       ltb-true (get_or (numbers coins) i 0) main_plan.p
       (ap (ltb (get_or (numbers coins) i 0)) (one_prime (ltb i (preparing_count prep_plan)))
@@ -238,7 +233,7 @@ module _ (prep bytes : List ℕ) (set : ℕ) (first second coins out : List ℕ)
 
   -- what is written
   abbrev moved : List ℕ
-  moved = matched_joint prep_plan main_plan (members set) (numbers first) (numbers second) (numbers coins)
+  moved = together.matches.matched (numbers coins)
 
   written : prepared_after prep bytes set first second coins out ≡ bytes_of moved
   written =

@@ -30,7 +30,8 @@ use Rattle.run_protocol.proofs.Owners.{length-own}
 use Rattle.match_privacy.specs.Matching.{matched_coins}
 use Rattle.match_privacy.specs.Bijections.{Private}
 use Rattle.match_privacy.proofs.SetMembers.{in_below}
-use Rattle.match_joint.specs.Joint.{draws_of, preparing_coins, main_coins, joint_triples, matched_joint, joint_held}
+use Rattle.match_joint.specs.JointLists.{draws_of, preparing_coins, main_coins, joint_triples, joint_held}
+use Rattle.match_joint.specs.Joint.{matched_joint}
 use Rattle.match_prepared.specs.PreparedCalls.{preparing_count, joint_count, prepared_ok}
 use Rattle.demands.specs.Demands.{Given, Alike}
 use Rattle.demands.specs.Further.{Pieces, SamePieces}

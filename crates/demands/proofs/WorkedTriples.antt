@@ -22,14 +22,15 @@ use Rattle.run_protocol.specs.Shares.{wire_at, product_of, zero_pieces, masked_a
 use Rattle.run_protocol.specs.Tables.{before_gate}
 use Rattle.run_bench.specs.BenchCalls.{shares_at_end, broken_check, given_checks, run_checks, bench_answer, spent_after}
 use Rattle.match_privacy.specs.Matching.{is_member, matched_blocks, lowest_of, lowest, change_of, zero_matched, absorbed_by, absorbed, with_coins, matched_at, match_from, matched_with, matched_coins}
-use Rattle.match_joint.specs.Joint.{wire_change, spent_wires, spent_changes, moved_draws, draws_of, preparing_coins, main_coins, matched_draws, matched_preparing, matched_joint}
+use Rattle.match_joint.specs.JointLists.{draws_of, preparing_coins, main_coins}
+use Rattle.match_joint.specs.Joint.{wire_change, spent_wires, spent_changes, moved_draws, matched_draws, matched_preparing, matched_joint}
 use Rattle.match_agreement.specs.MatchCalls.{inputs_agree, outs_agree, pair_checks, match_answer}
-use Rattle.match_prepared.specs.PreparedCalls.{in_turn, preparing_count, joint_count, joint_over, prepared_ok, joint_checks, prepared_checks, prepared_answer}
+use Rattle.match_prepared.specs.PreparedCalls.{in_turn, preparing_count, joint_count, joint_below, joint_over, prepared_ok, joint_checks, prepared_checks, prepared_answer}
 use Rattle.demands.specs.Sums.{contents, bodies, like_k}
 use Rattle.demands.specs.Triples.{spending, preparing_file, main_file, Main, Prep, preparing_view, main_view, bench_with, prepared_with, TripleSums}
 
 pub triple_sums : TripleSums
-unfolding contents bodies like_k spending preparing_file main_file Main Prep preparing_view main_view bench_with prepared_with tab first_from first_failing count_where number_at bytes_from word_at numbers_of numbers bytes_of holds_count first_over all_below add mul sub divisor_from divisor_of is_prime invert inv eval sum_of scale linear factor weight weights dot interpolate delta opened first_off mixture matched sum_all basis fitted entry row matched_zero number_of place_of code_of and_then first_of need unless_found party_count parties point_of dealer_count dealer_points kind_of is_kind kind_count operands_of is_input_of wires_from input_wires out_wires_of out_wires input_owners_at first_dealings multiply_dealings dealings_at coin_owners_at input_owners coin_owners own_of own_inputs own_coins input_at coins_at triple_numbers triple_at own_triples multiply_steps steps_at steps_from steps step_at last_call input_count own_input_count coin_count own_coin_count own_out_count received sent_by mail_count written_count per_multiply sent_count magic same_bytes between layout_for field_at gate_start gate_place out_place point_place gate_of gate_from gate_at out_at point_at gate_ok out_ok spends_kept gate_kept out_kept majority_ok majority_kept majority_check multiplying found_none point_apart point_kept points_placed points_check layout_ok plan_checks plan_check plan_of in_set members_from members set_ok set_all from_each wires_by_party opened_at spent_share learnt resume_at work_gate work_from learn_from spend_from learn spend deal_to nothing product_at send_at call_with call on_polynomial outs_check opening_check party_checks call_checks call_answer fresh no_call call_of mail_to next_call next_round after at_end results mails view_of view total view_count_of view_count inputs_taken gate_value values_from values granted wire_at product_of zero_pieces masked_at multiply_dealt dealt_at sharings pieces_at truncated_at multiply_share difference_at difference_of gate_share triples_taken past past_all start_of share_table before_gate shares_at_end broken_check given_checks run_checks bench_answer is_member matched_blocks lowest_of lowest change_of zero_matched absorbed_by absorbed with_coins matched_at match_from matched_with matched_coins flat_map unless_refused spent_after triples_from gate_numbers triple_gates prepares wire_change spent_wires spent_changes moved_draws draws_of preparing_coins main_coins matched_draws matched_preparing matched_joint inputs_agree outs_agree pair_checks match_answer in_turn preparing_count joint_count joint_over prepared_ok joint_checks prepared_checks prepared_answer
+unfolding contents bodies like_k spending preparing_file main_file Main Prep preparing_view main_view bench_with prepared_with tab first_from first_failing count_where number_at bytes_from word_at numbers_of numbers bytes_of holds_count first_over all_below add mul sub divisor_from divisor_of is_prime invert inv eval sum_of scale linear factor weight weights dot interpolate delta opened first_off mixture matched sum_all basis fitted entry row matched_zero number_of place_of code_of and_then first_of need unless_found party_count parties point_of dealer_count dealer_points kind_of is_kind kind_count operands_of is_input_of wires_from input_wires out_wires_of out_wires input_owners_at first_dealings multiply_dealings dealings_at coin_owners_at input_owners coin_owners own_of own_inputs own_coins input_at coins_at triple_numbers triple_at own_triples multiply_steps steps_at steps_from steps step_at last_call input_count own_input_count coin_count own_coin_count own_out_count received sent_by mail_count written_count per_multiply sent_count magic same_bytes between layout_for field_at gate_start gate_place out_place point_place gate_of gate_from gate_at out_at point_at gate_ok out_ok spends_kept gate_kept out_kept majority_ok majority_kept majority_check multiplying found_none point_apart point_kept points_placed points_check layout_ok plan_checks plan_check plan_of in_set members_from members set_ok set_all from_each wires_by_party opened_at spent_share learnt resume_at work_gate work_from learn_from spend_from learn spend deal_to nothing product_at send_at call_with call on_polynomial outs_check opening_check party_checks call_checks call_answer fresh no_call call_of mail_to next_call next_round after at_end results mails view_of view total view_count_of view_count inputs_taken gate_value values_from values granted wire_at product_of zero_pieces masked_at multiply_dealt dealt_at sharings pieces_at truncated_at multiply_share difference_at difference_of gate_share triples_taken past past_all start_of share_table before_gate shares_at_end broken_check given_checks run_checks bench_answer is_member matched_blocks lowest_of lowest change_of zero_matched absorbed_by absorbed with_coins matched_at match_from matched_with matched_coins flat_map unless_refused spent_after triples_from gate_numbers triple_gates prepares wire_change spent_wires spent_changes moved_draws draws_of preparing_coins main_coins matched_draws matched_preparing matched_joint inputs_agree outs_agree pair_checks match_answer in_turn preparing_count joint_count joint_below joint_over prepared_ok joint_checks prepared_checks prepared_answer
 triple_sums = record {
   main_passes = refl;
   prep_passes = refl;

@@ -13,9 +13,8 @@ use Rattle.run_protocol.specs.Rounds.{view_count}
 use Rattle.run_protocol.specs.Ideal.{granted}
 use Rattle.run_protocol.specs.Settings.{Full, Inputs, Coins, Triples}
 use Rattle.run_bench.specs.BenchCalls.{run_checks, bench_answer, benched_of, view_after, spent_after}
-use Rattle.match_privacy.specs.Matching.{matched_coins}
 use Rattle.match_agreement.specs.MatchCalls.{pair_checks, match_answer, matched_after}
-use Rattle.match_joint.specs.Joint.{draws_of, preparing_coins, main_coins, joint_held, joint_triples, matched_joint}
+use Rattle.match_joint.specs.JointLists.{draws_of, preparing_coins, main_coins, joint_held, joint_triples}
 use Rattle.match_prepared.specs.PreparedCalls.{joint_count, prepared_ok, prepared_checks, prepared_answer, prepared_after}
 use Rattle.import_call.specs.Importing.{import_checks, import_answer, import_after}
 use Rattle.sheet_call.specs.Compiling.{sheet_checks, sheet_answer, sheet_after}
@@ -141,9 +140,10 @@ pub record Alike (bytes : List ℕ) (set : ℕ) (xs ys : List ℕ) : Type 0 wher
   pub agree : map (λ i. own_inputs (plan_of bytes) i xs) (members set) ≡ map (λ i. own_inputs (plan_of bytes) i ys) (members set)
   pub grants : map (granted (plan_of bytes) xs) (members set) ≡ map (granted (plan_of bytes) ys) (members set)
 
--- a matching of full lists of coins: it answers for every one and writes the matched one, whatever its buffer held; and whatever the members hold,
--- among the lists with these it is one to one and leaves none out
-pub record Matches (p count : ℕ) (matched : List ℕ → List ℕ) (held : List ℕ → List (List ℕ)) (answer : List ℕ → ℕ → Checked) (after : List ℕ → List ℕ → List ℕ) : Type 0 where
+-- a call that matches full lists of coins: it answers for every one and writes the matched one, whatever its buffer held; and whatever the members
+-- hold, among the lists with these the matching is one to one and leaves none out
+pub record Matches (p count : ℕ) (held : List ℕ → List (List ℕ)) (answer : List ℕ → ℕ → Checked) (after : List ℕ → List ℕ → List ℕ) : Type 0 where
+  pub matched : List ℕ → List ℕ
   pub answers : (c out : List ℕ) → Full p count c → length out ≡ width * count → answer (bytes_of c) (length out) ≡ Ok tt
   pub writes : (c out : List ℕ) → Full p count c → length out ≡ width * count → after (bytes_of c) out ≡ bytes_of (matched c)
   pub among : (own : List (List ℕ)) (c : List ℕ) → Full p count c → held c ≡ own → Full p count (matched c) × (held (matched c) ≡ own)
@@ -159,7 +159,7 @@ pub record SameBytes (bytes : List ℕ) (set : ℕ) (xs coins ts ys coins' ts' v
 -- a plan that spends no triple, matched alone
 pub record PrivateAlone (bytes : List ℕ) (set : ℕ) (xs ys : List ℕ) : Type 0 where
   pub matches :
-      Matches (plan_of bytes).p (coin_count (plan_of bytes)) (matched_coins (plan_of bytes) (members set) xs ys)
+      Matches (plan_of bytes).p (coin_count (plan_of bytes))
       (λ c. map (λ i. own_coins (plan_of bytes) i c) (members set))
       (match_answer bytes set (bytes_of xs) (bytes_of ys)) (matched_after bytes set (bytes_of xs) (bytes_of ys))
   -- the coalition's view of the whole run is the same
@@ -171,19 +171,19 @@ pub record PrivateAlone (bytes : List ℕ) (set : ℕ) (xs ys : List ℕ) : Type
 -- a plan that spends the triples of a preparing plan, both runs matched together by one joint list
 pub record PrivatePrepared (prep bytes : List ℕ) (set : ℕ) (xs ys : List ℕ) : Type 0 where
   pub matches :
-      Matches (plan_of bytes).p (joint_count (plan_of prep) (plan_of bytes)) (matched_joint (plan_of prep) (plan_of bytes) (members set) xs ys)
+      Matches (plan_of bytes).p (joint_count (plan_of prep) (plan_of bytes))
       (joint_held (plan_of prep) (plan_of bytes) (members set))
       (prepared_answer prep bytes set (bytes_of xs) (bytes_of ys)) (prepared_after prep bytes set (bytes_of xs) (bytes_of ys))
   -- the coalition's views of both whole runs are the same
   pub same_preparing :
       (c d view view' : List ℕ) → Full (plan_of bytes).p (joint_count (plan_of prep) (plan_of bytes)) c
-      → d ≡ matched_joint (plan_of prep) (plan_of bytes) (members set) xs ys c
+      → d ≡ matches.matched c
       → length view ≡ width * view_count (plan_of prep) (members set) → length view' ≡ width * view_count (plan_of prep) (members set)
       → SameBytes prep set (bytes_of (draws_of (plan_of prep) c)) (bytes_of (preparing_coins (plan_of prep) c)) []
       (bytes_of (draws_of (plan_of prep) d)) (bytes_of (preparing_coins (plan_of prep) d)) [] view view'
   pub same_main :
       (c d view view' : List ℕ) → Full (plan_of bytes).p (joint_count (plan_of prep) (plan_of bytes)) c
-      → d ≡ matched_joint (plan_of prep) (plan_of bytes) (members set) xs ys c
+      → d ≡ matches.matched c
       → length view ≡ width * view_count (plan_of bytes) (members set) → length view' ≡ width * view_count (plan_of bytes) (members set)
       → SameBytes bytes set (bytes_of xs) (bytes_of (main_coins (plan_of prep) c)) (bytes_of (joint_triples (plan_of prep) c))
       (bytes_of ys) (bytes_of (main_coins (plan_of prep) d)) (bytes_of (joint_triples (plan_of prep) d)) view view'

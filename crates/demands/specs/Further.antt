@@ -21,7 +21,8 @@ use Rattle.run_protocol.specs.Rounds as rounds
 use Rattle.run_protocol.specs.Settings.{Full, Inputs, Coins, Triples}
 use Rattle.match_privacy.specs.Matching.{matched_coins}
 use Rattle.match_agreement.specs.MatchCalls.{match_answer, matched_after}
-use Rattle.match_joint.specs.Joint.{draws_of, preparing_coins, main_coins, joint_triples, matched_joint}
+use Rattle.match_joint.specs.JointLists.{draws_of, preparing_coins, main_coins, joint_triples}
+use Rattle.match_joint.specs.Joint.{matched_joint}
 use Rattle.match_prepared.specs.PreparedCalls.{joint_count, prepared_ok, prepared_answer, prepared_after}
 use Rattle.record_laws.specs.Records.{record_answer, record_after, record_spent, bench_read_answer, bench_read_after, plant_read_answer, plant_read_after}
 use Rattle.count_laws.specs.CountCalls.{count_answer, count_after}

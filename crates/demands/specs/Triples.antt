@@ -8,7 +8,8 @@ use Rattle.plan.specs.File.{plan_check, plan_of}
 use Rattle.run_protocol.specs.Rounds.{call_of, mail_to, after, at_end, results, view}
 use Rattle.run_bench.specs.BenchCalls.{shares_at_end, bench_answer, spent_after}
 use Rattle.match_agreement.specs.MatchCalls.{match_answer}
-use Rattle.match_joint.specs.Joint.{draws_of, preparing_coins, main_coins, joint_triples, matched_joint}
+use Rattle.match_joint.specs.JointLists.{draws_of, preparing_coins, main_coins, joint_triples}
+use Rattle.match_joint.specs.Joint.{matched_joint}
 use Rattle.match_prepared.specs.PreparedCalls.{prepared_ok, prepared_answer}
 use Rattle.demands.specs.Demands.{Given, Alike}
 use Rattle.demands.specs.Sums.{contents, like_k}

@@ -418,6 +418,8 @@ module _ (plan : Plan) (set : ℕ) (xs ys coins : List ℕ) (room : ℕ) where
 -- ---- what a pair that passes is
 pub record Listed (plan : Plan) (set : ℕ) (xs ys : List ℕ) : Type 0 where
   pub set_ok_lem : set_ok plan set ≡ true
+  pub first_long : length xs ≡ width * input_count plan
+  pub second_long : length ys ≡ width * input_count plan
   pub first_below : all_below plan.p (numbers xs) ≡ true
   pub second_below : all_below plan.p (numbers ys) ≡ true
 
@@ -431,6 +433,8 @@ listed plan set xs ys h =
     let e = passed_both _ _ d.1 in
     record {
       set_ok_lem = passed-need refusal.Coalition _ a.0;
+      first_long = holds-length (input_count plan) xs (passed-need refusal.InputCount _ b.0);
+      second_long = holds-length (input_count plan) ys (passed-need refusal.InputCount _ c.0);
       first_below = first_over-nothing plan.p (numbers xs) (passed_found refusal.InputValue _ d.0);
       second_below = first_over-nothing plan.p (numbers ys) (passed_found refusal.InputValue _ e.0);
     }

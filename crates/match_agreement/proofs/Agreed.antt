@@ -1,10 +1,11 @@
 -- What refusal 21 leaves.
 --     inputs_left     a member's own inputs are the same in both lists
+--     own-inputs      and so are all members'
 -- Assumes nothing.
 use Rattle.std.proofs.Common.{Ok}
 use mathlib.Core.Path.{◌≡◌, refl, sym, ap, ap₂, ◌∙◌}
 use mathlib.Core.Bool.{Bool, true, false, cond, not, ◌||◌}
-use mathlib.Core.List.{List, [], ◌∷◌}
+use mathlib.Core.List.{List, [], ◌∷◌, map}
 use Prim.Native.Nat.{ℕ, suc, ◌+◌, ◌<◌}
 use native.Mathlib.Omega.{arith}
 use borrow.Author.Tests.{eqb-true}
@@ -15,7 +16,9 @@ use Rattle.numbers.proofs.Searches.{nothing_passes}
 use Rattle.plan.specs.declared.Refusal.TheVariants as refusal
 use Rattle.plan.specs.Plans.{Plan, input_owners, input_count, own_of, own_inputs}
 use Rattle.plan.proofs.Refusals.{passed_found}
-use Rattle.plan_coalition.specs.Coalitions.{in_set}
+use Rattle.plan_coalition.specs.Coalitions.{in_set, members}
+use Rattle.match_privacy.proofs.Members.{map-members}
+use Rattle.match_privacy.proofs.SetMembers.{member_in}
 use Rattle.match_agreement.specs.MatchCalls.{inputs_agree}
 
 pub either_back : (b : Bool) (x y : ℕ) → (not b || eqb x y) ≡ true → b ≡ true → x ≡ y
@@ -45,3 +48,8 @@ module _ (set i : ℕ) (on : in_set set i ≡ true) where
       own_same (input_owners plan) xs ys
       (λ j q. either_back (in_set set (get_or (input_owners plan) j 0)) (get_or xs j 0) (get_or ys j 0)
       (nothing_passes (λ j. not (in_set set (get_or (input_owners plan) j 0)) || eqb (get_or xs j 0) (get_or ys j 0)) (input_count plan) (passed_found refusal.InputsDiffer _ e) j q))
+
+pub own-inputs :
+    (plan : Plan) (set : ℕ) (xs ys : List ℕ) → inputs_agree plan set xs ys ≡ Ok tt → map (λ i. own_inputs plan i xs) (members set) ≡ map (λ i. own_inputs plan i ys) (members set)
+own-inputs plan set xs ys agree =
+    map-members (members set) (λ i. own_inputs plan i xs) (λ i. own_inputs plan i ys) (λ i m. inputs_left set i (unfold members in member_in set 16 i 1 m) plan xs ys agree)

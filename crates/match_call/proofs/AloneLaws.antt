@@ -1,12 +1,11 @@
 -- Two runs that follow, and the matching of a plan that spends no triple.
 --     following      two runs that begin as a matching does follow at every gate
---     own-inputs     the members' own inputs are the same in both lists
 --     alone          what closes the needs of the matching alone
 -- Assumes nothing.
 use Rattle.std.proofs.Common.{Ok}
 use mathlib.Core.Path.{◌≡◌, refl, ap, ◌∙◌, subst}
 use mathlib.Core.Bool.{true}
-use mathlib.Core.List.{List, [], ◌∷◌, map}
+use mathlib.Core.List.{List, [], ◌∷◌}
 use Prim.Native.Nat.{ℕ, ◌*◌, ◌≤◌}
 use native.Mathlib.Nat.{mul-zero}
 use native.Mathlib.Omega.{arith}
@@ -17,7 +16,7 @@ use Rattle.numbers.specs.Bytes.{width, numbers_of, numbers, bytes_of, all_below}
 use Rattle.numbers.proofs.Bytes.{numbers-length}
 use Rattle.plan.specs.declared.Gate.{Gate}
 use Rattle.plan.specs.declared.Header.{Header}
-use Rattle.plan.specs.Plans.{Plan, party_count, own_inputs, triple_numbers}
+use Rattle.plan.specs.Plans.{Plan, party_count, triple_numbers}
 use Rattle.plan.specs.File.{plan_of}
 use Rattle.plan.specs.Planned.{Planned}
 use Rattle.plan_coalition.specs.Coalitions.{members}
@@ -28,13 +27,11 @@ use Rattle.run_protocol.specs.Tables.{Tabled}
 use Rattle.run_protocol.specs.Settings.{Coins}
 use Rattle.run_protocol.proofs.Given.{tabled-none}
 use Rattle.match_privacy.specs.Matching.{is_member, matched_coins}
-use Rattle.match_privacy.proofs.Members.{map-members}
-use Rattle.match_privacy.proofs.SetMembers.{member_in, set_few, set-parties}
+use Rattle.match_privacy.proofs.SetMembers.{set_few, set-parties}
 use Rattle.match_privacy.proofs.TwoRuns.{Runs, masked-moves, runs_after}
 use Rattle.match_privacy.proofs.Views.{Start, alone_start, fresh-runs}
-use Rattle.match_agreement.specs.MatchCalls.{inputs_agree}
 use Rattle.match_agreement.specs.MatchParts.{Matchable}
-use Rattle.match_agreement.proofs.Agreed.{inputs_left}
+use Rattle.match_agreement.proofs.Agreed.{own-inputs}
 use Rattle.match_call.specs.MatchSteps.{Follows, Following, Runnable, MatchedBy}
 
 module _ (plan : Plan) (ok : Valid plan) (ms : List ℕ) (few : length ms ≤ plan.t) (parties_only : (i : ℕ) → is_member i ms ≡ true → i ≤ party_count plan) where
@@ -60,12 +57,6 @@ module _ (plan : Plan) (ok : Valid plan) (ms : List ℕ) (few : length ms ≤ pl
   following xs ys c tf tf' us us' o = following_from plan.gates _ _ [] [] us us' (fresh-runs plan ok ms few parties_only xs ys c tf tf' us us' o)
 
 -- ---- alone
--- what refusal 21 leaves: the members' own inputs are the same in both lists
-pub own-inputs :
-    (plan : Plan) (set : ℕ) (xs ys : List ℕ) → inputs_agree plan set xs ys ≡ Ok tt → map (λ i. own_inputs plan i xs) (members set) ≡ map (λ i. own_inputs plan i ys) (members set)
-own-inputs plan set xs ys agree =
-    map-members (members set) (λ i. own_inputs plan i xs) (λ i. own_inputs plan i ys) (λ i m. inputs_left set i (unfold members in member_in set 16 i 1 m) plan xs ys agree)
-
 module _ (bs : List ℕ) (h : Header) (set : ℕ) (xs ys coins : List ℕ) (room : ℕ) (k : Planned bs h) (gi : Matchable bs h set xs ys coins room) where
   no-numbers : 0 ≡ width * (party_count (plan_of bs) * triple_numbers (plan_of bs))
   unfolding triple_numbers

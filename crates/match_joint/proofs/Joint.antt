@@ -25,7 +25,8 @@ use Rattle.run_protocol.specs.Ideal.{values, granted}
 use Rattle.run_protocol.specs.Shares.{share_table}
 use Rattle.run_protocol.specs.Tables.{table_view_of}
 use Rattle.run_protocol.specs.Preparing.{prepares, preparing}
-use Rattle.match_joint.specs.Joint.{wire_change, spent_wires, spent_changes, moved_draws, draws_of, preparing_coins, main_coins, matched_draws, matched_preparing, matched_joint, joint_held}
+use Rattle.match_joint.specs.JointLists.{draws_of, preparing_coins, main_coins, joint_held}
+use Rattle.match_joint.specs.Joint.{wire_change, spent_wires, spent_changes, moved_draws, matched_draws, matched_preparing, matched_joint}
 use Rattle.run_protocol.specs.Settings.{Full, Inputs, Coins}
 use Rattle.match_privacy.specs.Bijections.{Bijection}
 use Rattle.plan.proofs.Valid.{Valid}

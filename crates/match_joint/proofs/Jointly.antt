@@ -15,7 +15,8 @@ use Rattle.run_protocol.specs.Settings.{Full}
 use Rattle.run_protocol.proofs.Prepared.{is-preparing, preparing-valid, no-kind-7}
 use Rattle.run_protocol.proofs.Given.{tabled-none, tabled-prepared}
 use Rattle.match_privacy.proofs.Private.{Agreeing, seen_as, view_as}
-use Rattle.match_joint.specs.Joint.{draws_of, preparing_coins, main_coins, joint_view, JointlyPrivate}
+use Rattle.match_joint.specs.JointLists.{draws_of, preparing_coins, main_coins}
+use Rattle.match_joint.specs.Joint.{joint_view, JointlyPrivate}
 use Rattle.match_joint.proofs.Joint as joint
 use Rattle.match_joint.proofs.Joint.{joint_tables, Parts, parts}
 

@@ -17,7 +17,8 @@ use Rattle.run_protocol.specs.Ideal.{inputs_taken, gate_value, values_from, valu
 use Rattle.run_protocol.specs.Shares.{wire_at, product_of, zero_pieces, masked_at, multiply_dealt, dealt_at, sharings, pieces_at, truncated_at, multiply_share, difference_at, difference_of, gate_share, triples_taken, past, past_all, start_of, share_table}
 use Rattle.run_protocol.specs.Preparing.{triple_gates}
 use Rattle.match_privacy.specs.Matching.{is_member, matched_blocks, lowest_of, lowest, change_of, zero_matched, absorbed_by, absorbed, with_coins, matched_at, match_from, matched_with, matched_coins}
-use Rattle.match_joint.specs.Joint.{wire_change, spent_wires, spent_changes, moved_draws, draws_of, preparing_coins, main_coins, matched_draws, matched_preparing, matched_joint, joint_view}
+use Rattle.match_joint.specs.JointLists.{draws_of, preparing_coins, main_coins}
+use Rattle.match_joint.specs.Joint.{wire_change, spent_wires, spent_changes, moved_draws, matched_draws, matched_preparing, matched_joint, joint_view}
 use Rattle.run_protocol.proofs.Worked.{plan_with, like_k, KSpend, prepared, figures, draws, prep_coins}
 
 abbrev joint_list : List ℕ

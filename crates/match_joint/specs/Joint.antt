@@ -1,16 +1,17 @@
 -- The matching of a preparing run and the main run that spends its triples, together: the lowest non-member's draws
 -- take up the changes of the wires that are multiplied, and both runs are then matched by the ordinary rule.
-use Rattle.std.specs.Prelude.{ℕ, suc, ◌+◌, cond, eqb, take, drop, get_or}
+use Rattle.std.specs.Prelude.{ℕ, suc, ◌+◌, cond, eqb, drop, get_or}
 use mathlib.Core.List.{List, [], ◌∷◌, ◌++◌, map, flat_map}
 use Rattle.numbers.specs.Tables.{tab}
 use Rattle.field.specs.Mod.{add, sub}
 use Rattle.match_privacy.specs.Matching.{lowest, matched_with, matched_coins}
 use Rattle.plan.specs.declared.Gate.{Gate}
-use Rattle.plan.specs.Plans.{Plan, party_count, is_kind, operands_of, input_count, coin_count, own_inputs, own_coins}
+use Rattle.plan.specs.Plans.{Plan, party_count, is_kind, operands_of, input_count, coin_count}
 use Rattle.run_protocol.specs.Ideal.{values}
 use Rattle.run_protocol.specs.Shares.{share_table}
-use Rattle.run_protocol.specs.Rounds.{view, triples_from}
+use Rattle.run_protocol.specs.Rounds.{view}
 use Rattle.match_privacy.specs.Bijections.{Bijection}
+use Rattle.match_joint.specs.JointLists.{draws_of, preparing_coins, main_coins, joint_triples, joint_held}
 
 -- by how much wire w changes, given all wires' values in the two runs
 unfoldable pub wire_change : Plan → List ℕ → List ℕ → ℕ → ℕ
@@ -30,16 +31,6 @@ moved_draws p n i (d ∷ ds) draws =
     tab (λ j. cond (eqb (suc j) i) (add p (get_or draws j 0) d) (get_or draws j 0)) n
     ++ moved_draws p n i ds (drop n draws)
 
--- the joint list: the preparing plan's draws, its coins, then the main coins
-unfoldable pub draws_of : Plan → List ℕ → List ℕ
-draws_of prep cs = take (input_count prep) cs
-
-unfoldable pub preparing_coins : Plan → List ℕ → List ℕ
-preparing_coins prep cs = take (coin_count prep) (drop (input_count prep) cs)
-
-unfoldable pub main_coins : Plan → List ℕ → List ℕ
-main_coins prep cs = drop (input_count prep + coin_count prep) cs
-
 unfoldable pub matched_draws : Plan → Plan → List ℕ → List ℕ → List ℕ → List ℕ → List ℕ
 matched_draws prep plan ms xs ys cs =
     moved_draws plan.p (party_count plan) (lowest plan ms) (spent_changes plan xs ys) (draws_of prep cs)
@@ -58,20 +49,11 @@ matched_joint prep plan ms xs ys cs =
     xs ys (main_coins prep cs))
 
 -- ---- what is private
--- the triples that the joint list leads to
-abbrev pub joint_triples : Plan → List ℕ → List ℕ
-joint_triples prep c = triples_from prep (draws_of prep c) (preparing_coins prep c)
-
 -- the coalition's views of a preparing run and of the main run that spends its triples, over the joint list
 abbrev pub joint_view : Plan → Plan → List ℕ → List ℕ → List ℕ → List ℕ
 joint_view prep plan ms xs c =
     view prep ms (draws_of prep c) (preparing_coins prep c) []
     ++ view plan ms xs (main_coins prep c) (joint_triples prep c)
-
--- what its members hold of the joint list: draws and coins of the preparing run, and coins of the main run
-abbrev pub joint_held : Plan → Plan → List ℕ → List ℕ → List (List ℕ)
-joint_held prep plan ms c =
-    map (λ i. own_inputs prep i (draws_of prep c) ++ (own_coins prep i (preparing_coins prep c) ++ own_coins plan i (main_coins prep c))) ms
 
 abbrev pub JointlyPrivate : Plan → Plan → List ℕ → List ℕ → List ℕ → Type 0
 JointlyPrivate prep plan ms xs ys =

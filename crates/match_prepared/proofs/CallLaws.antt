@@ -1,53 +1,25 @@
 -- The matching of two runs together as its caller sees it.
---     counted_first, counted_second    the lists' counts, where the checks pass
---     calling                          what closes the needs of the call
+--     calling       what closes the needs of the call
 -- Assumes nothing.
 use Rattle.std.proofs.Common.{Ok, Err}
 use mathlib.Core.Path.{◌≡◌, sym, ap, ◌∙◌}
 use mathlib.Core.List.{List}
-use Prim.Native.Nat.{ℕ, ◌*◌}
+use Prim.Native.Nat.{ℕ}
 use borrow.Author.Rules.{rules}
 use lib.ListN.{length}
-use Rattle.numbers.specs.Bytes.{width, numbers, bytes_of}
-use Rattle.numbers.proofs.Bytes.{holds-length}
+use Rattle.numbers.specs.Bytes.{numbers, bytes_of}
 use Rattle.plan.specs.declared.Header.{Header}
 use Rattle.plan.specs.declared.Refusal.{Refusal}
-use Rattle.plan.specs.declared.Refusal.TheVariants as refusal
 use Rattle.plan.specs.Refusals.{Checked, first_of}
-use Rattle.plan.specs.Plans.{input_count}
 use Rattle.plan.specs.File.{plan_check, plan_of}
 use Rattle.plan.specs.Planned.{Planned}
-use Rattle.plan.proofs.Refusals.{passed_both, passed-need}
 use Rattle.plan_coalition.specs.Coalitions.{members}
 use Rattle.seat_messages.specs.Calls.{unless_refused}
 use Rattle.match_joint.specs.Joint.{matched_joint}
 use Rattle.match_prepared.specs.PreparedCalls.{joint_checks, prepared_answer, prepared_after}
-use Rattle.match_prepared.specs.PreparedParts.{earlier, Jointly}
-use Rattle.match_prepared.proofs.JointLaws as joint
+use Rattle.match_prepared.specs.PreparedParts.{earlier}
+use Rattle.match_prepared.proofs.JointLaws.{jointly}
 use Rattle.match_prepared.proofs.TurnLaws.{answer_earlier, answer_main, answer_joint}
-
-module _ (prep bs : List ℕ) (set : ℕ) (xs ys coins : List ℕ) (c : Checked) where
-  -- what two runs that pass are
-  module _ (room : ℕ) (ec : c ≡ first_of (joint_checks (plan_of prep) (plan_of bs) set xs ys coins room)) (k : c ≡ Ok tt) where
-    pub jointly : Jointly prep bs set xs ys coins room
-    jointly = joint.jointly prep bs set xs ys coins room c ec k
-
-    pub counted_first : length xs ≡ width * input_count (plan_of bs)
-    unfolding joint_checks first_of
-    counted_first =
-        let a = passed_both _ _ (sym ec ∙ k) in
-        let b = passed_both _ _ a.1 in
-        let d = passed_both _ _ b.1 in
-        holds-length (input_count (plan_of bs)) xs (passed-need refusal.InputCount _ d.0)
-
-    pub counted_second : length ys ≡ width * input_count (plan_of bs)
-    unfolding joint_checks first_of
-    counted_second =
-        let a = passed_both _ _ (sym ec ∙ k) in
-        let b = passed_both _ _ a.1 in
-        let d = passed_both _ _ b.1 in
-        let e = passed_both _ _ d.1 in
-        holds-length (input_count (plan_of bs)) ys (passed-need refusal.InputCount _ e.0)
 
 module _ (prep bs : List ℕ) (set : ℕ) (xs ys coins : List ℕ) (room : ℕ) where
   -- the preparing plan is refused
@@ -81,4 +53,4 @@ module _ (prep bs : List ℕ) (set : ℕ) (xs ys coins out : List ℕ) where
   unfolding prepared_after unless_refused
   written_buffer e zs z = rw (← e) z
 
-pub ruleset calling = (rules, jointly, counted_first, counted_second, refused_first, refused_second, checked_answer, passed_answer, kept_buffer, written_buffer)
+pub ruleset calling = (rules, jointly, refused_first, refused_second, checked_answer, passed_answer, kept_buffer, written_buffer)

@@ -42,7 +42,8 @@ use Rattle.run_protocol.specs.Preparing.{prepares}
 use Rattle.run_protocol.proofs.Values.{value-below}
 use Rattle.run_protocol.proofs.Prepared.{is-preparing}
 use Rattle.match_privacy.specs.Matching.{lowest}
-use Rattle.match_joint.specs.Joint.{wire_change, spent_wires, spent_changes, moved_draws, draws_of, matched_draws}
+use Rattle.match_joint.specs.JointLists.{draws_of}
+use Rattle.match_joint.specs.Joint.{wire_change, spent_wires, spent_changes, moved_draws, matched_draws}
 use Rattle.match_joint.proofs.Moved.{spent_count, input_count_lem}
 use Rattle.run_ideal.proofs.IdealLaws.{wire_below}
 use Rattle.match_prepared.specs.PreparedCalls.{preparing_count, joint_count}

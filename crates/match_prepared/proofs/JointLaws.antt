@@ -33,8 +33,8 @@ use Rattle.run_protocol.specs.Preparing.{prepares}
 use Rattle.run_protocol.proofs.Prepared.{is-preparing}
 use Rattle.match_agreement.specs.MatchParts.{input_checks, agree_checks}
 use Rattle.match_agreement.proofs.AgreeLaws.{Listed, listed, listed_first, listed_second}
-use Rattle.match_prepared.specs.PreparedCalls.{preparing_count, joint_count, joint_over, prepared_ok, joint_checks}
-use Rattle.match_prepared.specs.PreparedParts.{joint_coin_checks, joint_below, Jointly}
+use Rattle.match_prepared.specs.PreparedCalls.{preparing_count, joint_count, joint_below, joint_over, prepared_ok, joint_checks}
+use Rattle.match_prepared.specs.PreparedParts.{joint_coin_checks, Jointly}
 
 -- ---- the joint list
 pub preparing_counted : (prep : Plan) (a b : ℕ) → a ≡ input_count prep → b ≡ coin_count prep → a + b ≡ preparing_count prep
@@ -66,7 +66,7 @@ module _ (prep plan : Plan) (coins : List ℕ) (room : ℕ) (count : ℕ) (ec : 
 
   module _ (ha : a ≡ true) (f : Option ℕ) (ef : f ≡ first_failing (joint_below prep plan (numbers coins)) (length coins / width)) where
     over-is : joint_over prep plan (numbers coins) ≡ unless_found refusal.CoinValue f
-    unfolding joint_over joint_below
+    unfolding joint_over
     over-is =
         ap (λ (n : ℕ). unless_found refusal.CoinValue (first_failing (joint_below prep plan (numbers coins)) n)) (numbers-length coins)
         ∙ ap (unless_found refusal.CoinValue) (sym ef)
@@ -148,7 +148,7 @@ same_below false p v = refl
 
 module _ (prep plan : Plan) (same : prep.p ≡ plan.p) where
   joint-small : (cs : List ℕ) → joint_over prep plan cs ≡ Ok tt → all_below plan.p cs ≡ true
-  unfolding joint_over
+  unfolding joint_over joint_below
   joint-small cs e =
       at-all_below plan.p cs
       (λ i l.
@@ -176,6 +176,8 @@ jointly pb bs set xs ys coins room c e k =
       prepared = ok;
       set_ok_first = passed-need refusal.Coalition _ z.0;
       set_ok_lem = l.set_ok_lem;
+      first_long = l.first_long;
+      second_long = l.second_long;
       first_below = l.first_below;
       second_below = l.second_below;
       coins_below = joint-small (plan_of pb) (plan_of bs) (ap (λ (r : Plan). r.p) (is-preparing (plan_of pb) (plan_of bs) ok)) (numbers coins) f.0;

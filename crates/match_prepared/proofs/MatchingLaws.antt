@@ -42,11 +42,13 @@ use Rattle.match_privacy.specs.Matching.{is_member, lowest_of, lowest, matched_w
 use Rattle.match_privacy.proofs.SetMembers.{set_few, set-parties}
 use Rattle.match_privacy.proofs.Bijections.{full}
 use Rattle.match_privacy.proofs.Views.{Start}
-use Rattle.match_joint.specs.Joint.{wire_change, spent_wires, spent_changes, moved_draws, draws_of, matched_draws}
+use Rattle.match_joint.specs.JointLists.{draws_of}
+use Rattle.match_joint.specs.Joint.{wire_change, spent_wires, spent_changes, moved_draws, matched_draws}
 use Rattle.match_joint.proofs.Moved.{length_moved, moved_canon, input_count_lem, spent_count}
 use Rattle.match_joint.proofs.Joint.{prepared-start, main-start}
 use Rattle.match_call.specs.MatchSteps.{Following, Runnable, MatchedBy}
-use Rattle.match_call.proofs.AloneLaws.{following, own-inputs}
+use Rattle.match_agreement.proofs.Agreed.{own-inputs}
+use Rattle.match_call.proofs.AloneLaws.{following}
 use Rattle.match_prepared.specs.PreparedParts.{Put}
 use Rattle.match_prepared.specs.MatchingParts.{new_draws, new_coins, new_main, Parted}
 use Rattle.match_prepared.proofs.DrawLaws.{values_small, changes_small, changes_long, draws_count, draws_written}

@@ -20,14 +20,14 @@ use Rattle.plan.proofs.Valid.{valid}
 use Rattle.plan_coalition.specs.Coalitions.{members}
 use Rattle.run_protocol.specs.Shares.{share_table}
 use Rattle.match_privacy.specs.Matching.{lowest, matched_with, matched_coins}
-use Rattle.match_joint.specs.Joint.{spent_changes, moved_draws, draws_of, preparing_coins, main_coins, matched_draws, matched_preparing, matched_joint}
+use Rattle.match_joint.specs.JointLists.{draws_of, preparing_coins, main_coins}
+use Rattle.match_joint.specs.Joint.{spent_changes, moved_draws, matched_draws, matched_preparing, matched_joint}
 use Rattle.match_prepared.specs.PreparedCalls.{preparing_count, joint_count}
 use Rattle.match_prepared.specs.PreparedParts.{Jointly}
 use Rattle.match_prepared.specs.MatchingParts.{new_draws, new_coins, new_main, Parted}
 use Rattle.match_prepared.proofs.MatchingLaws.{same_p}
 
-module _ {pb bs : List ℕ} {g : Header} (q : Planned bs g) {set : ℕ} {xs ys cs : List ℕ} {room : ℕ} (j : Jointly pb bs set xs ys cs room)
-    (lx : length xs ≡ width * input_count (plan_of bs)) (ly : length ys ≡ width * input_count (plan_of bs)) {i c : ℕ} (ei : i ≡ input_count (plan_of pb)) (ec : c ≡ coin_count (plan_of pb)) where
+module _ {pb bs : List ℕ} {g : Header} (q : Planned bs g) {set : ℕ} {xs ys cs : List ℕ} {room : ℕ} (j : Jointly pb bs set xs ys cs room) {i c : ℕ} (ei : i ≡ input_count (plan_of pb)) (ec : c ≡ coin_count (plan_of pb)) where
   counted : length cs ≡ width * (i + c + coin_count (plan_of bs))
   unfolding joint_count preparing_count
   counted = j.coins_long ∙ ap₂ (λ (a b : ℕ). width * (a + b + coin_count (plan_of bs))) (sym ei) (sym ec)
@@ -79,8 +79,8 @@ module _ {pb bs : List ℕ} {g : Header} (q : Planned bs g) {set : ℕ} {xs ys c
         prepared = j.prepared;
         set_ok_first = j.set_ok_first;
         set_ok_lem = j.set_ok_lem;
-        first_full = record { count = numbers-length xs ∙ omega (arith, lx); small = j.first_below };
-        second_full = record { count = numbers-length ys ∙ omega (arith, ly); small = j.second_below };
+        first_full = record { count = numbers-length xs ∙ omega (arith, j.first_long); small = j.first_below };
+        second_full = record { count = numbers-length ys ∙ omega (arith, j.second_long); small = j.second_below };
         agree = j.agree;
         draws_long = length-take-le (width * i) cs (omega (arith, counted)) ∙ ap (λ (k : ℕ). width * k) ei;
         draws_full = record {

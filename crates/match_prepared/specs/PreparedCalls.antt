@@ -27,10 +27,12 @@ preparing_count prep = input_count prep + coin_count prep
 unfoldable pub joint_count : Plan → Plan → ℕ
 joint_count prep plan = preparing_count prep + coin_count plan
 
--- the first number of the joint list that is not below its own plan's p
+-- number i of the joint list is below its own plan's p; and the first that is not
+unfoldable pub joint_below : Plan → Plan → List ℕ → ℕ → Bool
+joint_below prep plan cs i = ltb (get_or cs i 0) (cond (ltb i (preparing_count prep)) prep.p plan.p)
+
 unfoldable pub joint_over : Plan → Plan → List ℕ → Checked
-joint_over prep plan cs =
-    unless_found refusal.CoinValue (first_failing (λ i. ltb (get_or cs i 0) (cond (ltb i (preparing_count prep)) prep.p plan.p)) (length cs))
+joint_over prep plan cs = unless_found refusal.CoinValue (first_failing (joint_below prep plan cs) (length cs))
 
 -- refusal 29: the main plan spends triples, and the other makes them
 unfoldable pub prepared_ok : Plan → Plan → Bool

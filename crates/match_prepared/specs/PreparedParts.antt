@@ -1,5 +1,5 @@
 -- The checks of two runs together in parts, and what the preparing plan's gates are compared with.
-use Rattle.std.specs.Prelude.{Ok, Err, ℕ, ◌+◌, ◌*◌, ◌/◌, ◌%◌, ◌≡◌, Bool, true, cond, ◌&&◌, List, [], ◌∷◌, ◌++◌, eqb, leb, ltb, length, take, get_or}
+use Rattle.std.specs.Prelude.{Ok, Err, ℕ, ◌+◌, ◌*◌, ◌/◌, ◌%◌, ◌≡◌, Bool, true, cond, ◌&&◌, List, [], ◌∷◌, ◌++◌, eqb, leb, length, take, get_or}
 use mathlib.Core.List.{flat_map}
 use Rattle.numbers.specs.Tables.{tab}
 use Rattle.numbers.specs.Bytes.{width, numbers, all_below, holds_count}
@@ -8,12 +8,12 @@ use Rattle.plan.specs.declared.Gate.{Gate}
 use Rattle.plan.specs.declared.Gate.TheVariants.{Input, Multiply, Random}
 use Rattle.plan.specs.declared.Refusal.TheVariants as refusal
 use Rattle.plan.specs.Refusals.{Checked, number_of, need}
-use Rattle.plan.specs.Plans.{Plan}
+use Rattle.plan.specs.Plans.{Plan, input_count}
 use Rattle.plan.specs.File.{same_bytes, plan_of}
 use Rattle.plan_coalition.specs.Coalitions.{set_ok}
 use Rattle.run_protocol.specs.Preparing.{triple_gates, gate_numbers, prepares}
 use Rattle.match_agreement.specs.MatchCalls.{inputs_agree}
-use Rattle.match_prepared.specs.PreparedCalls.{preparing_count, joint_count, joint_over, prepared_ok}
+use Rattle.match_prepared.specs.PreparedCalls.{joint_count, joint_over, prepared_ok}
 
 -- of two answers of the checks of a plan the earlier one, at equal checks the first
 unfoldable pub earlier : Checked → Checked → Checked
@@ -29,10 +29,6 @@ joint_coin_checks prep plan coins room =
     ∷ need refusal.Triples (prepared_ok prep plan)
     ∷ need refusal.BufferLength (eqb room (width * joint_count prep plan))
     ∷ []
-
--- number i of the joint list is below its own plan's p
-unfoldable pub joint_below : Plan → Plan → List ℕ → ℕ → Bool
-joint_below prep plan cs i = ltb (get_or cs i 0) (cond (ltb i (preparing_count prep)) prep.p plan.p)
 
 -- ---- the preparing plan's gates
 unfoldable pub same_gate : Gate → Gate → Bool
@@ -65,6 +61,8 @@ pub record Jointly (prep bs : List ℕ) (set : ℕ) (xs ys coins : List ℕ) (ro
   pub prepared : prepares (plan_of prep) (plan_of bs) ≡ true
   pub set_ok_first : set_ok (plan_of prep) set ≡ true
   pub set_ok_lem : set_ok (plan_of bs) set ≡ true
+  pub first_long : length xs ≡ width * input_count (plan_of bs)
+  pub second_long : length ys ≡ width * input_count (plan_of bs)
   pub first_below : all_below (plan_of bs).p (numbers xs) ≡ true
   pub second_below : all_below (plan_of bs).p (numbers ys) ≡ true
   pub coins_below : all_below (plan_of bs).p (numbers coins) ≡ true

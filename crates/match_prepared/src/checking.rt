@@ -6,8 +6,8 @@ ghost use Rattle.plan.specs.Refusals.{first_of};
 ghost use Rattle.plan.specs.Plans.{kind_count};
 ghost use Rattle.plan.specs.File.{plan_of, same_bytes};
 ghost use Rattle.run_protocol.specs.Preparing.{prepares};
-ghost use Rattle.match_prepared.specs.PreparedCalls.{preparing_count, joint_count, prepared_ok, joint_checks};
-ghost use Rattle.match_prepared.specs.PreparedParts.{joint_coin_checks, joint_below, same_gate, makes_at, made_as};
+ghost use Rattle.match_prepared.specs.PreparedCalls.{preparing_count, joint_count, joint_below, prepared_ok, joint_checks};
+ghost use Rattle.match_prepared.specs.PreparedParts.{joint_coin_checks, same_gate, makes_at, made_as};
 ghost use Rattle.plan.specs.declared.Gate.TheVariants.{Multiply, Random};
 
 use match_agreement::InputPair;

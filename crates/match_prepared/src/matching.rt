@@ -89,9 +89,7 @@ impl Parts<'_> {
 
 // Writes the joint list of the matched runs, of two lists of inputs and a joint list that pass the checks.
 pub fn matched(pair: &PreparedPair, coins: &[u8], out: &mut [u8])
-    requires jointly { Jointly pair.now.preparing.now.bytes.now pair.now.lists.plan.now.bytes.now pair.now.lists.set pair.now.lists.first.now pair.now.lists.second.now coins.now (length out.old) }
-    requires first_len { length pair.now.lists.first.now ≡ width * input_count (plan_of pair.now.lists.plan.now.bytes.now) }
-    requires second_len { length pair.now.lists.second.now ≡ width * input_count (plan_of pair.now.lists.plan.now.bytes.now) }
+    requires { Jointly pair.now.preparing.now.bytes.now pair.now.lists.plan.now.bytes.now pair.now.lists.set pair.now.lists.first.now pair.now.lists.second.now coins.now (length out.old) }
     ensures { out.new ≡ bytes_of (matched_joint (plan_of pair.now.preparing.now.bytes.now) (plan_of pair.now.lists.plan.now.bytes.now) (members pair.now.lists.set) (numbers pair.now.lists.first.now) (numbers pair.now.lists.second.now) (numbers coins.now)) }
 {
     let a = numbers::WIDTH * plan_counts::input_count(pair.preparing);

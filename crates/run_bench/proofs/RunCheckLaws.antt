@@ -237,9 +237,6 @@ module _ (bs : List ℕ) (h : Header) (pl : Planned bs h) (inputs coins triples 
   triples_by : ℕ → ℕ → Checked
   triples_by p n = first_of (triple_checks p n triples)
 
-  pub all-triples-fit : (m : ℕ) → m ≤ 3072 → Fits w64 (h.n * m)
-  all-triples-fit m l = record { fits = omega (arith, mul-le-mul {n₁ = h.n} {m₁ = m} {n₂ = 15} {m₂ = 3072} pl.n-high l) }
-
   module _ (k : ℕ) (ek : k ≡ input_count (plan_of bs)) (c : Checked) (ec : c ≡ first_of (list_checks refusal.InputCount refusal.InputValue h.field.p k inputs)) where
     abbrev triples_end : Checked
     triples_end = triples_by h.field.p (party_count (plan_of bs) * triple_numbers (plan_of bs))
@@ -267,13 +264,13 @@ module _ (bs : List ℕ) (h : Header) (pl : Planned bs h) (inputs coins triples 
       pub given-coins : (r : Refusal) → d ≡ Err r → ◌≡◌ {A = Checked} (Err r) (first_of (given_checks (plan_of bs) inputs coins triples))
       given-coins r f = sym (past-inputs ∙ and_then_refused d _ r f)
 
-      pub given-triples : d ≡ (Ok tt) → (n : ℕ) → n ≡ triple_numbers (plan_of bs) → (r : Checked) → r ≡ first_of (triple_checks h.field.p (h.n * n) triples)
+      pub given-triples : d ≡ (Ok tt) → (n : ℕ) → n ≡ party_count (plan_of bs) * triple_numbers (plan_of bs) → (r : Checked) → r ≡ first_of (triple_checks h.field.p n triples)
           → r ≡ first_of (given_checks (plan_of bs) inputs coins triples)
       unfolding triples_by
       given-triples f n en r er =
-          er ∙ sym (past-inputs ∙ and_then_passed d _ f ∙ ap₂ (λ (x y : ℕ). triples_by h.field.p (x * y)) (plan_n pl) (sym en))
+          er ∙ sym (past-inputs ∙ and_then_passed d _ f ∙ ap (triples_by h.field.p) (sym en))
 
-pub ruleset giving = (rules, all-triples-fit, given-inputs, given-coins, given-triples)
+pub ruleset giving = (rules, given-inputs, given-coins, given-triples)
 
 -- ---- all checks
 pub lent_parts : (bs : List ℕ) (set : ℕ) (inputs coins triples : List ℕ) (room : ℕ) → first_of (lent_checks (plan_of bs) set inputs coins triples room)

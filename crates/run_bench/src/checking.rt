@@ -64,8 +64,7 @@ pub fn check_given(
     let p = plan.header.field.p;
     seat_admission::check_inputs(inputs, plan_counts::input_count(plan), p)?;
     seat_admission::check_coins(coins, plan_counts::coin_count(plan), p)?;
-    let count = plan.header.n * Seat::new(plan, 1).own_triples();
-    seat_admission::check_triples(triples, count, p)
+    seat_admission::check_triples(triples, plan_counts::triple_count(plan), p)
 }
 
 // Refusals 9 to 13, 29 and 19 of a run; `room` is the length of the buffer to be written.

@@ -12,4 +12,4 @@ pub returns : goal.returns
 returns c =
     given-triples _ _ c.args.plan.now.planned _ _ _ _ c.input_count.ensures.eq _ c.check_inputs.ensures c.in_ok-check_inputs.was
     _ c.coin_count.ensures.eq _ c.check_coins.ensures c.in_ok-check_coins.was
-    _ (rw c.new.ensures.plan at c.own_triples.ensures.eq) _ c.check_triples.ensures
+    _ c.triple_count.ensures.eq _ c.check_triples.ensures

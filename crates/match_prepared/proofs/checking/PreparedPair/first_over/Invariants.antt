@@ -3,7 +3,7 @@ use lib.ListN.{length}
 use Rattle.numbers.specs.Bytes.{width, numbers}
 use Rattle.numbers.proofs.Searches.{Seeking}
 use Rattle.plan.specs.File.{plan_of}
-use Rattle.match_prepared.specs.PreparedParts.{joint_below}
+use Rattle.match_prepared.specs.PreparedCalls.{joint_below}
 use Rattle.match_prepared.proofs.checking.PreparedPair.first_over.Given as goal
 
 abbrev pub invariant-loop-i : goal.invariant-loop-i
