@@ -2,15 +2,15 @@
 --     Gathered, gathering        the points of a set's members
 --     Writing                    coins that are written one after the other
 --     moving                     the coins of one dealing
---     shift_of                   by the change of what its dealer deals
+--     moving_dealing             by the change of what its dealer deals
 --     Blocking, moving_blocks    the coins of several dealings
 -- Assumes nothing.
-use mathlib.Core.Path.{◌≡◌, refl, sym, ap, ◌∙◌}
+use mathlib.Core.Path.{◌≡◌, refl, sym, ap, ap₂, ◌∙◌}
 use mathlib.Core.Bool.{Bool, true, false, cond}
 use mathlib.Core.List.{List, [], ◌∷◌, ◌++◌, map, tail, append_assoc, append-nil}
 use Prim.Native.Nat.{ℕ, suc, ◌+◌, ◌-◌, ◌*◌, ◌/◌, ◌%◌, ◌^◌, ◌<◌, ◌≤◌}
 use native.Mathlib.Numerals.{add-one}
-use native.Mathlib.Nat.{add-zero, mul-zero, mul-suc, mul-le-mul_left, mod-lt}
+use native.Mathlib.Nat.{add-zero, mul-zero, mul-suc, mul-le-mul, mul-le-mul_left, mod-eq_of_lt}
 use native.Mathlib.Omega.{arith}
 use borrow.Author.Rules.{rules}
 use lib.ListN.{length, get_or, take, drop, set, length-set, length-drop, length-map, drop_of_length-le, get_or-eq_default}
@@ -18,14 +18,15 @@ use lib.Seq.{take-suc-set, take-set-le, length-take-le, get_or-drop, drop-cons, 
 use mir.Syntax.{w64}
 use mir.Val.{Fits}
 use Rattle.numbers.specs.Tables.{tab}
-use Rattle.numbers.specs.Bytes.{width, limit, numbers, stored}
+use Rattle.numbers.specs.Bytes.{width, limit, numbers, all_below, stored}
 use Rattle.numbers.proofs.Tables.{tab-zero, tab-next, tab-ext, length-tab, get_or-tab}
 use Rattle.numbers.proofs.Bytes.{numbers-length, numbers-stored, length-stored}
 use Rattle.field.specs.Mod.{add, mul, sub}
-use Rattle.field.specs.Field.{Is, Ready}
-use Rattle.field.proofs.Products.{word}
+use Rattle.field.specs.Field.{Below2, Is, is_wide, kept, sum_bound, Ready}
+use Rattle.field.proofs.SumLaws.{kept_same, kept-bound, bound-more}
+use Rattle.numbers.proofs.Below.{all_below_at, all_below-take, all_below-drop}
 use Rattle.sharing_laws.specs.Poly.{sum_of, scale}
-use Rattle.sharing.proofs.Coding.{entry_below, step_value}
+use Rattle.sharing.proofs.Coding.{entry_below, step_value, is_by}
 use Rattle.plan_coalition.specs.Coalitions.{in_set, members_from, members}
 use Rattle.match_moves.specs.Moves.{member_points, moved, change_of, moved_blocks, Lent, Written, Advanced}
 
@@ -87,18 +88,6 @@ module _ (points : List ℕ) (coalition : ℕ) (d : List ℕ) (k i : ℕ) (h : G
 
 pub ruleset gathering = (rules, entry-past, gather_none, gather_place, gather_next, gathered, gathered_few, gathered_count)
 
--- ---- a change
-module _ (p : ℕ) (m : Bool) (s z : ℕ) where
-  pub change_member : m ≡ true → 0 ≡ change_of p m s z
-  unfolding change_of
-  change_member e = rw e
-
-  pub change_other : (r : ℕ) → m ≡ false → r ≡ sub p z s → r ≡ change_of p m s z
-  unfolding change_of
-  change_other r e h = rw e h
-
-pub ruleset changing = (rules, change_member, change_other)
-
 -- ---- the coins of one dealing
 -- coin m, moved
 abbrev pub moved_at : ℕ → ℕ → List ℕ → List ℕ → ℕ → ℕ → ℕ
@@ -152,13 +141,11 @@ move-none p d es at coins old l = write-none (moved_at p d es (numbers coins) at
 
 module _ (p d : ℕ) (es : List ℕ) (at : ℕ) (coins old new : List ℕ) (j : ℕ) (w : Writing (moved_at p d es (numbers coins) at) (length es) at old new j) where
   pub move-next :
-      (c : ℕ) (new' : List ℕ) → Ready p → j < length es → c ≡ get_or (numbers coins) (at + j) 0 → new' ≡ stored new (at + j) ((c + d * get_or es j 0) % p)
+      (c v : ℕ) (new' : List ℕ) → Ready p → j < length es → c ≡ get_or (numbers coins) (at + j) 0 → Is p ((c + d * get_or es j 0) % p) v → new' ≡ stored new (at + j) v
       → Writing (moved_at p d es (numbers coins) at) (length es) at old new' (j + 1)
-  move-next c new' r l ec en =
-      let v : ℕ = (c + d * get_or es j 0) % p in
-      let small : v < limit = omega (arith, mod-lt (c + d * get_or es j 0) {m = p} (omega (arith, r.prime.above)), r.small) in
-      let is : v ≡ moved_at p d es (numbers coins) at j = step_value p c d (get_or es j 0) ∙ ap (λ (x : ℕ). add p x (mul p d (get_or es j 0))) ec in
-      write_next (moved_at p d es (numbers coins) at) (length es) at old new j w v new' small l is en
+  move-next c v new' r l ec ev en =
+      let is : v ≡ moved_at p d es (numbers coins) at j = ev.eq ∙ step_value p c d (get_or es j 0) ∙ ap (λ (x : ℕ). add p x (mul p d (get_or es j 0))) ec in
+      write_next (moved_at p d es (numbers coins) at) (length es) at old new j w v new' (omega (arith, ev.lt, r.small)) l is en
 
   pub move-done : length es ≤ j → at + length es ≤ length coins / width → Written at (length es) (moved p d es (take (length es) (drop at (numbers coins)))) old new
   move-done l m = record {
@@ -167,22 +154,61 @@ module _ (p d : ℕ) (es : List ℕ) (at : ℕ) (coins old new : List ℕ) (j : 
         ∙ ap (λ (b : List ℕ). take at (numbers old) ++ b) (moved-tab p d es (numbers coins) at (omega (arith, numbers-length coins)));
   }
 
-pub coin_fits : (p d c e : ℕ) → Ready p → d < p → c < limit → e < p → c + d * e < 2 ^ 64
-coin_fits p d c e r ld lc le = omega (arith, r.small, word d e (omega (arith, r.small)) (omega (arith, r.small)))
+-- one coin c moved by d times e, by the sums of the prime q, which is p
+module _ (p q c d e : ℕ) (same_p : q ≡ p) (r : Ready p) (lc : c < p) (ld : d < p) (le : e < p) where
+  pub coin_low : c ≤ 4294967296 * q
+  coin_low = omega (arith, same_p)
 
-pub product_fits : (p d e : ℕ) → Ready p → d < p → e < p → d * e < 2 ^ 64
-product_fits p d e r ld le = omega (arith, r.small, word d e (omega (arith, r.small)) (omega (arith, r.small)))
+  pub coin_pair : Below2 q d e
+  coin_pair = rw same_p (record { left = ld; right = le })
 
-pub ruleset moving = (rules, entry_below, move-none, write-place, move-next, move-done, coin_fits, product_fits)
+  coin_small : c ≤ sum_bound p 1
+  unfolding sum_bound
+  coin_small = pick (is_wide p)
+    where
+      pick : (w : Bool) → c ≤ cond w (4294967296 * p) (1 * (p * p))
+      pick true = omega arith
+      pick false = omega (arith, mul-le-mul {n₁ = 1} {m₁ = p} {n₂ = p} {m₂ = p} (omega arith) (omega arith))
+
+  module _ (x : ℕ) (ex : x ≡ kept q (c + d * e)) where
+    pub coin_bound : x ≤ sum_bound q 16
+    coin_bound = rw (ex, same_p) (omega (arith, kept-bound p r.small d e ld le 1 c coin_small, bound-more p r.small 2 16 (omega arith)))
+
+    pub coin_moved : (v : ℕ) → Is q (x % q) v → Is p ((c + d * e) % p) v
+    coin_moved v i = is_by p _ _ v ((kept_same p (c + d * e)).rest) (rw (ex, same_p) at i)
+
+pub ruleset moving = (rules, entry_below, move-none, write-place, move-next, move-done)
 
 -- ---- by the change of what a dealer deals
-pub shift_of :
-    (p : ℕ) (es cs : List ℕ) (at c d : ℕ) (old new : List ℕ) → Is p c d
-    → Written at (length es) (moved p d es (take (length es) (drop at cs))) old new
-    → Written at (length es) (moved p c es (take (length es) (drop at cs))) old new
-shift_of p es cs at c d old new ed w = rw (← ed.eq) w
+still : (p c e : ℕ) → c < p → add p c (mul p 0 e) ≡ c
+still p c e l = let z : c + 0 * e ≡ c = omega arith in sym (step_value p c 0 e) ∙ ap (λ (n : ℕ). n % p) z ∙ mod-eq_of_lt l
 
-pub ruleset moving_dealing = (rules, shift_of)
+moved_none : (p : ℕ) (es cs : List ℕ) → length es ≡ length cs → all_below p cs ≡ true → moved p 0 es cs ≡ cs
+unfolding moved sum_of scale
+moved_none p [] [] l b = refl
+moved_none p [] (c ∷ cs) l b = absurd (omega (arith, l))
+moved_none p (e ∷ es) [] l b = absurd (omega (arith, l))
+moved_none p (e ∷ es) (c ∷ cs) l b =
+    ap₂ (λ (x : ℕ) (xs : List ℕ). x ∷ xs) (still p c e (all_below_at p (c ∷ cs) 0 b (omega arith))) (moved_none p es cs (omega (arith, l)) (all_below-drop p 1 (c ∷ cs) b))
+
+module _ (p : ℕ) (es coins : List ℕ) (at : ℕ) (m : Bool) (s z : ℕ) (old new : List ℕ) where
+  -- a member's coins stay
+  pub member_kept : m ≡ true → Lent p at (length es) coins old → Written at (length es) (take (length es) (drop at (numbers coins))) old new
+      → Written at (length es) (moved p (change_of p m s z) es (take (length es) (drop at (numbers coins)))) old new
+  unfolding change_of
+  member_kept e lent w =
+      let long : length (take (length es) (drop at (numbers coins))) ≡ length es =
+      length-take-le (length es) (drop at (numbers coins)) (omega (arith, lent.here, numbers-length coins, length-drop at (numbers coins))) in
+      let below : all_below p (take (length es) (drop at (numbers coins))) ≡ true = all_below-take p (length es) _ (all_below-drop p at (numbers coins) lent.below) in
+      rw (e, moved_none p es (take (length es) (drop at (numbers coins))) (sym long) below) w
+
+  -- another's move by the change
+  pub other_moved : (d : ℕ) → m ≡ false → Is p (sub p z s) d → Written at (length es) (moved p d es (take (length es) (drop at (numbers coins)))) old new
+      → Written at (length es) (moved p (change_of p m s z) es (take (length es) (drop at (numbers coins)))) old new
+  unfolding change_of
+  other_moved d e is w = rw (e, ← is.eq) w
+
+pub ruleset moving_dealing = (rules, member_kept, other_moved)
 
 -- ---- the coins of several dealings
 -- the invariant at party i, counted from 0: what is written, and what is left to write from its place on

@@ -65,20 +65,7 @@ pub struct Mover<'a> {
 }
 
 impl Mover<'_> {
-    // By how much a dealer's coins move: the change of what it deals. A member's coins stay.
-    #[tactic(auto, using(crate::proofs::MoveLaws::changing))]
-    fn change(&self, dealer: usize, before: u64, after: u64) -> u64
-        requires { Below2 self.now.header.field.p after before }
-        ensures { Is self.now.header.field.p (change_of self.now.header.field.p (in_set self.now.set dealer) before after) result }
-    {
-        if plan_coalition::is_member(self.set, dealer) {
-            0
-        } else {
-            self.header.field.sub(after, before)
-        }
-    }
-
-    // Writes as many coins as there are coefficients, each moved by d times its own, with one remainder for each.
+    // Writes as many coins as there are coefficients, each moved by d times its own, with one remainder for each and no division.
     // As it is: `at` is a place of both lists, of the coins that are read and of those that are written, so no struct of one of them can hold it.
     #[tactic(auto, using(crate::proofs::MoveLaws::moving))]
     fn shift(&self, d: u64, coefficients: &[u64], at: usize, out: &mut [u8])
@@ -87,22 +74,28 @@ impl Mover<'_> {
         requires lent { Lent self.now.header.field.p at (length coefficients.now) self.now.coins.now out.old }
         ensures { Written at (length coefficients.now) (moved self.now.header.field.p d coefficients.now (take (length coefficients.now) (drop at (numbers self.now.coins.now)))) out.old out.new }
     {
-        let p = self.header.field.p;
+        let sums = self.sums;
         let coins = self.coins;
         for (j, e) in coefficients.iter().enumerate() {
             let coin = numbers::read(coins, at + j);
-            numbers::write(out, at + j, (coin + d * *e) % p);
+            let sum = sums.add_product(coin, d, *e);
+            numbers::write(out, at + j, sums.reduced(sum));
         }
     }
 
-    // Writes the moved coins of a dealer that deals one number in the first run and another in the second.
+    // Writes the coins of a dealer that deals one number in the first run and another in the second: a member's as they are, another's moved by the change.
     #[tactic(auto, using(crate::proofs::MoveLaws::moving_dealing))]
     fn dealing(&self, dealer: usize, before: u64, after: u64, at: usize, out: &mut [u8])
         requires before_lt_p { (before < self.now.header.field.p) × (after < self.now.header.field.p) }
         requires lent { Lent self.now.header.field.p at (length self.now.delta.now) self.now.coins.now out.old }
         ensures { Written at (length self.now.delta.now) (moved self.now.header.field.p (change_of self.now.header.field.p (in_set self.now.set dealer) before after) self.now.delta.now (take (length self.now.delta.now) (drop at (numbers self.now.coins.now)))) out.old out.new }
     {
-        self.shift(self.change(dealer, before, after), self.delta, at, out);
+        if plan_coalition::is_member(self.set, dealer) {
+            self.keep(self.delta.len(), at, out);
+        } else {
+            let change = self.header.field.sub(after, before);
+            self.shift(change, self.delta, at, out);
+        }
     }
 
     // Writes the moved coins of the dealings by parties 1, 2, .. of these numbers in both runs; answers the place after them.

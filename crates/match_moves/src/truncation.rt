@@ -122,7 +122,7 @@ impl Mover<'_> {
 
     // Writes k coins as they are.
     #[tactic(auto, using(crate::proofs::TruncationLaws::keeping))]
-    fn keep(&self, k: usize, at: usize, out: &mut [u8])
+    pub(crate) fn keep(&self, k: usize, at: usize, out: &mut [u8])
         requires lent { Lent self.now.header.field.p at k self.now.coins.now out.old }
         ensures { Written at k (take k (drop at (numbers self.now.coins.now))) out.old out.new }
     {
