@@ -36,6 +36,7 @@ use Rattle.sharing.proofs.Coding.{entry_below}
 use Rattle.seat_messages.proofs.PointLaws.{plan_points_below}
 use Rattle.match_privacy.specs.Matching.{is_member, matched_blocks}
 use Rattle.match_moves.specs.Moves.{member_points, moved, change_of, moved_blocks}
+use Rattle.match_moves.proofs.MoveLaws.{sum-nil, moved-stay}
 use Rattle.match_call.specs.MatchSteps.{delta_whole, delta_tail}
 use Rattle.match_privacy.proofs.Blocks.{matched_block, blocks-cons, block_member, block_other}
 use Rattle.match_privacy.proofs.SetMembers.{member_in, set_few}
@@ -131,22 +132,9 @@ module _ (plan : Plan) (valid : Valid plan) (set : ℕ) (ok : set_ok plan set �
 
 -- ---- coins moved
 module _ (p : ℕ) (above : 0 < p) where
-  sum-nil : (cs : List ℕ) → sum_of p cs [] ≡ cs
-  unfolding sum_of
-  sum-nil [] = refl
-  sum-nil (c ∷ cs) = refl
-
-  moved-stay : (es cs : List ℕ) → length es ≤ length cs → All (Canon p) cs → moved p 0 es cs ≡ cs
-  unfolding moved sum_of scale
-  moved-stay [] cs l can = sum-nil cs
-  moved-stay (e ∷ es) [] l can = absurd (omega arith)
-  moved-stay (e ∷ es) (c ∷ cs) l can =
-      let is : Canon p c = can.0 in
-      ap₂ (λ (x : ℕ) (l : List ℕ). x ∷ l) (solve p (search (quote, # c, # e)) (omega arith)) (moved-stay es cs (omega arith) can.1)
-
   moved-zeros : (d m : ℕ) (cs : List ℕ) → m ≤ length cs → All (Canon p) cs → moved p d (replicate m 0) cs ≡ cs
   unfolding moved sum_of scale
-  moved-zeros d zero cs l can = sum-nil cs
+  moved-zeros d zero cs l can = sum-nil p cs
   moved-zeros d (suc m) [] l can = absurd (omega arith)
   moved-zeros d (suc m) (c ∷ cs) l can =
       let is : Canon p c = can.0 in
@@ -154,7 +142,7 @@ module _ (p : ℕ) (above : 0 < p) where
 
   moved-padded : (d m : ℕ) (es cs : List ℕ) → length es + m ≤ length cs → All (Canon p) cs → moved p d (es ++ replicate m 0) cs ≡ moved p d es cs
   unfolding moved sum_of scale
-  moved-padded d m [] cs l can = moved-zeros d m cs (omega arith) can ∙ sym (sum-nil cs)
+  moved-padded d m [] cs l can = moved-zeros d m cs (omega arith) can ∙ sym (sum-nil p cs)
   moved-padded d m (e ∷ es) [] l can = absurd (omega arith)
   moved-padded d m (e ∷ es) (c ∷ cs) l can = ap (λ (l : List ℕ). add p c (mul p d e) ∷ l) (moved-padded d m es cs (omega arith) can.1)
 

@@ -10,7 +10,7 @@ use mathlib.Core.Bool.{Bool, true, false, cond}
 use mathlib.Core.List.{List, [], ◌∷◌, ◌++◌, map, tail, append_assoc, append-nil}
 use Prim.Native.Nat.{ℕ, suc, ◌+◌, ◌-◌, ◌*◌, ◌/◌, ◌%◌, ◌^◌, ◌<◌, ◌≤◌}
 use native.Mathlib.Numerals.{add-one}
-use native.Mathlib.Nat.{add-zero, mul-zero, mul-suc, mul-le-mul, mul-le-mul_left, mod-eq_of_lt}
+use native.Mathlib.Nat.{add-zero, mul-zero, mul-suc, mul-le-mul, mul-le-mul_left}
 use native.Mathlib.Omega.{arith}
 use borrow.Author.Rules.{rules}
 use lib.ListN.{length, get_or, take, drop, set, length-set, length-drop, length-map, drop_of_length-le, get_or-eq_default}
@@ -24,9 +24,12 @@ use Rattle.numbers.proofs.Bytes.{numbers-length, numbers-stored, length-stored}
 use Rattle.field.specs.Mod.{add, mul, sub}
 use Rattle.field.specs.Field.{Below2, Is, is_wide, kept, sum_bound, Ready}
 use Rattle.field.proofs.SumLaws.{kept_same, kept-bound, bound-more}
-use Rattle.numbers.proofs.Below.{all_below_at, all_below-take, all_below-drop}
+use Rattle.numbers.proofs.Below.{all_below-take, all_below-drop}
+use Rattle.field.proofs.Solve.{Canon, #, quote, solve}
 use Rattle.sharing_laws.specs.Poly.{sum_of, scale}
-use Rattle.sharing.proofs.Coding.{entry_below, step_value, is_by}
+use Rattle.sharing_laws.specs.Interp.{All}
+use Rattle.sharing_laws.proofs.Alls.{below_canon}
+use Rattle.sharing.proofs.Coding.{entry_below, step_value, is_by, ready_positive}
 use Rattle.plan_coalition.specs.Coalitions.{in_set, members_from, members}
 use Rattle.match_moves.specs.Moves.{member_points, moved, change_of, moved_blocks, Lent, Written, Advanced}
 
@@ -180,27 +183,29 @@ module _ (p q c d e : ℕ) (same_p : q ≡ p) (r : Ready p) (lc : c < p) (ld : d
 pub ruleset moving = (rules, entry_below, move-none, write-place, move-next, move-done)
 
 -- ---- by the change of what a dealer deals
-still : (p c e : ℕ) → c < p → add p c (mul p 0 e) ≡ c
-still p c e l = let z : c + 0 * e ≡ c = omega arith in sym (step_value p c 0 e) ∙ ap (λ (n : ℕ). n % p) z ∙ mod-eq_of_lt l
+pub sum-nil : (p : ℕ) (cs : List ℕ) → sum_of p cs [] ≡ cs
+unfolding sum_of
+sum-nil p [] = refl
+sum-nil p (c ∷ cs) = refl
 
-moved_none : (p : ℕ) (es cs : List ℕ) → length es ≡ length cs → all_below p cs ≡ true → moved p 0 es cs ≡ cs
+pub moved-stay : (p : ℕ) → 0 < p → (es cs : List ℕ) → length es ≤ length cs → All (Canon p) cs → moved p 0 es cs ≡ cs
 unfolding moved sum_of scale
-moved_none p [] [] l b = refl
-moved_none p [] (c ∷ cs) l b = absurd (omega (arith, l))
-moved_none p (e ∷ es) [] l b = absurd (omega (arith, l))
-moved_none p (e ∷ es) (c ∷ cs) l b =
-    ap₂ (λ (x : ℕ) (xs : List ℕ). x ∷ xs) (still p c e (all_below_at p (c ∷ cs) 0 b (omega arith))) (moved_none p es cs (omega (arith, l)) (all_below-drop p 1 (c ∷ cs) b))
+moved-stay p above [] cs l can = sum-nil p cs
+moved-stay p above (e ∷ es) [] l can = absurd (omega arith)
+moved-stay p above (e ∷ es) (c ∷ cs) l can =
+    let is : Canon p c = can.0 in
+    ap₂ (λ (x : ℕ) (l : List ℕ). x ∷ l) (solve p (search (quote, # c, # e)) (omega arith)) (moved-stay p above es cs (omega arith) can.1)
 
 module _ (p : ℕ) (es coins : List ℕ) (at : ℕ) (m : Bool) (s z : ℕ) (old new : List ℕ) where
   -- a member's coins stay
-  pub member_kept : m ≡ true → Lent p at (length es) coins old → Written at (length es) (take (length es) (drop at (numbers coins))) old new
+  pub member_kept : 0 < p → m ≡ true → Lent p at (length es) coins old → Written at (length es) (take (length es) (drop at (numbers coins))) old new
       → Written at (length es) (moved p (change_of p m s z) es (take (length es) (drop at (numbers coins)))) old new
   unfolding change_of
-  member_kept e lent w =
+  member_kept above e lent w =
       let long : length (take (length es) (drop at (numbers coins))) ≡ length es =
       length-take-le (length es) (drop at (numbers coins)) (omega (arith, lent.here, numbers-length coins, length-drop at (numbers coins))) in
       let below : all_below p (take (length es) (drop at (numbers coins))) ≡ true = all_below-take p (length es) _ (all_below-drop p at (numbers coins) lent.below) in
-      rw (e, moved_none p es (take (length es) (drop at (numbers coins))) (sym long) below) w
+      rw (e, moved-stay p above es (take (length es) (drop at (numbers coins))) (omega (arith, long)) (below_canon p _ below)) w
 
   -- another's move by the change
   pub other_moved : (d : ℕ) → m ≡ false → Is p (sub p z s) d → Written at (length es) (moved p d es (take (length es) (drop at (numbers coins)))) old new
@@ -208,7 +213,7 @@ module _ (p : ℕ) (es coins : List ℕ) (at : ℕ) (m : Bool) (s z : ℕ) (old 
   unfolding change_of
   other_moved d e is w = rw (e, ← is.eq) w
 
-pub ruleset moving_dealing = (rules, member_kept, other_moved)
+pub ruleset moving_dealing = (rules, ready_positive, member_kept, other_moved)
 
 -- ---- the coins of several dealings
 -- the invariant at party i, counted from 0: what is written, and what is left to write from its place on

@@ -83,6 +83,18 @@ impl Mover<'_> {
         }
     }
 
+    // Writes k coins as they are.
+    #[tactic(auto, using(crate::proofs::TruncationLaws::keeping))]
+    fn keep(&self, k: usize, at: usize, out: &mut [u8])
+        requires lent { Lent self.now.header.field.p at k self.now.coins.now out.old }
+        ensures { Written at k (take k (drop at (numbers self.now.coins.now))) out.old out.new }
+    {
+        let coins = self.coins;
+        for j in 0..k {
+            numbers::write(out, at + j, numbers::read(coins, at + j));
+        }
+    }
+
     // Writes the coins of a dealer that deals one number in the first run and another in the second: a member's as they are, another's moved by the change.
     #[tactic(auto, using(crate::proofs::MoveLaws::moving_dealing))]
     fn dealing(&self, dealer: usize, before: u64, after: u64, at: usize, out: &mut [u8])

@@ -120,18 +120,6 @@ impl Mover<'_> {
         run_dealings::row_by(self.header.t + self.header.t, |j| self.gain(change, j))
     }
 
-    // Writes k coins as they are.
-    #[tactic(auto, using(crate::proofs::TruncationLaws::keeping))]
-    pub(crate) fn keep(&self, k: usize, at: usize, out: &mut [u8])
-        requires lent { Lent self.now.header.field.p at k self.now.coins.now out.old }
-        ensures { Written at k (take k (drop at (numbers self.now.coins.now))) out.old out.new }
-    {
-        let coins = self.coins;
-        for j in 0..k {
-            numbers::write(out, at + j, numbers::read(coins, at + j));
-        }
-    }
-
     // Writes the coins of party i + 1's dealing of 0.
     #[tactic(auto, using(crate::proofs::TruncationLaws::zeroing))]
     fn zero(&self, i: usize, gains: &[u64], at: usize, out: &mut [u8])
