@@ -193,7 +193,7 @@ module _ (xs : List ℕ) (from count at : ℕ) (old : List ℕ) where
         let e : from + count - i ≡ 0 = omega arith in
         left_end (flat_map field (take count (drop from xs))) at old new next (fields_from xs from count i) h (rw e)
 
-    fields-past : length xs ≤ i → Put (flat_map field (take count (drop from xs))) at old new next
+    pub fields-past : length xs ≤ i → Put (flat_map field (take count (drop from xs))) at old new next
     unfolding fields_from flat_map
     fields-past l =
         left_end (flat_map field (take count (drop from xs))) at old new next (fields_from xs from count i) h

@@ -48,6 +48,8 @@ fn one_named(s: &[u8], at: usize, a: usize, c: usize) -> Option<(LogicGate, usiz
     Some((LogicGate::Inv(a, c), e))
 }
 
+// two_wires and one_wire stay calls: inlined into gate_at, each turn of their loops would clear the answer's words for the case that the line is wrong.
+#[inline(never)]
 fn two_wires(s: &[u8], at: usize) -> Option<(LogicGate, usize)>
     ensures { result ≡ two_wires s.now at }
 {
@@ -59,6 +61,7 @@ fn two_wires(s: &[u8], at: usize) -> Option<(LogicGate, usize)>
 
 // As it is: two_wires reads three numbers, one_wire and gate_at two. One reader of N numbers would be no plainer: a loop that fills an array, with an
 // invariant on what it has read, in place of a line by `?` for each number.
+#[inline(never)]
 fn one_wire(s: &[u8], at: usize) -> Option<(LogicGate, usize)>
     ensures { result ≡ one_wire s.now at }
 {

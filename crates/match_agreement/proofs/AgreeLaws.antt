@@ -464,7 +464,7 @@ matchable bs h set xs ys coins room c k e p =
     record {
       set_ok_lem = l.set_ok_lem;
       no-spend = eqb-true (kind_count (plan_of bs) 7) 0 (passed-need refusal.Triples _ s.0);
-      agree = m.0;
+      agree = λ by. m.0;
       first_below = rw (← plan_p k) l.first_below;
       second_below = rw (← plan_p k) l.second_below;
       coins_below = rw (← plan_p k) (first_over-nothing (plan_of bs).p (numbers coins) (passed_found refusal.CoinValue _ f.0));

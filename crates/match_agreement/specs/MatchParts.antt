@@ -3,6 +3,7 @@ use Rattle.std.specs.Prelude.{Ok, ℕ, ◌+◌, ◌*◌, ◌≡◌, Bool, true, 
 use Rattle.numbers.specs.Bytes.{width, numbers, holds_count, first_over, all_below}
 use Rattle.plan.specs.declared.Header.{Header}
 use Rattle.plan.specs.declared.Output.{Output}
+use Rattle.plan.specs.declared.Rule.TheVariants.{Truncation}
 use Rattle.plan.specs.Refusals.{Checked}
 use Rattle.plan.specs.declared.Refusal.TheVariants as refusal
 use Rattle.plan.specs.Refusals.{need, unless_found}
@@ -56,7 +57,7 @@ out_agrees set vs ws out = not (in_set set out.party) || eqb (get_or vs out.wire
 unfoldable pub out_agrees_at : Plan → ℕ → List ℕ → List ℕ → ℕ → Bool
 out_agrees_at plan set vs ws o = out_agrees set vs ws (get_or plan.outs o (record { party = 0; wire = 0 }))
 
--- what a matching takes, once its checks have passed
+-- what a matching takes, once its checks have passed; that the members' inputs agree, only a plan by truncation needs
 pub record Matchable (bs : List ℕ) (h : Header) (set : ℕ) (xs ys coins : List ℕ) (room : ℕ) : Type 0 where
   pub set_ok_lem : set_ok (plan_of bs) set ≡ true
   pub first_below : all_below h.field.p (numbers xs) ≡ true
@@ -65,4 +66,4 @@ pub record Matchable (bs : List ℕ) (h : Header) (set : ℕ) (xs ys coins : Lis
   pub coins_long : length coins ≡ width * coin_count (plan_of bs)
   pub room_long : room ≡ width * coin_count (plan_of bs)
   pub no-spend : kind_count (plan_of bs) 7 ≡ 0
-  pub agree : inputs_agree (plan_of bs) set (numbers xs) (numbers ys) ≡ Ok tt
+  pub agree : (plan_of bs).rule ≡ Truncation → inputs_agree (plan_of bs) set (numbers xs) (numbers ys) ≡ Ok tt

@@ -1,9 +1,10 @@
 -- Two runs that follow, and the matching of a plan that spends no triple.
 --     following      two runs that begin as a matching does follow at every gate
+--     unmasked       any two runs of a plan by reduction do
 --     alone          what closes the needs of the matching alone
 -- Assumes nothing.
 use Rattle.std.proofs.Common.{Ok}
-use mathlib.Core.Path.{◌≡◌, refl, ap, ◌∙◌, subst}
+use mathlib.Core.Path.{◌≡◌, refl, sym, ap, ◌∙◌, subst}
 use mathlib.Core.Bool.{true}
 use mathlib.Core.List.{List, [], ◌∷◌}
 use Prim.Native.Nat.{ℕ, ◌*◌, ◌≤◌}
@@ -16,6 +17,8 @@ use Rattle.numbers.specs.Bytes.{width, numbers_of, numbers, bytes_of, all_below}
 use Rattle.numbers.proofs.Bytes.{numbers-length}
 use Rattle.plan.specs.declared.Gate.{Gate}
 use Rattle.plan.specs.declared.Header.{Header}
+use Rattle.plan.specs.declared.Rule.{Rule}
+use Rattle.plan.specs.declared.Rule.TheVariants.{Reduction, Truncation}
 use Rattle.plan.specs.Plans.{Plan, party_count, triple_numbers}
 use Rattle.plan.specs.File.{plan_of}
 use Rattle.plan.specs.Planned.{Planned}
@@ -56,6 +59,15 @@ module _ (plan : Plan) (ok : Valid plan) (ms : List ℕ) (few : length ms ≤ pl
       → Following plan ms plan.gates (start_of xs c tf) (start_of ys [] tf')
   following xs ys c tf tf' us us' o = following_from plan.gates _ _ [] [] us us' (fresh-runs plan ok ms few parties_only xs ys c tf tf' us us' o)
 
+-- a plan by reduction masks nothing
+unmasked : (plan : Plan) (ms : List ℕ) → plan.rule ≡ Reduction → (gs : List Gate) (s s' : Before) → Following plan ms gs s s'
+unfolding Following
+unmasked plan ms e [] s s' = tt
+unmasked plan ms e (g ∷ gs) s s' = (record { masked = λ a b j is by. other _ (sym e ∙ by) }, unmasked plan ms e gs _ _)
+  where
+    other : (A : Type 0) → Reduction ≡ Truncation → A
+    other A c = cc
+
 -- ---- alone
 module _ (bs : List ℕ) (h : Header) (set : ℕ) (xs ys coins : List ℕ) (room : ℕ) (k : Planned bs h) (gi : Matchable bs h set xs ys coins room) where
   no-numbers : 0 ≡ width * (party_count (plan_of bs) * triple_numbers (plan_of bs))
@@ -81,12 +93,17 @@ module _ (bs : List ℕ) (h : Header) (set : ℕ) (xs ys coins : List ℕ) (room
   coins_full = record { count = omega (arith, numbers-length coins, gi.coins_long); small = rw (plan_p k) gi.coins_below }
 
   alone-follows : Following (plan_of bs) (members set) (plan_of bs).gates (start_of (numbers xs) (numbers coins) []) (start_of (numbers ys) [] [])
-  alone-follows =
-      let few : length (members set) ≤ (plan_of bs).t = set_few (plan_of bs) set gi.set_ok_lem in
-      let are : (i : ℕ) → is_member i (members set) ≡ true → i ≤ party_count (plan_of bs) = set-parties (plan_of bs) set gi.set_ok_lem in
-      following (plan_of bs) (valid bs k.passes) (members set) few are (numbers xs) (numbers ys) (numbers coins) [] [] [] []
-      (alone_start (plan_of bs) (valid bs k.passes) (members set) few are (numbers xs) (numbers ys) (numbers coins) gi.no-spend
-      (rw (plan_p k) gi.first_below) (rw (plan_p k) gi.second_below) coins_full (own-inputs (plan_of bs) set (numbers xs) (numbers ys) gi.agree))
+  alone-follows = by (plan_of bs).rule refl
+    where
+      by : (r : Rule) → (plan_of bs).rule ≡ r
+          → Following (plan_of bs) (members set) (plan_of bs).gates (start_of (numbers xs) (numbers coins) []) (start_of (numbers ys) [] [])
+      by Reduction e = unmasked (plan_of bs) (members set) e (plan_of bs).gates _ _
+      by Truncation e =
+          let few : length (members set) ≤ (plan_of bs).t = set_few (plan_of bs) set gi.set_ok_lem in
+          let are : (i : ℕ) → is_member i (members set) ≡ true → i ≤ party_count (plan_of bs) = set-parties (plan_of bs) set gi.set_ok_lem in
+          following (plan_of bs) (valid bs k.passes) (members set) few are (numbers xs) (numbers ys) (numbers coins) [] [] [] []
+          (alone_start (plan_of bs) (valid bs k.passes) (members set) few are (numbers xs) (numbers ys) (numbers coins) gi.no-spend
+          (rw (plan_p k) gi.first_below) (rw (plan_p k) gi.second_below) coins_full (own-inputs (plan_of bs) set (numbers xs) (numbers ys) (gi.agree e)))
 
   pub alone-matched :
       (out : List ℕ) → MatchedBy bs set xs ys coins [] [] (numbers out) → out ≡ bytes_of (numbers out)

@@ -161,8 +161,8 @@ fn delta(plan: &PlanFile, set: u16) -> [u64; 15]
     let points = seat_messages::points_of(plan);
     let mut room = [0u64; 16];
     let mut delta = [0u64; 15];
-    let members = match_moves::members(set, &points[..n], &mut room);
-    sharing_delta::vanishing(plan.header.field, members, &mut delta[..e]);
+    let count = match_moves::members(set, &points[..n], &mut room);
+    sharing_delta::vanishing(plan.header.field, &room[..count], &mut delta[..e]);
     delta
 }
 

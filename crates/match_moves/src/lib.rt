@@ -27,19 +27,19 @@ fn entry(list: &[u64], i: usize) -> u64
     if i < list.len() { list[i] } else { 0 }
 }
 
-// The points of a set's members, ascending, which stand in front of the room.
-// As it is: the room is lent, since there is no heap.
+// The points of a set's members, ascending, in front of the room; how many they are.
+// As it is: the room is lent, since there is no heap, and its length is answered, since of a room whose part is handed out nothing can be said.
 #[tactic(auto, using(crate::proofs::MoveLaws::gathering))]
-pub fn members<'a>(set: u16, points: &[u64], room: &'a mut [u64]) -> &'a [u64]
+pub fn members(set: u16, points: &[u64], room: &mut [u64]) -> usize
     requires { length room.old ≡ 16 }
-    ensures { record { eq : result.now ≡ member_points points.now set; count : length result.now ≡ length (members set); le : length result.now ≤ 16 } }
+    ensures { record { eq : take result room.new ≡ member_points points.now set; count : result ≡ length (members set); le : result ≤ 16 } }
 {
     let mut k = 0;
     for i in 1..17 {
         room[k] = entry(points, i - 1);
         k += usize::from(plan_coalition::is_member(set, i));
     }
-    &room[..k]
+    k
 }
 
 // ---- the coins

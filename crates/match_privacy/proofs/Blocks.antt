@@ -1,5 +1,5 @@
 -- The matched coins in blocks, one for each dealing.
---     total, length_owners                          the coins of dealings
+--     total, length_owners, total-append            the coins of dealings
 --     length_block, block-canon, block_back         one dealing's
 --     length_blocks, blocks-canon, blocks-back      those of a gate
 --     own_part, own_blocks                          a member's coins stay
@@ -40,6 +40,11 @@ unfolding owners_of total flat_map
 length_owners [] = refl
 length_owners (d ∷ ds) =
     length-append (replicate d.coins d.dealer) (owners_of ds) ∙ ap₂ ◌+◌ (length-replicate d.coins d.dealer) (length_owners ds)
+
+pub total-append : (ds es : List Dealing) → total (ds ++ es) ≡ total ds + total es
+unfolding total
+total-append [] es = omega arith
+total-append (d ∷ ds) es = omega (arith, total-append ds es)
 
 -- each takes k coins or more
 abbrev pub Ample : ℕ → List Dealing → Type 0

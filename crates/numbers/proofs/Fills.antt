@@ -1,6 +1,7 @@
 -- Loops that fill a list by a rule: after i turns the first i entries stand.
 --     Filled, filling        a slice of entries: entry i is set
 --     Stored, storing        a list of numbers that is lent as bytes: number i is stored by `write`
+--     Numbered, numbering    the same of the numbers
 -- Assumes nothing.
 use mathlib.Core.Path.{◌≡◌, refl, sym, ap, ◌∙◌}
 use mathlib.Core.List.{List, ◌++◌}
@@ -95,6 +96,9 @@ module _ (f : ℕ → ℕ) where
   unfolding tab
   number-none n d l = record { within = omega arith; room = l; long = refl; front = refl; rest = refl }
 
+  pub number-none-whole : (n : ℕ) (d : List ℕ) → length d ≡ width * n → Numbered f n d d 0
+  number-none-whole n d e = number-none n d (omega arith)
+
   module _ (n : ℕ) (d₀ d : List ℕ) (i : ℕ) (h : Numbered f n d₀ d i) where
     behind : drop (i + 1) (numbers d) ≡ drop (i + 1) (numbers d₀)
     behind = rw (← drop-drop 1 i (numbers d), ← drop-drop 1 i (numbers d₀), h.rest)
@@ -115,3 +119,13 @@ module _ (f : ℕ → ℕ) where
 
     pub numbered-all : n ≤ i → length d₀ / width ≡ n → numbers d ≡ tab f n
     numbered-all l e = sym (take_all i (numbers d) (omega (arith, h.long, numbers-length d))) ∙ h.front ∙ ap (tab f) (reached l)
+
+    pub numbered-whole : n ≤ i → length d₀ ≡ width * n → numbers d ≡ tab f n
+    numbered-whole l e = numbered-all l (omega arith)
+
+    -- the numbers in front of those that stand as they were
+    pub numbered-part : n ≤ i → numbers d ≡ tab f n ++ drop n (numbers d₀)
+    numbered-part l = sym (take-append-drop i (numbers d)) ∙ rw (h.front, h.rest, reached l)
+
+-- what closes each need of such a loop
+pub ruleset numbering = (rules, number-none, number-none-whole, number-next, numbered-all, numbered-whole, numbered-part)

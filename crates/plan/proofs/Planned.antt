@@ -1,7 +1,7 @@
 -- What a plan that passes is.
 --     Passing, passing              the checks, one by one
 --     passing_majority              2t < n where a gate multiplies
---     laid_gates, gates_there       its gates stand in the file
+--     laid_gate .. gates_there      its gates stand in the file
 --     planned, planned_read         the bounds of its contents
 --     party-count .. out-of-plan    the plan's parts, by its contents
 -- Assumes nothing.
@@ -10,6 +10,7 @@ use mathlib.Core.Path.{◌≡◌, sym, ap, ◌∙◌}
 use mathlib.Core.Bool.{true, cond, ◌&&◌}
 use mathlib.Core.List.{List}
 use Prim.Native.Nat.{ℕ, ◌+◌, ◌*◌, ◌<◌, ◌≤◌}
+use native.Mathlib.Nat.{mul-le-mul_left}
 use native.Mathlib.Omega.{arith}
 use borrow.Author.Tests.{ltb-true, leb-true, eqb-true}
 use lib.Dec.{eqb, leb, ltb}
@@ -25,9 +26,10 @@ use Rattle.plan.specs.declared.Layout.{Layout}
 use Rattle.plan.specs.declared.Refusal.TheVariants as refusal
 use Rattle.plan.specs.Refusals.{first_of}
 use Rattle.plan.specs.Plans.{multiplying, party_count, dealer_count}
-use Rattle.plan.specs.File.{modulus_limit, version_at, n_at, t_at, p_at, gate_count_at, out_count_at, layout_of, field_at, out_place, point_place, between, parties_ok, threshold_ok, modulus_ok, gate_at, out_at, majority_ok, point_at, gate_kept, out_kept, majority_kept, point_kept, points_placed, layout_ok, majority_check, points_check, plan_checks, plan_check, plan_of}
+use Rattle.plan.specs.File.{modulus_limit, version_at, n_at, t_at, p_at, gate_count_at, out_count_at, layout_of, field_at, gate_start, gate_place, out_place, point_place, between, parties_ok, threshold_ok, modulus_ok, gate_at, out_at, majority_ok, point_at, gate_kept, out_kept, majority_kept, point_kept, points_placed, layout_ok, majority_check, points_check, plan_checks, plan_check, plan_of}
 use Rattle.plan.specs.Planned.{HeaderOf, Planned, Gated}
 use Rattle.plan.proofs.Refusals.{passed_both, passed-need, passed_found}
+use Rattle.plan.proofs.Layouts.{layout_rows}
 
 -- ---- the checks of a plan that passes
 pub record Passing (bs : List ℕ) : Type 0 where
@@ -104,12 +106,27 @@ laid bs h =
     let f = both_true (cond (eqb (layout_of bs).point 0) true (eqb (field_at bs 5) (point_place bs 0))) (eqb (length bs) (point_place bs (n_at bs))) e.1 in
     record { gates = c.0; outs = e.0; long = eqb-true (length bs) (point_place bs (n_at bs)) f.1 }
 
+-- a field of the file has at most four bytes
+narrow_field : (bs : List ℕ) (l : Layout) → l ≡ layout_of bs → l.field ≤ 4
+narrow_field bs l e = rw e (layout_rows (λ k. k.field ≤ 4) (omega arith) (omega arith) (omega arith) (version_at bs))
+
 -- all gates stand in the file
-pub laid_gates : (bs : List ℕ) (count : ℕ) (l : Layout) → layout_ok bs ≡ true → count ≡ field_at bs 2 → l ≡ layout_of bs → l.head ≤ 32 → l.field ≤ 4 → Gated bs l count
-unfolding point_place out_place
-laid_gates bs count l h e el hi lo =
+pub laid_gate : (bs : List ℕ) (g : ℕ) → layout_ok bs ≡ true → g < gate_count_at bs → gate_place bs (g + 1) ≤ length bs
+unfolding point_place out_place gate_place gate_start
+laid_gate bs g h l =
+    let m : (2 + 2 * (layout_of bs).field) * (g + 1) ≤ (2 + 2 * (layout_of bs).field) * gate_count_at bs = mul-le-mul_left (2 + 2 * (layout_of bs).field) (omega arith) in
+    omega (arith, m, (laid bs h).long)
+
+pub laid_within : (bs : List ℕ) (gates g : ℕ) (l : Layout) → layout_ok bs ≡ true → gates ≡ field_at bs 2 → g < gates → l ≡ layout_of bs → l.head ≤ 32 → Gated bs l (g + 1)
+laid_within bs gates g l h e lt el hi =
     let most : gate_count_at bs ≤ 1024 = (between-true 1 1024 (gate_count_at bs) (laid bs h).gates).1 in
-    record { is = el; high = hi; narrow = lo; few = omega arith; long = rw e (omega (arith, (laid bs h).long)) }
+    record { is = el; high = hi; narrow = narrow_field bs l el; few = omega arith; long = laid_gate bs g h (omega arith) }
+
+pub laid_gates : (bs : List ℕ) (count : ℕ) (l : Layout) → layout_ok bs ≡ true → count ≡ field_at bs 2 → l ≡ layout_of bs → l.head ≤ 32 → Gated bs l count
+unfolding point_place out_place
+laid_gates bs count l h e el hi =
+    let most : gate_count_at bs ≤ 1024 = (between-true 1 1024 (gate_count_at bs) (laid bs h).gates).1 in
+    record { is = el; high = hi; narrow = narrow_field bs l el; few = omega arith; long = rw e (omega (arith, (laid bs h).long)) }
 
 pub planned : (bs : List ℕ) (x : Header) → plan_check bs ≡ (Ok tt) → HeaderOf bs x → Planned bs x
 planned bs x h k =
@@ -175,8 +192,11 @@ module _ {bs : List ℕ} {h : Header} (k : Planned bs h) where
   pub plan_outs : length (plan_of bs).outs ≡ h.outs
   plan_outs = length_outs bs ∙ sym k.is.outs
 
-  pub gates_there : (l : Layout) → l ≡ layout_of bs → l.head ≤ 32 → l.field ≤ 4 → Gated bs l h.gates
-  gates_there l e hi lo = laid_gates bs h.gates l (passing bs k.passes).layout k.is.gates e hi lo
+  pub gate_within : (l : Layout) (g : ℕ) → g < h.gates → l ≡ layout_of bs → l.head ≤ 32 → Gated bs l (g + 1)
+  gate_within l g lt e hi = laid_within bs h.gates g l (passing bs k.passes).layout k.is.gates lt e hi
+
+  pub gates_there : (l : Layout) → l ≡ layout_of bs → l.head ≤ 32 → Gated bs l h.gates
+  gates_there l e hi = laid_gates bs h.gates l (passing bs k.passes).layout k.is.gates e hi
 
   pub plan_gate : (g : ℕ) → g < h.gates → get_or (plan_of bs).gates g (Input 0) ≡ gate_at bs g
   unfolding plan_of

@@ -7,7 +7,7 @@ use mathlib.Core.Path.{◌≡◌, refl, sym, ap, ◌∙◌}
 use mathlib.Core.Bool.{Bool, true, false, cond, ◌&&◌}
 use mathlib.Core.List.{List, [], ◌∷◌, ◌++◌, flat_map, append-nil}
 use native.Mathlib.Decide.{dec_le}
-use native.Mathlib.Nat.{mul-le-mul, min-le_left, min-le_right, min-eq_right}
+use native.Mathlib.Nat.{mul-le-mul, min-le_left, min-le_right, min-eq_left, min-eq_right}
 use borrow.Rule.Slice.PartMut.{put_mid}
 use Rattle.std.proofs.lemmas.Slice.{put_mid-paste}
 use native.Mathlib.Omega.{arith}
@@ -19,6 +19,7 @@ use mir.Syntax.{w64}
 use mir.Val.{Fits}
 use lib.ListN.{length, get_or, take, drop, take-append-drop, drop_of_length-le}
 use lib.Seq.{sets, sets-eq, length-sets, take-suc, take_all, length-take-le}
+use Rattle.std.specs.Int.{to_le_bytes}
 use Rattle.numbers.specs.Tables.{tab}
 use Rattle.numbers.specs.Bytes.{bytes_from}
 use Rattle.numbers.proofs.Bytes.{span, length-bytes_from, low_bytes}
@@ -55,6 +56,13 @@ put_cut s vs ys at room l e f =
     pick few long (no k) =
         let full : room ≡ length s - at = e ∙ min-eq_right (omega arith) in
         sets_out (sets s at (take room vs)) (at + length (take room vs)) (drop room vs) (omega (arith, length-sets s at (take room vs)))
+
+pub put_whole : (s vs : List ℕ) (at : ℕ) → at < length s → length vs ≤ length s - at → put_mid at (at + length vs - at) s vs ≡ written s at vs
+put_whole s vs at l f = put_cut s vs vs at (length vs) l (sym (min-eq_left f)) (sym (take_all (length vs) vs (omega arith)))
+
+-- a number's low bytes, as many as a layout's width
+pub written_low : (w width v at : ℕ) (s new bs : List ℕ) → w ≤ 4 → width ≡ w → bs ≡ to_le_bytes w64 v → new ≡ written s at (take w bs) → new ≡ written s at (bytes_from width v)
+written_low w width v at s new bs l e is h = rw e (h ∙ ap (λ (ys : List ℕ). written s at (take w ys)) is ∙ ap (written s at) (low_bytes w v l))
 
 pub put-past : (s : List ℕ) (at : ℕ) (vs : List ℕ) → length s ≤ at → s ≡ written s at vs
 unfolding written
@@ -169,16 +177,16 @@ module _ (v : ℕ) (l : Layout) (el : l ≡ layout_for v) where
 
   -- a gate's fields
   module _ (g long : ℕ) where
-    pub gate-room : g ≤ long / (2 + 2 * l.field) → (2 + 2 * l.field) * g ≤ long
-    gate-room = rw el (layout_rows (λ (w : Layout). g ≤ long / (2 + 2 * w.field) → (2 + 2 * w.field) * g ≤ long) (λ h. omega arith) (λ h. omega arith) (λ h. omega arith) v)
+    pub gate-room : g ≤ long / 6 → long < 9223372036854775808 → l.head + (2 + 2 * l.field) * g ≤ 15372286728091293056
+    gate-room = rw el (layout_rows (λ (w : Layout). g ≤ long / 6 → long < 9223372036854775808 → w.head + (2 + 2 * w.field) * g ≤ 15372286728091293056) (λ h m. omega arith) (λ h m. omega arith) (λ h m. omega arith) v)
 
-    pub gate-room-fits : g ≤ long / (2 + 2 * l.field) → long < 18446744073709551616 → Fits w64 ((2 + 2 * l.field) * g)
-    gate-room-fits h m = record { fits = omega (arith, gate-room h) }
+    pub gate-room-fits : g ≤ long / 6 → long < 9223372036854775808 → Fits w64 ((2 + 2 * l.field) * g)
+    gate-room-fits h m = record { fits = omega (arith, gate-room h m) }
 
-    past-room : long / (2 + 2 * l.field) < g → long ≤ l.head + (2 + 2 * l.field) * g
-    past-room = rw el (layout_rows (λ (w : Layout). long / (2 + 2 * w.field) < g → long ≤ w.head + (2 + 2 * w.field) * g) (λ h. omega arith) (λ h. omega arith) (λ h. omega arith) v)
+    past-room : long / 6 < g → long ≤ l.head + (2 + 2 * l.field) * g
+    past-room = rw el (layout_rows (λ (w : Layout). long / 6 < g → long ≤ w.head + (2 + 2 * w.field) * g) (λ h. omega arith) (λ h. omega arith) (λ h. omega arith) v)
 
-  pub gate-past : (s : List ℕ) (g k a b : ℕ) → length s / (2 + 2 * l.field) < g → s ≡ written s (place_in v g) (k ∷ 0 ∷ bytes_each (layout_for v).field (a ∷ b ∷ []))
+  pub gate-past : (s : List ℕ) (g k a b : ℕ) → length s / 6 < g → s ≡ written s (place_in v g) (k ∷ 0 ∷ bytes_each (layout_for v).field (a ∷ b ∷ []))
   gate-past s g k a b h = rw (← place_is g) (put-past s (l.head + (2 + 2 * l.field) * g) (k ∷ 0 ∷ bytes_each (layout_for v).field (a ∷ b ∷ [])) (past-room g (length s) h))
 
   pub fields_put : (s s1 s2 s3 : List ℕ) (g k a b : ℕ) → s1 ≡ written s (l.head + (2 + 2 * l.field) * g) (k ∷ 0 ∷ []) → s2 ≡ written s1 (l.head + (2 + 2 * l.field) * g + 2) (bytes_from l.field a)
@@ -295,7 +303,7 @@ out_put s s1 s2 v gates o at x ea e f =
     (written_then s s1 s2 (x.party ∷ []) (bytes_from 2 x.wire) at (at + 1) e f (omega arith)
     ∙ ap (λ (ys : List ℕ). written s at (x.party ∷ ys)) (sym (append-nil (bytes_from 2 x.wire))))
 
-pub ruleset writing = (rules, put-past, put_cut, low_bytes, points_narrow, start_put, fields-fit, field-fits, field-put, offset-none, offset-some, pair_put, counts_put, contents_put, gate-room, gate-room-fits, gate-past, fields_put, out_put, points-fit, point-fits, point_put)
+pub ruleset writing = (rules, put-past, put_cut, put_whole, low_bytes, points_narrow, start_put, fields-fit, field-fits, field-put, offset-none, offset-some, pair_put, counts_put, contents_put, gate-room, gate-room-fits, gate-past, fields_put, out_put, points-fit, point-fits, point_put)
 
 -- ---- points
 -- so many are written

@@ -83,24 +83,46 @@ pub fn file_size(version: usize, n: usize, gates: usize, outs: usize) -> usize
 
 // ---- bytes
 
+// Where there is room for all, their number is a constant in each caller, and no function is called to copy them.
+#[inline(always)]
 #[tactic(auto, using(crate::proofs::Writing::writing))]
 fn put(out: &mut [u8], at: usize, bytes: &[u8])
     ensures { out.new ≡ written out.old at bytes.now }
 {
     if at < out.len() {
-        let room = bytes.len().min(out.len() - at);
-        out[at..at + room].copy_from_slice(&bytes[..room]);
+        if bytes.len() <= out.len() - at {
+            out[at..at + bytes.len()].copy_from_slice(bytes);
+        } else {
+            put_front(out, at, bytes);
+        }
     }
 }
 
+// The same where the list ends in them.
+#[inline(always)]
+#[tactic(auto, using(crate::proofs::Writing::writing))]
+fn put_front(out: &mut [u8], at: usize, bytes: &[u8])
+    requires { at < length out.old }
+    ensures { out.new ≡ written out.old at bytes.now }
+{
+    let room = bytes.len().min(out.len() - at);
+    out[at..at + room].copy_from_slice(&bytes[..room]);
+}
+
 // The low bytes of a number.
+// As it is: the widths that a layout has are told apart, so that each is a constant.
+#[inline(always)]
 #[tactic(auto, using(crate::proofs::Writing::writing))]
 fn put_number(out: &mut [u8], at: usize, width: usize, v: usize)
     requires { width ≤ 4 }
     ensures { out.new ≡ written out.old at (bytes_from width v) }
 {
     let bytes = v.to_le_bytes();
-    put(out, at, &bytes[..width]);
+    match width {
+        2 => put(out, at, &bytes[..2]),
+        4 => put(out, at, &bytes[..4]),
+        _ => put(out, at, &bytes[..width]),
+    }
 }
 
 // ---- the contents
@@ -188,7 +210,8 @@ fn put_fields(out: &mut [u8], version: usize, g: usize, kind: u8, a: usize, b: u
 {
     let l = plan::layout_for(version);
     let size = 2 + 2 * l.field;
-    if out.len() / size < g {
+    // a gate has six bytes or more
+    if out.len() / 6 < g {
         return;
     }
     let at = l.head + size * g;

@@ -1,5 +1,6 @@
--- The contents of a record against the plan, party by party.
+-- The contents of a record against the plan, party by party, and bytes that are copied.
 --     contents, tiling     what closes the needs of the functions that check a record
+--     Copied, copying      a loop that copies bytes
 -- Assumes nothing.
 use Rattle.std.proofs.Common.{Option, Some, None, Ok, Err}
 use Prim.Native.Nat.{ℕ, suc, ◌+◌, ◌-◌, ◌*◌, ◌<◌, ◌≤◌}
@@ -11,7 +12,8 @@ use native.Mathlib.Omega.{arith}
 use borrow.Author.Rules.{rules}
 use borrow.Author.Tests.{not-true, not-false, eq-eqb, ne_eqb}
 use lib.Dec.{eqb}
-use lib.ListN.{length, get_or}
+use lib.ListN.{length, get_or, take, drop, set, length-set, length-drop}
+use lib.Seq.{take-suc, take-suc-set, take_all, get_or-drop}
 use Rattle.numbers.specs.Tables.{first_failing}
 use Rattle.numbers.specs.Bytes.{width, number_at, numbers}
 use Rattle.numbers.proofs.Bytes.{get_or-numbers}
@@ -146,3 +148,36 @@ module _ (bs : List ℕ) (h : Header) (pl : Planned bs h) (s : List ℕ) where
 
 -- As it is: answers name this set, since the check leaves their goals open by `using` alone.
 pub ruleset tiling = (rules, not-true, not-false, tile_short, tile-none, tile-room, tile-not, tile-next, tile-over, tile-passes)
+
+-- ---- a copy
+-- i bytes from `at` on stand in d, which was d₀
+pub record Copied (s : List ℕ) (at : ℕ) (d₀ d : List ℕ) (i : ℕ) : Type 0 where
+  pub within : i ≤ length d₀
+  pub room : at + length d₀ ≤ length s
+  pub long : length d ≡ length d₀
+  pub front : take i d ≡ take i (drop at s)
+
+pub copy-none : (s : List ℕ) (at : ℕ) (d : List ℕ) → at + length d ≤ length s → Copied s at d d 0
+copy-none s at d l = record { within = omega arith; room = l; long = refl; front = refl }
+
+module _ (s : List ℕ) (at : ℕ) (d₀ d : List ℕ) (i : ℕ) (t : Copied s at d₀ d i) where
+  pub copy_room : i < length d → at + i < length s
+  copy_room l = omega (arith, t.room, t.long)
+
+  pub copy_next : (v : ℕ) → i < length d → v ≡ get_or s (at + i) 0 → Copied s at d₀ (set d i v) (i + 1)
+  copy_next v l e =
+      let m : i < length (drop at s) = omega (arith, length-drop at s, t.room, t.long) in
+      record {
+        within = omega (arith, t.long);
+        room = t.room;
+        long = length-set d i v ∙ t.long;
+        front = rw (add-one, take-suc-set d i v l, take-suc (drop at s) i 0 m, get_or-drop at s i 0, t.front, e);
+      }
+
+  pub copy_long : length d ≡ length d₀
+  copy_long = t.long
+
+  pub copied : length d ≤ i → d ≡ take (length d₀) (drop at s)
+  copied l = let q : i ≡ length d₀ = omega (arith, t.within, t.long) in sym (take_all i d l) ∙ t.front ∙ ap (λ (k : ℕ). take k (drop at s)) q
+
+pub ruleset copying = (rules, copy-none, copy_room, copy_next, copy_long, copied)

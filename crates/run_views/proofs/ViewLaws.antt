@@ -18,12 +18,12 @@ use mathlib.Core.Bool.{Bool, true, false, cond}
 use mathlib.Core.List.{List, [], ◌∷◌, ◌++◌, map, flat_map}
 use Prim.Native.Nat.{ℕ, zero, suc, ◌+◌, ◌-◌, ◌*◌, ◌/◌, ◌^◌, ◌<◌, ◌≤◌}
 use native.Mathlib.Numerals.{add-one}
-use native.Mathlib.Nat.{mod-lt, mul-le-mul, mul-le-mul_left, mul-suc, add-sub_cancel_left}
+use native.Mathlib.Nat.{mod-lt, mul-le-mul, mul-le-mul_left, mul-le-mul_right, mul-suc, add-sub_cancel_left}
 use native.Mathlib.Omega.{arith}
 use borrow.Author.Rules.{rules}
 use borrow.Author.Tests.{not-true, not-false, ltb-true, lt-ltb, leb-true, leb-false, le-leb, lt-leb, eq-eqb, ne_eqb, eqb-true, eqb-false}
 use lib.Dec.{eqb, ltb}
-use lib.ListN.{length-replicate, length, get_or, take, drop, replicate, drop_of_length-le, length-drop}
+use lib.ListN.{length-replicate, length, get_or, take, drop, replicate, drop_of_length-le, length-drop, get_or-eq_default}
 use lib.Seq.{drop-cons, drop-drop, get_or-take, get_or-drop, take-take, length-take-le}
 use mir.Syntax.{w64}
 use mir.Val.{Fits}
@@ -195,6 +195,16 @@ module _ (h : Header) (table : List ℕ) (r : Running h table) (w : ℕ) (l : w 
 pub share_is : (n i w : ℕ) (table : List ℕ) (x : ℕ) → x ≡ get_or table (n * w + (i - 1)) 0 → x ≡ share_in n table i w
 unfolding share_in
 share_is n i w table x e = e
+
+-- past the table every share is 0
+module _ (table : List ℕ) (n i w : ℕ) where
+  pub share-none : 1 ≤ n → length table ≤ w → 0 ≡ share_in n table i w
+  unfolding share_in
+  share-none some l = sym (get_or-eq_default table 0 {n = n * w + (i - 1)} (omega (arith, mul-le-mul_right {m = 1} {n = n} w some)))
+
+  pub share-past : length table ≤ n * w + (i - 1) → 0 ≡ share_in n table i w
+  unfolding share_in
+  share-past l = sym (get_or-eq_default table 0 l)
 
 pub share_below : (h : Header) (table : List ℕ) (k : ℕ) → Running h table → get_or table k 0 < h.field.p
 share_below h table k r = entry_below h.field.p table k r.ready r.flat.below
@@ -379,7 +389,7 @@ module _ (f : ℕ → ℕ) (m at : ℕ) (old : List ℕ) where
     tab_put v new' next' l e w =
         left_then _ at old new next _ s (v ∷ []) _ new' next' (rw (add-one, drop-cons (tab f m) j 0 (rw length-tab l), get_or-tab f m j 0 l, e)) w
 
-    tab_done : m ≤ j → Wrote (tab f m) at old new next
+    pub tab_done : m ≤ j → Wrote (tab f m) at old new next
     tab_done l = left_end _ at old new next _ s (drop_of_length-le (tab f m) {i = j} (rw length-tab l))
 
 -- ---- a part of a list

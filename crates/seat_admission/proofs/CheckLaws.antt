@@ -179,11 +179,11 @@ pub ruleset each = (rules, trying, out_stops, used_fits, used_within, points-wit
 module _ (bs : List ℕ) (h : Header) (pl : Planned bs h) (i : ℕ) where
   -- refusals 9 to 13 and 29
   module _ (inputs coins triples : List ℕ) where
-    own-under : i < 1 → Err refusal.Coalition ≡ first_of (own_checks (plan_of bs) i inputs coins triples)
+    pub own-under : i < 1 → Err refusal.Coalition ≡ first_of (own_checks (plan_of bs) i inputs coins triples)
     unfolding own_checks first_of and_then need between
     own-under l = rw (lt-leb 1 i l)
 
-    own-over : 1 ≤ i → h.n < i → Err refusal.Coalition ≡ first_of (own_checks (plan_of bs) i inputs coins triples)
+    pub own-over : 1 ≤ i → h.n < i → Err refusal.Coalition ≡ first_of (own_checks (plan_of bs) i inputs coins triples)
     unfolding own_checks first_of and_then need between
     own-over l m = rw (le-leb 1 i l, plan_n pl, lt-leb i h.n m)
 

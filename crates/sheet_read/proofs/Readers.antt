@@ -320,11 +320,17 @@ level_found level.Product o b p is = by (eqb b 42) refl is
         rw e (record { op = Tree.Times; says = times_says p; joins = rw u; some = omega (arith, eqb-true b 42 u) })
     by false u v = absurd (let z : ◌≡◌ {A = ℕ} 0 1 = cc in omega arith)
 
--- ---- the loop of a level
-abbrev pub rank : Level → ℕ
-rank level.Sum = 2
-rank level.Product = 0
+-- where an operator stands, the text goes on
+operator_at : (l : Level) (s : List ℕ) (e : ℕ) (o : Operator) → Some o ≡ level_operator l (get_or s e 0) → e < length s
+operator_at l s e o is = let y = level_found l o (get_or s e 0) 0 is in inside_of s e (get_or s e 0) refl y.some
 
+pub times_in : (s : List ℕ) (e : ℕ) (r : Option Operator) (o : Operator) → r ≡ times_operator (get_or s e 0) → r ≡ Some o → e < length s
+times_in s e r o is z = operator_at level.Product s e o (sym z ∙ is)
+
+pub term_in : (s : List ℕ) (e : ℕ) (r : Option Operator) (o : Operator) → r ≡ term_operator (get_or s e 0) → r ≡ Some o → e < length s
+term_in s e r o is z = operator_at level.Sum s e o (sym z ∙ is)
+
+-- ---- the loop of a level
 pub record Chaining (l : Level) (s : List ℕ) (at depth n p g : ℕ) (names₀ out₀ : List ℕ) (k : Part) (names out : List ℕ) : Type 0 where
   pub going : Going (level_link l) (part_at l (16 - depth) n p s) (chain_at l (16 - depth) n p s at) s at p g names₀ out₀ k names out
 
@@ -346,8 +352,8 @@ module _ (l : Level) (s : List ℕ) (at depth n p g : ℕ) (names₀ out₀ : Li
     chain_done z = go_done (level_link l) (part_at l (16 - depth) n p s) (chain_at l (16 - depth) n p s at) s at p g names₀ out₀ k names out h.going (level_end l (get_or s k.at 0) (sym z ∙ is))
 
     module _ (o' : Operator) (z : o ≡ Some o') where
-      pub operator_in : k.at < length s
-      operator_in = let y = level_found l o' (get_or s k.at 0) p (sym z ∙ is) in inside_of s k.at (get_or s k.at 0) refl y.some
+      operator_in : k.at < length s
+      operator_in = operator_at l s k.at o' (sym z ∙ is)
 
       module _ (f : ℕ) (u : Within s (k.at + 1) (blanks_end s (k.at + 1)) f) where
         pub part_place : depth ≤ 16 → Place s f depth
@@ -398,4 +404,4 @@ module _ (s : List ℕ) (n p g f : ℕ) (names out : List ℕ) (r : Option Part)
         rw (t.1, eq-eqb k.at (length s) z) (as_sheet (Parsed.Read t.0 k.at) (Some k) (sym j ∙ (rw t.1 at from_start.eq)) (rw t.1 at from_start.left))
 
 -- As it is: answers name this set, since the check leaves their goals open by `using` alone.
-pub ruleset reading = (rules, fits_next, in_40, in_41, wrong_ahead, close_other, close_is, close_past, at_leaf, at_plain, at_deep, sum_place, sum_inside, at_bracket, at_broken, chain_begin, chain_broken, chain_done, operator_in, part_place, chain_lost, chain_again, chain_less, start_place, sheet_broken, sheet_longer, sheet_whole)
+pub ruleset reading = (rules, fits_next, in_40, in_41, wrong_ahead, close_other, close_is, close_past, at_leaf, at_plain, at_deep, sum_place, sum_inside, at_bracket, at_broken, chain_begin, chain_broken, chain_done, times_in, term_in, part_place, chain_lost, chain_again, chain_less, start_place, sheet_broken, sheet_longer, sheet_whole)

@@ -6,9 +6,9 @@ ghost use Rattle.std.specs.Prelude.{◌≡◌, Some, None, suc, ◌+◌, ◌*◌
 ghost use Rattle.std.specs.Prelude.{◌||◌, nat_eq};
 ghost use Rattle.std.specs.List.{position};
 ghost use Rattle.text_decimals.specs.Reading.{blanks_end, decimal_at, Within};
-ghost use Rattle.sheet_text.specs.Sheets.{is_letter, atom_at, sheet_at};
+ghost use Rattle.sheet_text.specs.Sheets.{is_letter, atom_at, product_at, sum_at, sheet_at};
 ghost use Rattle.sheet_read.specs.Working.{free_or, capped_next, join_wire, join_out};
-ghost use Rattle.sheet_read.specs.Reading.{Ahead, Reads, Sheet, Place, Inside, Letter, Leaf, leaf_at, number_part, number_file, name_part, name_table, closed_part, level_operator, part_at, chain_at, joined_side};
+ghost use Rattle.sheet_read.specs.Reading.{Ahead, Reads, Sheet, Place, Inside, Letter, Leaf, leaf_at, number_part, number_file, name_part, name_table, closed_part, level_operator, joined_side};
 
 use plan::Gate;
 
@@ -78,6 +78,7 @@ fn hold(names: &mut [usize], x: usize) -> usize
 // ---- gates
 
 // One gate more; a count stops at 1,025.
+#[inline(always)]
 #[tactic(auto, using(crate::proofs::Gates::joining))]
 fn next(g: usize) -> usize
     ensures { result ≡ capped_next g }
@@ -86,6 +87,7 @@ fn next(g: usize) -> usize
 }
 
 // The gates that join a left side, whose value wire l holds, to a right side: the wire of their value.
+#[inline(always)]
 #[tactic(auto, using(crate::proofs::Gates::joining))]
 fn operate(operator: Operator, p: u32, l: usize, r: Part, out: &mut [u8]) -> usize
     ensures wire { result ≡ join_wire operator r.gates }
@@ -113,6 +115,7 @@ fn operate(operator: Operator, p: u32, l: usize, r: Part, out: &mut [u8]) -> usi
 }
 
 // A right side joined to the left one, whose value wire l holds.
+#[inline(always)]
 #[tactic(auto, using(crate::proofs::Gates::joining))]
 fn join(operator: Operator, p: u32, l: usize, r: Part, out: &mut [u8]) -> Part
     ensures part { result ≡ joined_side operator r }
@@ -141,6 +144,7 @@ fn is_letter(b: u64) -> bool
 
 impl Level {
     // The operator between two parts, at a place.
+    #[inline(always)]
     #[tactic(auto, using(crate::proofs::Gates::joining))]
     fn operator(self, s: &[u8], at: usize) -> Option<Operator>
         ensures { result ≡ level_operator self (get_or s.now at 0) }
@@ -155,6 +159,7 @@ impl Level {
 }
 
 // The place past a byte and the blanks after it.
+#[inline(always)]
 fn after(s: &[u8], at: usize) -> usize
     requires { at < length s.now }
     ensures { Within s.now (at + 1) (blanks_end s.now (at + 1)) result }
@@ -163,6 +168,7 @@ fn after(s: &[u8], at: usize) -> usize
 }
 
 // The closing bracket after what stands in brackets.
+#[inline(always)]
 #[tactic(auto, using(crate::proofs::Readers::reading))]
 fn close(s: &[u8], at: usize, r: Part) -> Option<Part>
     requires { Inside s.now at r }
@@ -220,6 +226,7 @@ impl Formula<'_> {
     }
 
     // A name or a number, where no bracket stands.
+    #[inline(always)]
     #[tactic(auto, using(crate::proofs::Leaves::leaving))]
     fn leaf(&self, at: usize, b: u64, g: usize, names: &mut [usize], out: &mut [u8]) -> Option<Part>
         requires { Leaf self.now.text.now at b }
@@ -232,8 +239,9 @@ impl Formula<'_> {
     }
 
     // A name, a number, or a sum in brackets, nested to a depth of 16.
+    #[inline(always)]
     #[tactic(auto, using(crate::proofs::Readers::reading))]
-    #[cycle(bracket_part_chain)]
+    #[cycle(bracket_product_sum)]
     fn bracket(
         &self,
         at: usize,
@@ -253,17 +261,19 @@ impl Formula<'_> {
             return None;
         }
         let from = after(self.text, at);
-        let inner = self.chain(Level::Sum, from, depth + 1, g, names, out)?;
+        let inner = self.sum(from, depth + 1, g, names, out)?;
         close(self.text, at, inner)
     }
 
-    // A part of a sum or of a product.
-    // As it is: a match on the level, and no closure that reads a part: the measure of the three readers, which call each other, goes by depth and level.
+    // A product: a bracket, and as long as a * follows, one more.
+    // As it is: a loop for each level, and no reader that takes the level: bracket and product are then compiled into sum, and a bracket in the text is one
+    // call. A reader of both levels, compiled as two calls, takes half as long again on deep brackets.
+    // As it is: a `while let`, and no `for`, since no index is counted: the loop ends where no operator follows.
+    #[inline(always)]
     #[tactic(auto, using(crate::proofs::Readers::reading))]
-    #[cycle(bracket_part_chain)]
-    fn part(
+    #[cycle(bracket_product_sum)]
+    fn product(
         &self,
-        level: Level,
         at: usize,
         depth: usize,
         g: usize,
@@ -271,21 +281,22 @@ impl Formula<'_> {
         out: &mut [u8],
     ) -> Option<Part>
         requires { Place self.now.text.now at depth }
-        ensures { Reads self.now.text.now at (part_at level (16 - depth) self.now.n self.now.p self.now.text.now at) self.now.p g names.old out.old result names.new out.new }
+        ensures { Reads self.now.text.now at (product_at (16 - depth) self.now.n self.now.p self.now.text.now at) self.now.p g names.old out.old result names.new out.new }
     {
-        match level {
-            Level::Sum => self.chain(Level::Product, at, depth, g, names, out),
-            Level::Product => self.bracket(at, depth, g, names, out),
+        let mut left = self.bracket(at, depth, g, names, out)?;
+        while let Some(operator) = Level::Product.operator(self.text, left.at) {
+            let from = after(self.text, left.at);
+            let right = self.bracket(from, depth, left.gates, names, out)?;
+            left = join(operator, self.p, left.wire, right, out);
         }
+        Some(left)
     }
 
-    // A sum or a product: a part, and as long as an operator follows, one more.
-    // As it is: a `while let`, and no `for`, since no index is counted: the loop ends where no operator follows.
+    // A sum: a product, and as long as a + or a - follows, one more.
     #[tactic(auto, using(crate::proofs::Readers::reading))]
-    #[cycle(bracket_part_chain)]
-    fn chain(
+    #[cycle(bracket_product_sum)]
+    fn sum(
         &self,
-        level: Level,
         at: usize,
         depth: usize,
         g: usize,
@@ -293,12 +304,12 @@ impl Formula<'_> {
         out: &mut [u8],
     ) -> Option<Part>
         requires { Place self.now.text.now at depth }
-        ensures { Reads self.now.text.now at (chain_at level (16 - depth) self.now.n self.now.p self.now.text.now at) self.now.p g names.old out.old result names.new out.new }
+        ensures { Reads self.now.text.now at (sum_at (16 - depth) self.now.n self.now.p self.now.text.now at) self.now.p g names.old out.old result names.new out.new }
     {
-        let mut left = self.part(level, at, depth, g, names, out)?;
-        while let Some(operator) = level.operator(self.text, left.at) {
+        let mut left = self.product(at, depth, g, names, out)?;
+        while let Some(operator) = Level::Sum.operator(self.text, left.at) {
             let from = after(self.text, left.at);
-            let right = self.part(level, from, depth, left.gates, names, out)?;
+            let right = self.product(from, depth, left.gates, names, out)?;
             left = join(operator, self.p, left.wire, right, out);
         }
         Some(left)
@@ -319,7 +330,7 @@ pub fn read_sheet(
 {
     let formula = Formula { text: s, n, p };
     let from = text_decimals::blanks(s, 0);
-    let part = formula.chain(Level::Sum, from, 0, g, names, out)?;
+    let part = formula.sum(from, 0, g, names, out)?;
     if part.at != s.len() {
         return None;
     }

@@ -55,9 +55,17 @@ unfolding digits_at
 count_begin limit s at = record { small = omega arith; rest = refl }
 
 -- a byte that is a digit or not
-digit_range : (b : ℕ) → is_digit b ≡ true → (48 ≤ b) × (b ≤ 57)
+pub digit_range : (b : ℕ) → is_digit b ≡ true → (48 ≤ b) × (b ≤ 57)
 unfolding is_digit
 digit_range b e = let h = both_true (leb 48 b) (leb b 57) e in (leb-true 48 b h.0, leb-true b 57 h.1)
+
+pub digit_no : (b : ℕ) → b < 48 → false ≡ is_digit b
+unfolding is_digit
+digit_no b l = rw (lt-leb 48 b l)
+
+pub digit-is : (b : ℕ) (r : Bool) → 48 ≤ b → r ≡ leb b 57 → r ≡ is_digit b
+unfolding is_digit
+digit-is b r l e = rw (le-leb 48 b l) e
 
 no_digit : {A : Type 0} (b : ℕ) (x y : A) → is_digit b ≡ false → cond (ltb b 48) x (cond (ltb 57 b) x y) ≡ x
 unfolding is_digit
